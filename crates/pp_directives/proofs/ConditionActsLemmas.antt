@@ -7,9 +7,10 @@ use Rattle.std.specs.Prelude.{ℤ, pos, ◌-ℤ◌}
 use Rattle.pp_lexer.specs.declared.token.Location.{Location}
 use Rattle.pp_lexer.specs.declared.token.Token.{Token}
 use Rattle.pp_model.specs.Lines.{line_length, line_tokens}
+use Rattle.pp_model.specs.declared.block.Part.TheVariants as part
 use Rattle.pp_macros.specs.inner.Defined.{Defined}
 use Rattle.pp_macros.specs.inner.LineReading.{HasTaken, Meets, TakesItems}
-use Rattle.pp_macros.specs.inner.OpenBlocks.{last_block, outer_blocks, with_last, block_opened, block_decided}
+use Rattle.pp_macros.specs.inner.OpenBlocks.{last_block, outer_blocks, with_last, block_opened, block_decided, block_branched, BlockChange, unchanged, elif_change, block_change}
 use Rattle.pp_macros.specs.declared.blocks.OpenBlock.{OpenBlock}
 use Rattle.pp_macros.specs.inner.Source.{Source, IsAfter, Condition, LineNumber, holds, numbers}
 use Rattle.pp_macros.specs.inner.Expander.{Satisfies}
@@ -17,7 +18,7 @@ use Rattle.pp_macros.specs.declared.halt.Halt.{Halt}
 use Rattle.pp_macros.specs.declared.halt.Halt.TheVariants as halt
 use Rattle.pp_directives.specs.inner.SourceActs.{Acts, HasKept}
 use Rattle.pp_macros.specs.inner.SourceLexed.{SourceLexed}
-use Rattle.pp_model.specs.Moves.{Effect, opens_if, parts_if, renumbers, line_move}
+use Rattle.pp_model.specs.Moves.{Effect, decides, renumbers, line_move}
 use Rattle.pp_macros.specs.inner.SourceMoves.{unnoted}
 use Rattle.pp_directives.proofs.LineReadingLemmas.{drop_fewer}
 use Rattle.pp_directives.proofs.SourceActsLemmas.{source_of, acts_failed}
@@ -36,21 +37,21 @@ module _ (definitions : List Defined) (blocks : List OpenBlock)
 
   -- an `#if` opens a block
   pub if_opens : (value : Bool) (after : List OpenBlock) → Condition word tokens definitions (Ok value) → after ≡ blocks ++ block_opened word value ∷ []
-      → Acts (line_move (line_tokens old.rest) (opens_if word) old.rest)
+      → Acts (block_change (Some part.Opens) word) (line_move (line_tokens old.rest) (decides word) old.rest)
       (source_of old definitions blocks line_offset has_text has_directive dead) (Ok tt) (source_of new definitions after line_offset has_text has_directive dead)
   if_opens value after condition made = rw (is, made) (holds value condition (refl, after_line line_offset _, refl))
 
   -- an `#elif` parts the innermost block
   pub elif_parts : (block : OpenBlock) (value : Bool) (after : List OpenBlock) → Condition word tokens definitions (Ok value)
       → last_block blocks ≡ Some block → after ≡ outer_blocks blocks ++ block_decided block value ∷ []
-      → Acts (line_move (line_tokens old.rest) (parts_if word) old.rest)
+      → Acts elif_change (line_move (line_tokens old.rest) (decides word) old.rest)
       (source_of old definitions blocks line_offset has_text has_directive dead) (Ok tt) (source_of new definitions after line_offset has_text has_directive dead)
   elif_parts block value after condition last made =
-      rw (is, made ∙ sym (with_last_is (λ b. block_decided b value) blocks block last)) (holds value condition (refl, after_line line_offset _, refl))
+      rw (is, made ∙ sym (with_last_is (block_branched (Some value)) blocks block last)) (holds value condition (refl, after_line line_offset _, refl))
 
   -- a `#line` numbers the lines after it
   pub line_numbers : (n : ℕ) (offset : ℤ) → LineNumber word tokens definitions (Ok n) → offset ≡ pos n -ℤ pos word.line
-      → Acts (line_move (line_tokens old.rest) (renumbers word) old.rest)
+      → Acts unchanged (line_move (line_tokens old.rest) (renumbers word) old.rest)
       (source_of old definitions blocks line_offset has_text has_directive dead) (Ok tt) (source_of new definitions blocks offset has_text has_directive dead)
   line_numbers n offset number made = rw (is, made) (numbers n number (refl, after_line (pos n -ℤ pos word.line) blocks, refl))
 
@@ -65,7 +66,7 @@ module _ (definitions : List Defined) (blocks : List OpenBlock)
 
   -- the condition of an `#if` is at fault
   pub if_failed : (h : Halt) → Satisfies {A = Bool} (Err h) (Condition word tokens definitions)
-      → Acts (line_move (line_tokens old.rest) (opens_if word) old.rest)
+      → Acts (block_change (Some part.Opens) word) (line_move (line_tokens old.rest) (decides word) old.rest)
       (source_of old definitions blocks line_offset has_text has_directive dead) (Err h)
       (source_of new definitions blocks line_offset has_text has_directive dead)
   if_failed (halt.Fault fault) condition = rw is (condition, kept blocks line_offset (omega arith))
@@ -74,7 +75,7 @@ module _ (definitions : List Defined) (blocks : List OpenBlock)
   -- so is that of an `#elif`, after which no more blocks are open
   pub elif_failed : (block : OpenBlock) (after : List OpenBlock) → length after ≤ length blocks → (h : Halt)
       → Satisfies {A = Bool} (Err h) (Condition word tokens definitions)
-      → Acts (line_move (line_tokens old.rest) (parts_if word) old.rest)
+      → Acts elif_change (line_move (line_tokens old.rest) (decides word) old.rest)
       (source_of old definitions blocks line_offset has_text has_directive dead) (Err h)
       (source_of new definitions after line_offset has_text has_directive dead)
   elif_failed block after few (halt.Fault fault) condition = rw is (condition, kept after line_offset few)
@@ -82,7 +83,7 @@ module _ (definitions : List Defined) (blocks : List OpenBlock)
 
   -- so is the number of a `#line`, after which the lines may be numbered from anywhere
   pub number_failed : (offset : ℤ) (h : Halt) → Satisfies {A = ℕ} (Err h) (LineNumber word tokens definitions)
-      → Acts (line_move (line_tokens old.rest) (renumbers word) old.rest)
+      → Acts unchanged (line_move (line_tokens old.rest) (renumbers word) old.rest)
       (source_of old definitions blocks line_offset has_text has_directive dead) (Err h)
       (source_of new definitions blocks offset has_text has_directive dead)
   number_failed offset (halt.Fault fault) number = rw is (number, kept blocks offset (omega arith))
@@ -90,22 +91,22 @@ module _ (definitions : List Defined) (blocks : List OpenBlock)
 
 -- the same of sources that are equal to these
 pub numbering_failed : (word : Location) (h : Halt) (old new s t : Source) → s ≡ old → t ≡ new
-    → Acts (line_move (line_tokens s.rest) (renumbers word) s.rest) s (Err h) t
-    → Acts (line_move (line_tokens old.rest) (renumbers word) old.rest) old (Err h) new
+    → Acts unchanged (line_move (line_tokens s.rest) (renumbers word) s.rest) s (Err h) t
+    → Acts unchanged (line_move (line_tokens old.rest) (renumbers word) old.rest) old (Err h) new
 numbering_failed word h old new s t before after acts =
-    subst (λ (n : Source). Acts (line_move (line_tokens old.rest) (renumbers word) old.rest) old (Err h) n) after
-    (subst (λ (o : Source). Acts (line_move (line_tokens o.rest) (renumbers word) o.rest) o (Err h) t) before acts)
+    subst (λ (n : Source). Acts unchanged (line_move (line_tokens old.rest) (renumbers word) old.rest) old (Err h) n) after
+    (subst (λ (o : Source). Acts unchanged (line_move (line_tokens o.rest) (renumbers word) o.rest) o (Err h) t) before acts)
 
 -- the tokens of a line are at fault, and no more blocks are open after it
-pub tokens_failed : (effect : List Token → Effect) (h : Halt) (definitions : List Defined) (blocks after : List OpenBlock)
+pub tokens_failed : (change : BlockChange) (effect : List Token → Effect) (h : Halt) (definitions : List Defined) (blocks after : List OpenBlock)
     → length after ≤ length blocks → (line_offset : ℤ) (has_text has_directive dead : Bool) (old new : SourceLexed)
     → Meets {A = List Token} (λ tokens. tokens) (Err h) (line_tokens old.rest)
     → TakesItems {A = List Token} (line_length old.rest) old (Err h) new
-    → Acts (line_move (line_tokens old.rest) effect old.rest)
+    → Acts change (line_move (line_tokens old.rest) effect old.rest)
     (source_of old definitions blocks line_offset has_text has_directive dead) (Err h)
     (source_of new definitions after line_offset has_text has_directive dead)
-tokens_failed effect h definitions blocks after few line_offset has_text has_directive dead old new m t =
-    acts_failed {A = List Token} (λ tokens. tokens) h (line_tokens old.rest) effect old.rest (line_length old.rest)
+tokens_failed change effect h definitions blocks after few line_offset has_text has_directive dead old new m t =
+    acts_failed {A = List Token} (λ tokens. tokens) h change (line_tokens old.rest) effect old.rest (line_length old.rest)
     definitions blocks after few line_offset has_text has_directive dead old new m t
 
 -- a block in the place of the innermost one, which was put in such a place itself

@@ -6,11 +6,11 @@ use Rattle.pp_lexer.specs.declared.token.Token.{Token}
 use Rattle.pp_model.specs.Definitions.{Definition}
 use Rattle.pp_model.specs.declared.definition.Named.{Named}
 use Rattle.pp_macros.specs.inner.Defined.{Defined, meaning_of}
-use Rattle.pp_macros.specs.inner.OpenBlocks.{last_block}
+use Rattle.pp_macros.specs.inner.OpenBlocks.{last_block, BlockChange}
 use Rattle.pp_macros.specs.declared.blocks.OpenBlock.{OpenBlock}
 use Rattle.pp_macros.specs.inner.Source.{Source, IsAfter, DefinesOver, HasEffect, Makes, Decides, holds, faulty, Renumbers, numbers, unnumbered}
 use Rattle.pp_macros.specs.inner.SourceLexed.{SourceLexed}
-use Rattle.pp_model.specs.Moves.{Effect, gives, gives_item, fails, ends, passes, defines, undefines, opens_where, opens_if, opens_unread, parts, skips_branch, parts_if, closes, renumbers, Move}
+use Rattle.pp_model.specs.Moves.{Effect, gives, gives_item, fails, ends, passes, defines, undefines, tests, decides, renumbers, Move}
 use Rattle.pp_model.specs.inner.Moves.{taking_more}
 use Rattle.pp_macros.specs.inner.SourceMoves.{unnoted, directive_line}
 use Rattle.pp_macros.specs.inner.Turns.{as_pause}
@@ -57,30 +57,25 @@ module _ (taken : ℕ) (old after : Source) (given : Option Token) where
   renumbers_noted word tokens (unnumbered fault number failed left) = absurd (pause_no_fault given fault failed)
 
   -- what a directive does is the same then
-  pub effect_noted : (effect : Effect) → HasEffect effect taken unnoted old (as_pause given) after
-      → HasEffect effect taken directive_line old (as_pause given) (remembering after)
-  effect_noted (gives token) h = (h.0, after_noted _ h.1, h.2)
-  effect_noted (gives_item item word) h = (h.0, after_noted _ h.1, h.2)
-  effect_noted (fails fault) h = absurd (pause_no_fault given fault h.0)
-  effect_noted ends h = absurd (pause_not_ends (last_block old.blocks) given old after h)
-  effect_noted passes h = (h.0, after_noted _ h.1, h.2)
-  effect_noted (defines named) h = defines_noted named (meaning_of old.definitions named.name) h
-  effect_noted (undefines name) h = (h.0, after_noted _ h.1, h.2)
-  effect_noted (opens_where wanted word name) h = (h.0, after_noted _ h.1, h.2)
-  effect_noted (opens_if word tokens) h = decides_noted word tokens _ h
-  effect_noted (opens_unread word) h = (h.0, after_noted _ h.1, h.2)
-  effect_noted parts h = (h.0, after_noted _ h.1, h.2)
-  effect_noted skips_branch h = (h.0, after_noted _ h.1, h.2)
-  effect_noted (parts_if word tokens) h = decides_noted word tokens _ h
-  effect_noted closes h = (h.0, after_noted _ h.1, h.2)
-  effect_noted (renumbers word tokens) h = renumbers_noted word tokens h
+  pub effect_noted : (effect : Effect) (change : BlockChange) → HasEffect effect taken unnoted change old (as_pause given) after
+      → HasEffect effect taken directive_line change old (as_pause given) (remembering after)
+  effect_noted (gives token) change h = (h.0, after_noted _ h.1, h.2)
+  effect_noted (gives_item item word) change h = (h.0, after_noted _ h.1, h.2)
+  effect_noted (fails fault) change h = absurd (pause_no_fault given fault h.0)
+  effect_noted ends change h = absurd (pause_not_ends (last_block old.blocks) given old after h)
+  effect_noted passes change h = (h.0, after_noted _ h.1, h.2)
+  effect_noted (defines named) change h = defines_noted named (meaning_of old.definitions named.name) h
+  effect_noted (undefines name) change h = (h.0, after_noted _ h.1, h.2)
+  effect_noted (tests asked name) change h = (h.0, after_noted _ h.1, h.2)
+  effect_noted (decides word tokens) change h = decides_noted word tokens _ h
+  effect_noted (renumbers word tokens) change h = renumbers_noted word tokens h
 
 -- what a directive does after its number sign, where the word was read
 pub word_read : (definitions : List Defined) (blocks : List OpenBlock) (line_offset : ℤ) (has_text has_directive dead : Bool) (old mid : SourceLexed)
-    → mid.rest ≡ drop 1 old.rest → (move : Move) (given : Option Token) (after : Source)
-    → Makes unnoted move (source_of mid definitions blocks line_offset has_text has_directive dead) (as_pause given) after
-    → Makes directive_line (taking_more 1 move) (source_of old definitions blocks line_offset has_text has_directive dead)
+    → mid.rest ≡ drop 1 old.rest → (change : BlockChange) (move : Move) (given : Option Token) (after : Source)
+    → Makes unnoted change move (source_of mid definitions blocks line_offset has_text has_directive dead) (as_pause given) after
+    → Makes directive_line change (taking_more 1 move) (source_of old definitions blocks line_offset has_text has_directive dead)
     (as_pause given) (remembering after)
-word_read definitions blocks line_offset has_text has_directive dead old mid taken move given after h =
-    effect_noted (1 + move.taken) (source_of old definitions blocks line_offset has_text has_directive dead) after given move.effect
-    (effect_after definitions blocks line_offset has_text has_directive dead old mid 1 move.taken (1 + move.taken) refl taken unnoted given after move.effect h)
+word_read definitions blocks line_offset has_text has_directive dead old mid taken change move given after h =
+    effect_noted (1 + move.taken) (source_of old definitions blocks line_offset has_text has_directive dead) after given move.effect change
+    (effect_after definitions blocks line_offset has_text has_directive dead old mid 1 move.taken (1 + move.taken) refl taken unnoted change given after move.effect h)

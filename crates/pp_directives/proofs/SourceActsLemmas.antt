@@ -14,12 +14,12 @@ use Rattle.pp_model.specs.Lines.{line_length}
 use Rattle.pp_model.specs.declared.directive.Directive.TheVariants as d
 use Rattle.pp_macros.specs.inner.Defined.{Defined, meaning_of}
 use Rattle.pp_macros.specs.inner.LineReading.{Meets, TakesItems, HasTaken}
-use Rattle.pp_macros.specs.inner.OpenBlocks.{last_block, facts_among}
+use Rattle.pp_macros.specs.inner.OpenBlocks.{last_block, facts_among, BlockChange, unchanged}
 use Rattle.pp_macros.specs.declared.blocks.OpenBlock.{OpenBlock}
 use Rattle.pp_macros.specs.inner.Source.{Source, IsAfter, IsAfterFault, Ends, DefinesOver, HasEffect, Decides, holds, faulty, Renumbers, numbers, unnumbered}
 use Rattle.pp_directives.specs.inner.SourceActs.{HasKept, RedefinesWith, FailsWith, Acts, ActsNoted, GivesNoted, define_move}
 use Rattle.pp_macros.specs.inner.SourceLexed.{SourceLexed}
-use Rattle.pp_model.specs.Moves.{Effect, gives, gives_item, fails, ends, passes, defines, undefines, opens_where, opens_if, opens_unread, parts, skips_branch, parts_if, closes, renumbers, Move, line_move, directive_move}
+use Rattle.pp_model.specs.Moves.{Effect, gives, gives_item, fails, ends, passes, defines, undefines, tests, decides, renumbers, Move, line_move, directive_move}
 use Rattle.pp_macros.specs.inner.SourceMoves.{Note, unnoted}
 use Rattle.pp_macros.specs.inner.Turns.{as_pause}
 use Rattle.pp_macros.specs.declared.halt.Halt.{Halt}
@@ -49,15 +49,15 @@ source_of l definitions blocks line_offset has_text has_directive dead =
     }
 
 -- a line at fault, or without memory for it; the blocks that are open then are no more
-pub acts_failed : {A B : Type 0} (shows : A → B) (h : Halt) (line : Result B Fault) (effect : B → Effect) (rest : List Seen) (taken : ℕ) (definitions : List Defined)
+pub acts_failed : {A B : Type 0} (shows : A → B) (h : Halt) (change : BlockChange) (line : Result B Fault) (effect : B → Effect) (rest : List Seen) (taken : ℕ) (definitions : List Defined)
     (blocks after : List OpenBlock) → length after ≤ length blocks
     → (line_offset : ℤ) (has_text has_directive dead : Bool) (old new : SourceLexed)
     → Meets shows (Err h) line → TakesItems {A = A} taken old (Err h) new
-    → Acts (line_move line effect rest) (source_of old definitions blocks line_offset has_text has_directive dead) (Err h)
+    → Acts change (line_move line effect rest) (source_of old definitions blocks line_offset has_text has_directive dead) (Err h)
     (source_of new definitions after line_offset has_text has_directive dead)
-acts_failed shows (halt.Fault fault) line effect rest taken definitions blocks after few line_offset has_text has_directive dead old new m t =
+acts_failed shows (halt.Fault fault) change line effect rest taken definitions blocks after few line_offset has_text has_directive dead old new m t =
     rw m (refl, record { left = omega (arith, t.rest, few); names = omega arith; tokens = omega arith; spent = t.spent })
-acts_failed shows halt.OutOfMemory line effect rest taken definitions blocks after few line_offset has_text has_directive dead old new m t = tt
+acts_failed shows halt.OutOfMemory change line effect rest taken definitions blocks after few line_offset has_text has_directive dead old new m t = tt
 
 pub pause_no_fault : (given : Option Token) (fault : Fault) → as_pause given ≡ Err (Error fault) → ⊥
 pause_no_fault (Some token) fault e = cc
@@ -91,7 +91,7 @@ both_after old mid n more total sum taken definitions blocks line_offset has_tex
 module _ (definitions : List Defined) (blocks : List OpenBlock)
     (line_offset : ℤ) (has_text has_directive dead : Bool) (old mid : SourceLexed) (n more total : ℕ) (sum : total ≡ n + more)
     (taken : mid.rest ≡ drop n old.rest) where
-  module _ (note : Note) where
+  module _ (note : Note) (change : BlockChange) where
     after_both : (still_open : List OpenBlock) (new : Source)
         → IsAfter more note still_open (source_of mid definitions blocks line_offset has_text has_directive dead) new
         → IsAfter total note still_open (source_of old definitions blocks line_offset has_text has_directive dead) new
@@ -123,8 +123,8 @@ module _ (definitions : List Defined) (blocks : List OpenBlock)
           )
       renumbers_after word tokens (unnumbered fault number failed left) = absurd (pause_no_fault given fault failed)
 
-      pub effect_after : (effect : Effect) → HasEffect effect more note (source_of mid definitions blocks line_offset has_text has_directive dead)
-          (as_pause given) new → HasEffect effect total note (source_of old definitions blocks line_offset has_text has_directive dead) (as_pause given) new
+      pub effect_after : (effect : Effect) → HasEffect effect more note change (source_of mid definitions blocks line_offset has_text has_directive dead)
+          (as_pause given) new → HasEffect effect total note change (source_of old definitions blocks line_offset has_text has_directive dead) (as_pause given) new
       effect_after (gives token) h = (h.0, after_both _ new h.1, h.2)
       effect_after (gives_item item word) h = (h.0, after_both _ new h.1, h.2)
       effect_after (fails fault) h = absurd (pause_no_fault given fault h.0)
@@ -132,13 +132,8 @@ module _ (definitions : List Defined) (blocks : List OpenBlock)
       effect_after passes h = (h.0, after_both _ new h.1, h.2)
       effect_after (defines named) h = defines_after named (meaning_of definitions named.name) h
       effect_after (undefines name) h = (h.0, after_both _ new h.1, h.2)
-      effect_after (opens_where wanted word name) h = (h.0, after_both _ new h.1, h.2)
-      effect_after (opens_if word tokens) h = decides_after word tokens _ h
-      effect_after (opens_unread word) h = (h.0, after_both _ new h.1, h.2)
-      effect_after parts h = (h.0, after_both _ new h.1, h.2)
-      effect_after skips_branch h = (h.0, after_both _ new h.1, h.2)
-      effect_after (parts_if word tokens) h = decides_after word tokens _ h
-      effect_after closes h = (h.0, after_both _ new h.1, h.2)
+      effect_after (tests asked name) h = (h.0, after_both _ new h.1, h.2)
+      effect_after (decides word tokens) h = decides_after word tokens _ h
       effect_after (renumbers word tokens) h = renumbers_after word tokens h
 
     kept_after : (new : Source) → HasKept (source_of mid definitions blocks line_offset has_text has_directive dead) new
@@ -147,15 +142,15 @@ module _ (definitions : List Defined) (blocks : List OpenBlock)
 
     -- so do what a directive does, and what it gives
     pub acts_after : (effect : Effect) (result : Result (Unit {0}) Halt) (new : Source)
-        → ActsNoted note (record { effect = effect; taken = more }) (source_of mid definitions blocks line_offset has_text has_directive dead) result new
-        → ActsNoted note (record { effect = effect; taken = total }) (source_of old definitions blocks line_offset has_text has_directive dead) result new
+        → ActsNoted note change (record { effect = effect; taken = more }) (source_of mid definitions blocks line_offset has_text has_directive dead) result new
+        → ActsNoted note change (record { effect = effect; taken = total }) (source_of old definitions blocks line_offset has_text has_directive dead) result new
     acts_after effect (Ok done) new h = effect_after None new effect h
     acts_after effect (Err (halt.Fault fault)) new h = (h.0, kept_after new h.1)
     acts_after effect (Err halt.OutOfMemory) new h = tt
 
     pub gives_after : (effect : Effect) (result : Result (Option Token) Halt) (new : Source)
-        → GivesNoted note (record { effect = effect; taken = more }) (source_of mid definitions blocks line_offset has_text has_directive dead) result new
-        → GivesNoted note (record { effect = effect; taken = total }) (source_of old definitions blocks line_offset has_text has_directive dead) result new
+        → GivesNoted note change (record { effect = effect; taken = more }) (source_of mid definitions blocks line_offset has_text has_directive dead) result new
+        → GivesNoted note change (record { effect = effect; taken = total }) (source_of old definitions blocks line_offset has_text has_directive dead) result new
     gives_after effect (Ok given) new h = effect_after given new effect h
     gives_after effect (Err (halt.Fault fault)) new h = (h.0, kept_after new h.1)
     gives_after effect (Err halt.OutOfMemory) new h = tt
@@ -165,19 +160,19 @@ module _ (definitions : List Defined) (blocks : List OpenBlock)
     (line_offset : ℤ) (has_text has_directive dead : Bool) (old new : SourceLexed) (word : Location) where
   pub define_failed : {A : Type 0} (shows : A → Named) (h : Halt) → Meets shows (Err h) (defined_on word old.rest)
       → TakesItems {A = A} (line_length old.rest) old (Err h) new
-      → Acts (directive_move true (facts_among blocks) d.Define word old.rest) (source_of old definitions blocks line_offset has_text has_directive dead)
+      → Acts unchanged (directive_move true (facts_among blocks) d.Define word old.rest) (source_of old definitions blocks line_offset has_text has_directive dead)
       (Err h) (source_of new definitions blocks line_offset has_text has_directive dead)
-  define_failed shows h m t = acts_failed shows h (defined_on word old.rest) defines old.rest
+  define_failed shows h m t = acts_failed shows h unchanged (defined_on word old.rest) defines old.rest
       (line_length old.rest) definitions blocks blocks (omega arith) line_offset has_text has_directive dead old new m t
 
   pub define_acts : (named : Named) (result : Result (Unit {0}) Halt) (after : Source) → defined_on word old.rest ≡ Ok named
-      → HasTaken (line_length old.rest) old new → Acts (define_move named) (source_of new definitions blocks line_offset has_text has_directive dead) result after
-      → Acts (directive_move true (facts_among blocks) d.Define word old.rest) (source_of old definitions blocks line_offset has_text has_directive dead) result after
+      → HasTaken (line_length old.rest) old new → Acts unchanged (define_move named) (source_of new definitions blocks line_offset has_text has_directive dead) result after
+      → Acts unchanged (directive_move true (facts_among blocks) d.Define word old.rest) (source_of old definitions blocks line_offset has_text has_directive dead) result after
   define_acts named result after e t acts =
-      subst (λ (move : Move). Acts move (source_of old definitions blocks line_offset has_text has_directive dead) result after)
+      subst (λ (move : Move). Acts unchanged move (source_of old definitions blocks line_offset has_text has_directive dead) result after)
       (sym (ap (λ line. line_move line defines old.rest) e))
       (acts_after definitions blocks line_offset has_text has_directive dead old new (line_length old.rest) 0 (line_length old.rest)
-      (omega arith) t.rest unnoted (defines named) result after acts)
+      (omega arith) t.rest unnoted unchanged (defines named) result after acts)
 
 -- a fault after something that was read
 module _ (definitions : List Defined) (blocks : List OpenBlock)
@@ -191,20 +186,15 @@ module _ (definitions : List Defined) (blocks : List OpenBlock)
   redefines named None taken note h = absurd h
   redefines named (Some before) taken note h = inr (h.0, ap (λ f. Err (Error f)) h.1, further)
 
-  pub fault_makes : (effect : Effect) (taken : ℕ) (note : Note) → FailsWith effect definitions fault
-      → HasEffect effect taken note (source_of old definitions blocks line_offset has_text has_directive dead) (Err (Error fault)) new
-  fault_makes (gives token) taken note h = absurd h
-  fault_makes (gives_item item word) taken note h = absurd h
-  fault_makes (fails wanted) taken note h = (ap (λ f. Err (Error f)) h, further)
-  fault_makes ends taken note h = absurd h
-  fault_makes passes taken note h = absurd h
-  fault_makes (defines named) taken note h = redefines named (meaning_of definitions named.name) taken note h
-  fault_makes (undefines name) taken note h = absurd h
-  fault_makes (opens_where wanted word name) taken note h = absurd h
-  fault_makes (opens_if word tokens) taken note h = faulty fault h refl further
-  fault_makes (opens_unread word) taken note h = absurd h
-  fault_makes parts taken note h = absurd h
-  fault_makes skips_branch taken note h = absurd h
-  fault_makes (parts_if word tokens) taken note h = faulty fault h refl further
-  fault_makes closes taken note h = absurd h
-  fault_makes (renumbers word tokens) taken note h = unnumbered fault h refl further
+  pub fault_makes : (effect : Effect) (taken : ℕ) (note : Note) (change : BlockChange) → FailsWith effect definitions fault
+      → HasEffect effect taken note change (source_of old definitions blocks line_offset has_text has_directive dead) (Err (Error fault)) new
+  fault_makes (gives token) taken note change h = absurd h
+  fault_makes (gives_item item word) taken note change h = absurd h
+  fault_makes (fails wanted) taken note change h = (ap (λ f. Err (Error f)) h, further)
+  fault_makes ends taken note change h = absurd h
+  fault_makes passes taken note change h = absurd h
+  fault_makes (defines named) taken note change h = redefines named (meaning_of definitions named.name) taken note h
+  fault_makes (undefines name) taken note change h = absurd h
+  fault_makes (tests asked name) taken note change h = absurd h
+  fault_makes (decides word tokens) taken note change h = faulty fault h refl further
+  fault_makes (renumbers word tokens) taken note change h = unnumbered fault h refl further

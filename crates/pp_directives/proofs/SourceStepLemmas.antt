@@ -10,6 +10,7 @@ use Rattle.pp_lexer.specs.declared.lexer.item.TokenValue.{TokenValue as LexerTok
 use Rattle.pp_lexer.specs.declared.lexer.item.TokenValue.TheVariants.{Hash, NewLine, Ident as LexerIdent, Integer as LexerInteger, Float as LexerFloat, Punct as LexerPunct}
 use Rattle.pp_lexer.specs.declared.token.Location.{Location}
 use Rattle.pp_lexer.specs.declared.token.Token.{Token}
+use Rattle.pp_model.specs.Blocks.{part_of}
 use Rattle.pp_model.specs.Calls.{Fault}
 use Rattle.pp_model.specs.Conversions.{is_newline, identifier_of, refused_token}
 use Rattle.pp_model.specs.Lines.{first_token}
@@ -21,14 +22,14 @@ use Rattle.pp_macros.specs.inner.Defined.{Defined}
 use Rattle.pp_macros.specs.Halting.{step_of}
 use Rattle.pp_macros.specs.Item.{Step}
 use Rattle.pp_macros.specs.inner.LineReading.{HasTaken, as_next, next_token}
-use Rattle.pp_macros.specs.inner.OpenBlocks.{facts_among, is_live_among}
+use Rattle.pp_macros.specs.inner.OpenBlocks.{facts_among, is_live_among, BlockChange, unchanged, block_change, block_change_at}
 use Rattle.pp_macros.specs.declared.blocks.OpenBlock.{OpenBlock}
-use Rattle.pp_macros.specs.inner.Source.{Source, Pauses, Makes, IsRefusedStep, StepsSource}
-use Rattle.pp_directives.specs.inner.SourceActs.{GivesNoted, word_note, name_move, word_move}
+use Rattle.pp_macros.specs.inner.Source.{Source, Pauses, Makes, MakesMove, IsRefusedStep, StepsSource}
+use Rattle.pp_directives.specs.inner.SourceActs.{GivesNoted, word_note, word_change, name_move, word_move}
 use Rattle.pp_macros.specs.inner.SourceLexed.{SourceLexed, EndKeepsPlaces}
 use Rattle.pp_model.specs.Moves.{Effect, fails, passes, Move, failing, directive_move, move_at, BlockFacts, passing}
 use Rattle.pp_model.specs.inner.Moves.{taking_more}
-use Rattle.pp_macros.specs.inner.SourceMoves.{Note, unnoted, directive_line, note_at, note_of, move_of}
+use Rattle.pp_macros.specs.inner.SourceMoves.{Note, unnoted, directive_line, note_at}
 use Rattle.pp_macros.specs.declared.step.StepExit.TheVariants.{Continue}
 use Rattle.pp_macros.specs.declared.halt.Halt.{Halt}
 use Rattle.pp_macros.specs.declared.halt.Halt.TheVariants as halt
@@ -38,8 +39,8 @@ match_false : (P Q : Type 0) (b : Bool) → b ≡ false → Q → MatchBool b P 
 match_false P Q true e q = cc
 match_false P Q false e q = q
 
-steps_unspent : (old : Source) (step : Step Token) (new : Source) → old.spent ≡ false → IsRefusedStep old step
-    ⊎ Makes (note_of old.dead_for_good old.blocks old.rest) (move_of old.dead_for_good old.blocks old.rest) old step new → StepsSource old step new
+steps_unspent : (old : Source) (step : Step Token) (new : Source) → old.spent ≡ false → IsRefusedStep old step ⊎ MakesMove old step new
+    → StepsSource old step new
 steps_unspent old step new e h = match_false _ _ old.spent e h
 
 -- the token that comes first is what is shown
@@ -61,61 +62,68 @@ module _ (definitions : List Defined) (blocks : List OpenBlock)
     (line_offset : ℤ) (has_text has_directive dead : Bool) (old mid : SourceLexed) (new : Source) (taken : mid.rest ≡ drop 1 old.rest)
     (fewer : length mid.rest < length old.rest) where
   -- what a move means after the number sign is a step of the source, or memory was refused
-  abbrev StepsBy : Result (Option Token) Halt → Note → Move → Type 0
-  StepsBy result note move = IsRefusedStep (source_of old definitions blocks line_offset has_text has_directive dead) (step_of result)
-      ⊎ Makes note move (source_of old definitions blocks line_offset has_text has_directive dead) (step_of result) new
+  abbrev StepsBy : Result (Option Token) Halt → Note → BlockChange → Move → Type 0
+  StepsBy result note change move = IsRefusedStep (source_of old definitions blocks line_offset has_text has_directive dead) (step_of result)
+      ⊎ Makes note change move (source_of old definitions blocks line_offset has_text has_directive dead) (step_of result) new
 
-  acts_make : (effect : Effect) (more total : ℕ) (note : Note) → total ≡ 1 + more → (result : Result (Option Token) Halt)
-      → GivesNoted note (record { effect = effect; taken = more }) (source_of mid definitions blocks line_offset has_text has_directive dead) result new
-      → StepsBy result note (record { effect = effect; taken = total })
-  acts_make effect more total note sum (Ok given) h =
-      inr (gives_after definitions blocks line_offset has_text has_directive dead old mid 1 more total sum taken note effect (Ok given) new h)
-  acts_make effect more total note sum (Err (halt.Fault fault)) h =
-      inr (fault_makes definitions blocks line_offset has_text has_directive dead old mid new fault fewer h.1 effect total note h.0)
-  acts_make effect more total note sum (Err halt.OutOfMemory) h = inl (record { some_left = λ e. absurd (omega (arith, ap length e)); fault = refl })
+  acts_make : (effect : Effect) (more total : ℕ) (note : Note) (change : BlockChange) → total ≡ 1 + more → (result : Result (Option Token) Halt)
+      → GivesNoted note change (record { effect = effect; taken = more }) (source_of mid definitions blocks line_offset has_text has_directive dead) result new
+      → StepsBy result note change (record { effect = effect; taken = total })
+  acts_make effect more total note change sum (Ok given) h =
+      inr (gives_after definitions blocks line_offset has_text has_directive dead old mid 1 more total sum taken note change effect (Ok given) new h)
+  acts_make effect more total note change sum (Err (halt.Fault fault)) h =
+      inr (fault_makes definitions blocks line_offset has_text has_directive dead old mid new fault fewer h.1 effect total note change h.0)
+  acts_make effect more total note change sum (Err halt.OutOfMemory) h = inl (record { some_left = λ e. absurd (omega (arith, ap length e)); fault = refl })
 
   directive_makes : (live : Bool) (block : Option BlockFacts) (name : Name) (word : Location) (result : Result (Option Token) Halt)
-      → GivesNoted directive_line (taking_more 1 (directive_move live block (directive_of name) word (drop 1 mid.rest)))
+      → GivesNoted directive_line (block_change (part_of (directive_of name)) word)
+      (taking_more 1 (directive_move live block (directive_of name) word (drop 1 mid.rest)))
       (source_of mid definitions blocks line_offset has_text has_directive dead) result new
-      → StepsBy result directive_line (taking_more 2 (directive_move live block (directive_of name) word (drop 2 old.rest)))
+      → StepsBy result directive_line (block_change (part_of (directive_of name)) word)
+      (taking_more 2 (directive_move live block (directive_of name) word (drop 2 old.rest)))
   directive_makes live block name word result h =
       let move = directive_move live block (directive_of name) word (drop 2 old.rest) in
       let after : drop 1 mid.rest ≡ drop 2 old.rest = ap (drop 1) taken ∙ drop-drop 1 1 old.rest in
-      acts_make move.effect (1 + move.taken) (2 + move.taken) directive_line (omega arith) result
-      (subst (λ (rest : List Seen). GivesNoted directive_line (taking_more 1 (directive_move live block (directive_of name) word rest))
+      let change = block_change (part_of (directive_of name)) word in
+      acts_make move.effect (1 + move.taken) (2 + move.taken) directive_line change (omega arith) result
+      (subst (λ (rest : List Seen). GivesNoted directive_line change (taking_more 1 (directive_move live block (directive_of name) word rest))
       (source_of mid definitions blocks line_offset has_text has_directive dead) result new) after h)
 
   -- a number sign without a word
   bare_makes : (live newline : Bool) (fault : Fault) (block : Option BlockFacts) (result : Result (Option Token) Halt)
       → GivesNoted (note_at live (if newline then sight.Lone else sight.NoWord fault))
+      (block_change_at (if newline then sight.Lone else sight.NoWord fault))
       (if newline then passing 1 else if live then failing fault else passing 1)
       (source_of mid definitions blocks line_offset has_text has_directive dead) result new
       → StepsBy result (note_at live (if newline then sight.Lone else sight.NoWord fault))
+      (block_change_at (if newline then sight.Lone else sight.NoWord fault))
       (move_at live block (if newline then sight.Lone else sight.NoWord fault) old.rest)
-  bare_makes live true fault block result h = acts_make passes 1 2 directive_line refl result h
-  bare_makes true false fault block result h = acts_make (fails fault) 0 1 unnoted refl result h
-  bare_makes false false fault block result h = acts_make passes 1 2 unnoted refl result h
+  bare_makes live true fault block result h = acts_make passes 1 2 directive_line unchanged refl result h
+  bare_makes true false fault block result h = acts_make (fails fault) 0 1 unnoted unchanged refl result h
+  bare_makes false false fault block result h = acts_make passes 1 2 unnoted unchanged refl result h
 
   name_makes : (live : Bool) (block : Option BlockFacts) (token : LexerToken) (name : Option Name) (result : Result (Option Token) Halt)
-      → GivesNoted (note_at live (named_directive token name)) (name_move live block token name (drop 1 mid.rest))
+      → GivesNoted (note_at live (named_directive token name)) (block_change_at (named_directive token name))
+      (name_move live block token name (drop 1 mid.rest))
       (source_of mid definitions blocks line_offset has_text has_directive dead) result new
-      → StepsBy result (note_at live (named_directive token name)) (move_at live block (named_directive token name) old.rest)
+      → StepsBy result (note_at live (named_directive token name)) (block_change_at (named_directive token name))
+      (move_at live block (named_directive token name) old.rest)
   name_makes live block token None result h = bare_makes live (is_newline token.value) (refused_token token) block result h
   name_makes live block token (Some name) result h = directive_makes live block name token.location result h
 
   word_makes : (live : Bool) (block : Option BlockFacts) (first : Result LexerToken Fault) (result : Result (Option Token) Halt)
-      → GivesNoted (word_note live first) (word_move live block first (drop 1 mid.rest))
+      → GivesNoted (word_note live first) (word_change first) (word_move live block first (drop 1 mid.rest))
       (source_of mid definitions blocks line_offset has_text has_directive dead) result new
-      → StepsBy result (word_note live first) (move_at live block (directive_sight first) old.rest)
+      → StepsBy result (word_note live first) (word_change first) (move_at live block (directive_sight first) old.rest)
   word_makes live block (Ok token) result h = name_makes live block token (identifier_of token.value) result h
-  word_makes live block (Err fault) result h = acts_make (fails fault) 0 1 unnoted refl result h
+  word_makes live block (Err fault) result h = acts_make (fails fault) 0 1 unnoted unchanged refl result h
 
 module _ (old new : Source) where
   -- in dead text a token that begins no directive is passed
   dead_token : (value : LexerTokenValue) (location : Location) (blank at_start : Bool) (rest items : List Seen) (block : Option BlockFacts)
       → (value ≡ Hash → at_start ≡ false) → Pauses 1 unnoted old.blocks old (Err Continue) new
       → let shown = token_sight (record { value = value; location = location; leading_whitespace = blank; start_of_line = at_start }) rest in
-      Makes (note_at false shown) (move_at false block shown items) old (Err Continue) new
+      Makes (note_at false shown) (block_change_at shown) (move_at false block shown items) old (Err Continue) new
   dead_token Hash location blank true rest items block none h = let bad = none refl in cc
   dead_token Hash location blank false rest items block none h = h
   dead_token NewLine location blank at_start rest items block none h = h
@@ -149,14 +157,14 @@ module _ (definitions : List Defined) (blocks : List OpenBlock)
   shown = token_shown old.rest token gave_token ∙ ap (token_sight token) (sym (took unspent).rest)
 
   steps_by : (step : Step Token) (new : Source) → IsRefusedStep (source_of old definitions blocks line_offset has_text has_directive dead) step
-      ⊎ Makes (note_at (is_live_among dead blocks) (token_sight token mid.rest))
+      ⊎ Makes (note_at (is_live_among dead blocks) (token_sight token mid.rest)) (block_change_at (token_sight token mid.rest))
       (move_at (is_live_among dead blocks) (facts_among blocks) (token_sight token mid.rest) old.rest)
       (source_of old definitions blocks line_offset has_text has_directive dead) step new
       → StepsSource (source_of old definitions blocks line_offset has_text has_directive dead) step new
   steps_by step new h = steps_unspent (source_of old definitions blocks line_offset has_text has_directive dead) step new unspent (rw shown h)
 
   pub step_directive : (result : Result (Option Token) Halt) (new : Source) → token.value ≡ Hash → token.start_of_line ≡ true
-      → GivesNoted (word_note (is_live_among dead blocks) (first_token token.location mid.rest))
+      → GivesNoted (word_note (is_live_among dead blocks) (first_token token.location mid.rest)) (word_change (first_token token.location mid.rest))
       (word_move (is_live_among dead blocks) (facts_among blocks) (first_token token.location mid.rest) (drop 1 mid.rest))
       (source_of mid definitions blocks line_offset has_text has_directive dead) result new
       → StepsSource (source_of old definitions blocks line_offset has_text has_directive dead) (step_of result) new

@@ -8,6 +8,8 @@ ghost use Rattle.pp_model.specs.Conversions.{conversion};
 ghost use Rattle.pp_model.specs.Lines.{only_name, line_tokens, comments_before_end, first_token};
 ghost use Rattle.pp_model.specs.LineValues.{as_line_number};
 ghost use Rattle.pp_model.specs.Run.{items_of, content_tokens};
+ghost use Rattle.pp_model.specs.Blocks.{part_of};
+ghost use Rattle.pp_model.specs.declared.block.Part.TheVariants as part;
 ghost use Rattle.pp_model.specs.declared.directive.Directive.TheVariants as d;
 ghost use Rattle.pp_macros.specs.inner.Defined.{meaning_of};
 ghost use Rattle.pp_macros.specs.Held.{HoldsOrdinary};
@@ -17,11 +19,11 @@ ghost use Rattle.pp_directives.specs.inner.PlainText.{IsInText, StepsPlain, Give
 ghost use Rattle.pp_directives.specs.WordTokens.{word_value};
 ghost use Rattle.pp_macros.specs.inner.Turns.{macro_of_value};
 ghost use Rattle.pp_directives.specs.inner.ReadNames.{as_named};
-ghost use Rattle.pp_macros.specs.inner.OpenBlocks.{last_block, facts_among, is_live_among};
+ghost use Rattle.pp_macros.specs.inner.OpenBlocks.{last_block, facts_among, is_live_among, unchanged, elif_change, block_change};
 ghost use Rattle.pp_directives.specs.inner.SettingContent.{SetsContent};
 ghost use Rattle.pp_macros.specs.inner.Source.{StepsSource, unreported_of};
 ghost use Rattle.pp_directives.specs.inner.LineEntries.{entries_move};
-ghost use Rattle.pp_directives.specs.inner.SourceActs.{Acts, ActsAsItem, ActsNoted, Gives, GivesNoted, is_as, without_item, word_move, word_note, define_move};
+ghost use Rattle.pp_directives.specs.inner.SourceActs.{Acts, ActsAsItem, ActsNoted, Gives, GivesNoted, is_as, without_item, word_change, word_move, word_note, define_move};
 ghost use Rattle.pp_directives.specs.inner.Starting.{source_start};
 ghost use Rattle.pp_model.specs.Moves as moves;
 ghost use Rattle.pp_macros.specs.inner.Unreported.{Unreported, Reports, ExitReports, StepReports};
@@ -188,7 +190,7 @@ impl<'a> DirectiveProcessor<'a> {
     // Defines a name as its line says. If the name has the same definition already, the old one stays.
     fn add(&mut self, line: DefineLine) -> Result<(), Halt>
         requires { self.old.spent ≡ false }
-        ensures acts { Acts (define_move (as_named line)) self.old result self.new }
+        ensures acts { Acts unchanged (define_move (as_named line)) self.old result self.new }
         ensures errors { Reports result (unreported_of self.old) (unreported_of self.new) }
     {
         if let Some(before) = self.definitions.find(line.name.as_str()) {
@@ -207,7 +209,7 @@ impl<'a> DirectiveProcessor<'a> {
     // Acts on a `#define` line, after its word.
     fn define(&mut self, word: Location) -> Result<(), Halt>
         requires { self.old.spent ≡ false }
-        ensures acts { Acts (moves.directive_move true
+        ensures acts { Acts unchanged (moves.directive_move true
             (facts_among self.old.blocks) d.Define word self.old.rest) self.old result self.new }
         ensures errors { Reports result (unreported_of self.old) (unreported_of self.new) }
     {
@@ -218,8 +220,8 @@ impl<'a> DirectiveProcessor<'a> {
     // Acts on an `#undef` line, after its word. A name that is followed by more tokens is undefined too.
     fn undef(&mut self, word: Location) -> Result<(), Halt>
         requires { self.old.spent ≡ false }
-        ensures acts { Acts (moves.line_move (only_name word self.old.rest) moves.undefines
-            self.old.rest) self.old result self.new }
+        ensures acts { Acts unchanged (moves.line_move (only_name word self.old.rest)
+            moves.undefines self.old.rest) self.old result self.new }
         ensures errors { Reports result (unreported_of self.old) (unreported_of self.new) }
     {
         let first = first_name(word, &mut self.lexer)?;
@@ -231,8 +233,9 @@ impl<'a> DirectiveProcessor<'a> {
     // Opens a block whose condition is that the name on the line is defined, or (if not `wanted`) that it isn't.
     fn open_where(&mut self, wanted: bool, word: Location) -> Result<(), Halt>
         requires { self.old.spent ≡ false }
-        ensures acts { Acts (moves.line_move (only_name word self.old.rest)
-            (moves.opens_where (is_as wanted) word) self.old.rest) self.old result self.new }
+        ensures acts { Acts (block_change (Some part.Opens) word)
+            (moves.line_move (only_name word self.old.rest) (moves.tests (is_as wanted))
+            self.old.rest) self.old result self.new }
         ensures errors { Reports result (unreported_of self.old) (unreported_of self.new) }
     {
         let name = only_name(word, &mut self.lexer)?;
@@ -246,8 +249,9 @@ impl<'a> DirectiveProcessor<'a> {
     // Opens a block with the condition on the line.
     fn open_if(&mut self, word: Location) -> Result<(), Halt>
         requires { self.old.spent ≡ false }
-        ensures acts { Acts (moves.line_move (line_tokens self.old.rest) (moves.opens_if word)
-            self.old.rest) self.old result self.new }
+        ensures acts { Acts (block_change (Some part.Opens) word)
+            (moves.line_move (line_tokens self.old.rest) (moves.decides word) self.old.rest)
+            self.old result self.new }
         ensures errors { Reports result (unreported_of self.old) (unreported_of self.new) }
     {
         let tokens = line_reads(self.alloc, &mut self.lexer)?;
@@ -259,8 +263,8 @@ impl<'a> DirectiveProcessor<'a> {
     // Opens a block in dead text, without reading its line.
     fn open_unread(&mut self, word: Location) -> Result<(), Halt>
         requires { self.old.spent ≡ false }
-        ensures acts { Acts
-            (moves.skip_move (moves.opens_unread word) self.old.rest) self.old result self.new }
+        ensures acts { Acts (block_change (Some part.Opens) word)
+            (moves.skip_move self.old.rest) self.old result self.new }
         ensures errors { Reports result (unreported_of self.old) (unreported_of self.new) }
     {
         self.blocks.push(OpenBlock::unread(word))?;
@@ -271,8 +275,7 @@ impl<'a> DirectiveProcessor<'a> {
     fn skip_branch(&mut self, block: OpenBlock) -> Result<(), Halt>
         requires unspent { self.old.spent ≡ false }
         requires innermost { last_block self.old.blocks ≡ Some block }
-        ensures acts { Acts
-            (moves.skip_move moves.skips_branch self.old.rest) self.old result self.new }
+        ensures acts { Acts elif_change (moves.skip_move self.old.rest) self.old result self.new }
         ensures errors { Reports result (unreported_of self.old) (unreported_of self.new) }
     {
         self.blocks.replace_last(block.skipped());
@@ -283,8 +286,9 @@ impl<'a> DirectiveProcessor<'a> {
     fn part_if(&mut self, block: OpenBlock, word: Location) -> Result<(), Halt>
         requires unspent { self.old.spent ≡ false }
         requires innermost { last_block self.old.blocks ≡ Some block }
-        ensures acts { Acts (moves.line_move (line_tokens self.old.rest) (moves.parts_if word)
-            self.old.rest) self.old result self.new }
+        ensures acts { Acts elif_change
+            (moves.line_move (line_tokens self.old.rest) (moves.decides word) self.old.rest)
+            self.old result self.new }
         ensures errors { Reports result (unreported_of self.old) (unreported_of self.new) }
     {
         self.blocks.replace_last(block.skipped());
@@ -297,7 +301,7 @@ impl<'a> DirectiveProcessor<'a> {
     // Acts on an `#elif` line, after its word. After a fault the text that follows is dead.
     fn elif_line(&mut self, word: Location) -> Result<(), Halt>
         requires { self.old.spent ≡ false }
-        ensures acts { Acts
+        ensures acts { Acts elif_change
             (moves.elif_move (facts_among self.old.blocks) word self.old.rest)
             self.old result self.new }
         ensures errors { Reports result (unreported_of self.old) (unreported_of self.new) }
@@ -319,7 +323,7 @@ impl<'a> DirectiveProcessor<'a> {
     // Acts on an `#else` line, after its word.
     fn else_line(&mut self, word: Location) -> Result<(), Halt>
         requires { self.old.spent ≡ false }
-        ensures acts { Acts
+        ensures acts { Acts (block_change (Some part.Else) word)
             (moves.else_move (facts_among self.old.blocks) word self.old.rest)
             self.old result self.new }
         ensures errors { Reports result (unreported_of self.old) (unreported_of self.new) }
@@ -338,7 +342,7 @@ impl<'a> DirectiveProcessor<'a> {
     // Acts on an `#endif` line, after its word: the block closes, also if more tokens follow on the line.
     fn endif_line(&mut self, word: Location) -> Result<(), Halt>
         requires { self.old.spent ≡ false }
-        ensures acts { Acts
+        ensures acts { Acts (block_change (Some part.Closes) word)
             (moves.endif_move (facts_among self.old.blocks) word self.old.rest)
             self.old result self.new }
         ensures errors { Reports result (unreported_of self.old) (unreported_of self.new) }
@@ -360,8 +364,8 @@ impl<'a> DirectiveProcessor<'a> {
     // follows that number has a fault.
     fn number_lines(&mut self, word: Location) -> Result<(), Halt>
         requires { self.old.spent ≡ false }
-        ensures acts { Acts (moves.line_move (line_tokens self.old.rest) (moves.renumbers word)
-            self.old.rest) self.old result self.new }
+        ensures acts { Acts unchanged (moves.line_move (line_tokens self.old.rest)
+            (moves.renumbers word) self.old.rest) self.old result self.new }
         ensures errors { Reports result (unreported_of self.old) (unreported_of self.new) }
     {
         let tokens = line_reads(self.alloc, &mut self.lexer)?;
@@ -383,7 +387,7 @@ impl<'a> DirectiveProcessor<'a> {
     // Skips the line.
     fn skip(&mut self) -> Result<(), Halt>
         requires { self.old.spent ≡ false }
-        ensures acts { Acts (moves.skip_move moves.passes self.old.rest) self.old result self.new }
+        ensures acts { Acts unchanged (moves.skip_move self.old.rest) self.old result self.new }
         ensures errors { Reports result (unreported_of self.old) (unreported_of self.new) }
     {
         skip_line(&mut self.lexer)
@@ -451,7 +455,7 @@ impl<'a> DirectiveProcessor<'a> {
     fn act_live(&mut self, directive: Directive, word: Location) -> Result<Option<Token>, Halt>
         requires unspent { self.old.spent ≡ false }
         requires left { self.old.rest ≢ [] }
-        ensures gives { Gives (moves.directive_move true
+        ensures gives { Gives (block_change (part_of directive) word) (moves.directive_move true
             (facts_among self.old.blocks) directive word self.old.rest) self.old result self.new }
         ensures holds { IfOk result (λ given. IfSome given (λ token. HoldsOrdinary token.value)) }
         ensures errors { Reports result (unreported_of self.old) (unreported_of self.new) }
@@ -477,7 +481,7 @@ impl<'a> DirectiveProcessor<'a> {
     // Acts on a directive in dead text, after its word.
     fn act_dead(&mut self, directive: Directive, word: Location) -> Result<(), Halt>
         requires { self.old.spent ≡ false }
-        ensures acts { Acts (moves.directive_move false
+        ensures acts { Acts (block_change (part_of directive) word) (moves.directive_move false
             (facts_among self.old.blocks) directive word self.old.rest) self.old result self.new }
         ensures errors { Reports result (unreported_of self.old) (unreported_of self.new) }
     {
@@ -502,6 +506,7 @@ impl<'a> DirectiveProcessor<'a> {
     fn read_live(&mut self, hash: Location) -> Result<Option<Token>, Halt>
         requires { self.old.spent ≡ false }
         ensures gives { GivesNoted (word_note true (first_token hash self.old.rest))
+            (word_change (first_token hash self.old.rest))
             (word_move true (facts_among self.old.blocks) (first_token hash self.old.rest)
             (drop 1 self.old.rest)) self.old result self.new }
         ensures holds { IfOk result (λ given. IfSome given (λ token. HoldsOrdinary token.value)) }
@@ -536,6 +541,7 @@ impl<'a> DirectiveProcessor<'a> {
     fn read_dead(&mut self, hash: Location) -> Result<(), Halt>
         requires { self.old.spent ≡ false }
         ensures acts { ActsNoted (word_note false (first_token hash self.old.rest))
+            (word_change (first_token hash self.old.rest))
             (word_move false (facts_among self.old.blocks) (first_token hash self.old.rest)
             (drop 1 self.old.rest)) self.old result self.new }
         ensures errors { Reports result (unreported_of self.old) (unreported_of self.new) }
@@ -563,7 +569,7 @@ impl<'a> DirectiveProcessor<'a> {
         requires { self.old.spent ≡ false }
         ensures gives { GivesNoted
             (word_note (is_live_among self.old.dead_for_good self.old.blocks)
-            (first_token hash self.old.rest))
+            (first_token hash self.old.rest)) (word_change (first_token hash self.old.rest))
             (word_move (is_live_among self.old.dead_for_good self.old.blocks)
             (facts_among self.old.blocks) (first_token hash self.old.rest)
             (drop 1 self.old.rest)) self.old result self.new }

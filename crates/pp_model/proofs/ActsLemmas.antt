@@ -9,8 +9,8 @@ use Rattle.pp_model.specs.Sights.{sight_of}
 use Rattle.pp_model.specs.Blocks.{Block, is_live}
 use Rattle.pp_model.specs.SourceReader.{SourceReader}
 use Rattle.pp_model.specs.Moves.{BlockFacts, move_at, directive_move}
-use Rattle.pp_model.specs.Acts.{Acted, pause_at, advanced_by, after_line, decided, end_by, perform, facts_here, act}
-use Rattle.pp_model.specs.inner.Acts.{perform_line, fault_at, item_at, items_left, after_word}
+use Rattle.pp_model.specs.Acts.{Acted, pause_at, advanced_by, end_by, perform, facts_here, act}
+use Rattle.pp_model.specs.inner.Acts.{perform_line, fault_at, item_at, items_left, after_word, after_line, after_condition}
 use Rattle.pp_model.specs.declared.definition.Named.{Named}
 use Rattle.pp_model.specs.declared.directive.Directive.{Directive}
 use Rattle.pp_model.specs.declared.sight.Sight.{Sight}
@@ -23,15 +23,15 @@ use Rattle.pp_model.proofs.MovesLemmas.{directive_holds}
 pub record HoldsOfDead (P : Acted → Type 0) (r : SourceReader) : Type 0 where
   pub fault : (found : Fault) → P (fault_at found r)
   pub nothing : (count : ℕ) → 1 ≤ count → P (pause_at (advanced_by count r))
-  pub wanted : (word : Location) (tokens : List Token) → P (record { step = step.Condition word tokens; after = r })
+  pub wanted : (word : Location) (tokens : List Token) → P (record { step = step.Condition word tokens; after = after_line r })
 
 -- It holds of what more may come of live text.
 pub record HoldsOfLive (P : Acted → Type 0) (r : SourceReader) : Type 0 where
   pub dead : HoldsOfDead P r
-  pub numbered : (word : Location) (tokens : List Token) → P (record { step = step.LineNumber word tokens; after = r })
+  pub numbered : (word : Location) (tokens : List Token) → P (record { step = step.LineNumber word tokens; after = after_line r })
   pub defined : (named : Named) → P (record { step = step.Defines named; after = after_line r })
   pub changed : (name : Name) → P (pause_at (record (after_line r) { definitions = with_change r.definitions name None }))
-  pub decision : (holds : Bool) → P (pause_at (decided r holds))
+  pub decision : (holds : Bool) → P (pause_at (after_condition r holds))
   pub token : (shown : Token) (count : ℕ) → 1 ≤ count → P (item_at shown (advanced_by count r))
 
 module _ (P : Acted → Type 0) (r : SourceReader) (all : HoldsOfDead P r) where
@@ -42,18 +42,13 @@ module _ (P : Acted → Type 0) (r : SourceReader) (all : HoldsOfDead P r) where
         failing = λ fault. all.fault fault;
         refusing = λ fault. all.fault fault;
         unknown = λ live its. all.nothing 2 (omega arith);
-        passing = λ its. all.nothing _ (omega arith);
+        passing = λ why. all.nothing _ (omega arith);
         items = λ live its value is. cc;
         defining = λ live its named is. cc;
         undefining = λ live its name. cc;
         numbering = λ live its tokens. cc;
-        asking = λ live its holds name. cc;
-        opening = λ live its tokens. cc;
-        unread = λ live its. all.nothing _ (omega arith);
-        parting = λ its found is none. all.nothing _ (omega arith);
-        skipping = λ its found is none skips. all.nothing _ (omega arith);
-        choosing = λ its found is none reads tokens. all.wanted word tokens;
-        closing = λ its found is. all.nothing _ (omega arith);
+        testing = λ live its holds name. cc;
+        deciding = λ why tokens. all.wanted word tokens;
       })
 
   -- and so of dead text, if it holds at the end
@@ -76,18 +71,13 @@ module _ (P : Acted → Type 0) (r : SourceReader) (all : HoldsOfLive P r) where
         failing = λ fault. all.dead.fault fault;
         refusing = λ fault. all.dead.fault fault;
         unknown = λ live its. all.dead.nothing 2 (omega arith);
-        passing = λ its. all.dead.nothing _ (omega arith);
+        passing = λ why. all.dead.nothing _ (omega arith);
         items = λ live its value is. all.token _ _ (omega arith);
         defining = λ live its named is. all.defined named;
         undefining = λ live its name. all.changed name;
         numbering = λ live its tokens. all.numbered word tokens;
-        asking = λ live its holds name. all.decision _;
-        opening = λ live its tokens. all.dead.wanted word tokens;
-        unread = λ live its. all.dead.nothing _ (omega arith);
-        parting = λ its found is none. all.dead.nothing _ (omega arith);
-        skipping = λ its found is none skips. all.dead.nothing _ (omega arith);
-        choosing = λ its found is none reads tokens. all.dead.wanted word tokens;
-        closing = λ its found is. all.dead.nothing _ (omega arith);
+        testing = λ live its holds name. all.decision _;
+        deciding = λ why tokens. all.dead.wanted word tokens;
       })
 
   pub live_text_holds : ((block : Option Block) → P (end_by block r)) → (block : Option BlockFacts) (s : Sight)

@@ -1,7 +1,7 @@
 -- What a reader gives more widely, an expander over it does too; and reading a source takes nothing from dead text.
-use Rattle.std.proofs.Common.{◌≡◌, ◌∙◌, ℕ, false, List, refl, sym, ap, Option, Some, None, Result}
+use Rattle.std.proofs.Common.{◌≡◌, ◌∙◌, ℕ, List, refl, sym, ap, Option, Some, None, inl, inr, Result}
 use Rattle.pp_lexer.specs.declared.token.Location.{Location}
-use Rattle.pp_model.specs.Blocks.{is_live}
+use Rattle.pp_lexer.specs.declared.token.Token.{Token}
 use Rattle.pp_model.specs.Reading.{Reading, Expander}
 use Rattle.pp_model.specs.Taking.{Fetches, held, listed, read, Takes}
 use Rattle.pp_model.specs.Calls.{Fault, Answers, Gathered, Gathers, closed, inside, overfull, ended, failed, Called, Calls, alone, broken, whole}
@@ -10,7 +10,7 @@ use Rattle.pp_model.specs.Emitting.{Emits, itself, object, name_alone, call_refu
 use Rattle.pp_model.specs.SourceReader.{SourceReader}
 use Rattle.pp_model.specs.Acts.{act}
 use Rattle.pp_model.specs.Reads as reads
-use Rattle.pp_model.specs.Reads.{Steps, passes, gives, defines, repeats, redefines, decides, undecided, renumbers, unnumbered, Reads, source_reading}
+use Rattle.pp_model.specs.Reads.{Steps, Reads, source_reading}
 use Rattle.pp_model.specs.Run as run
 use Rattle.pp_model.specs.Run.{by_rules, Call, Comings, Gives, Runs}
 use Rattle.pp_model.specs.BlockLaws.{GivesNothing}
@@ -19,9 +19,11 @@ use Rattle.pp_model.specs.LiveRuns.{IsWithoutEffect, LiveSteps, LiveReads, live_
 use Rattle.pp_model.specs.declared.call.Reply.{Reply}
 use Rattle.pp_model.specs.declared.outcome.Outcome.{Outcome}
 use Rattle.pp_model.specs.declared.outcome.Outcome.TheVariants as outcome
+use Rattle.pp_model.specs.declared.step.Step.{Step}
 use Rattle.pp_model.specs.declared.step.Step.TheVariants as step
 use Rattle.pp_model.specs.declared.read.Taken.{Taken}
 use Rattle.pp_model.proofs.DeadTextLemmas.{dead_text_gives_nothing}
+use Rattle.pp_model.proofs.ReadsLemmas.{GivenBy, HoldsAfter, given_by, holds_after}
 
 -- An expander over a reader that gives what `I` does, and may give more.
 module _ {R : Type 0} (I : Reading R) (Wider : R → Taken → R → Type 0) (wider : (r : R) (x : Taken) (t : R) → I.Reads r x t → Wider r x t) where
@@ -59,37 +61,38 @@ module _ {R : Type 0} (I : Reading R) (Wider : R → Taken → R → Type 0) (wi
     emits e o f (call x o1 arguments line m e1 f1 g1 h1 h n k c more) =
         call x o1 arguments line m e1 f1 g1 h1 (takes _ _ _ h) n k (calls _ _ _ _ c) (emits _ _ _ more)
 
-no_outcome : (o : Option Outcome) → o ≡ None → (x : Outcome) → o ≡ Some x → ⊥
-no_outcome o e x k = let bad : None ≡ Some x = sym e ∙ k in cc
-
 -- A step in dead text is without effect.
-module _ (A : Answers) (r : SourceReader) (nothing : GivesNothing r (act r)) where
-  without_effect : (o : Option Outcome) (t : SourceReader) → Steps A r o t → IsWithoutEffect r o t
-  without_effect o t (passes o1 r1 t1 s n p) = record {
-    no_token = λ token. no_outcome o n (outcome.Token token);
-    same_definitions = ap (λ t. t.definitions) p ∙ nothing.same_definitions;
-    same_lines = ap (λ t. t.line_offset) p ∙ nothing.same_lines;
-  }
-  without_effect o t (gives x o1 r1 t1 s n p) = record {
-    no_token = λ token e. let same : x ≡ outcome.Token token = cc in nothing.no_token token (s ∙ ap step.Given same);
-    same_definitions = ap (λ t. t.definitions) p ∙ nothing.same_definitions;
-    same_lines = ap (λ t. t.line_offset) p ∙ nothing.same_lines;
-  }
-  without_effect o t (defines named o1 r1 t1 s d n p) = absurd (nothing.no_define named s)
-  without_effect o t (repeats named old o1 r1 t1 s d same n p) = absurd (nothing.no_define named s)
-  without_effect o t (redefines named old o1 r1 t1 s d other n p) = absurd (nothing.no_define named s)
-  without_effect o t (decides word tokens holds o1 r1 t1 s c n p) = record {
-    no_token = λ token. no_outcome o n (outcome.Token token);
-    same_definitions = ap (λ t. t.definitions) p;
-    same_lines = ap (λ t. t.line_offset) p;
-  }
-  without_effect o t (undecided word tokens fault o1 r1 t1 s c n p) = record {
-    no_token = λ token e. let bad : Some (outcome.Fault fault) ≡ Some (outcome.Token token) = sym n ∙ e in cc;
-    same_definitions = ap (λ t. t.definitions) p;
-    same_lines = ap (λ t. t.line_offset) p;
-  }
-  without_effect o t (renumbers word tokens n1 o1 r1 t1 s c n p) = absurd (nothing.no_line_number word tokens s)
-  without_effect o t (unnumbered word tokens fault o1 r1 t1 s c n p) = absurd (nothing.no_line_number word tokens s)
+module _ (A : Answers) (r : SourceReader) (nothing : GivesNothing r (act r)) (o : Option Outcome) (t : SourceReader) (s : Steps A r o t) where
+  -- the definitions and what is added to a line are the same
+  abbrev IsSame : SourceReader → Type 0
+  IsSame reader = (reader.definitions ≡ r.definitions) × (reader.line_offset ≡ r.line_offset)
+
+  same_after : (did : Step) → (act r).step ≡ did → HoldsAfter IsSame r did (act r).after
+  same_after step.Passed e = (nothing.same_definitions, nothing.same_lines)
+  same_after (step.Given x) e = (nothing.same_definitions, nothing.same_lines)
+  same_after (step.Defines named) e = absurd (nothing.no_define named e)
+  same_after (step.Condition word tokens) e = ((refl, refl), λ holds. (nothing.same_definitions, nothing.same_lines))
+  same_after (step.LineNumber word tokens) e = absurd (nothing.no_line_number word tokens e)
+
+  otherwise : (token : Token) → o ≡ Some (outcome.Token token) → GivenBy step.Passed o → ⊥
+  otherwise token e (inl n) = let bad : None ≡ Some (outcome.Token token) = sym n ∙ e in cc
+  otherwise token e (inr n) = let bad : Some (outcome.Fault n.0) ≡ Some (outcome.Token token) = sym n.1 ∙ e in cc
+
+  no_token : (token : Token) → o ≡ Some (outcome.Token token) → (did : Step) → (act r).step ≡ did → GivenBy did o → ⊥
+  no_token token e (step.Given x) h g = let same : x ≡ outcome.Token token = cc in nothing.no_token token (h ∙ ap step.Given same)
+  no_token token e step.Passed h g = otherwise token e g
+  no_token token e (step.Defines named) h g = otherwise token e g
+  no_token token e (step.Condition word tokens) h g = otherwise token e g
+  no_token token e (step.LineNumber word tokens) h g = otherwise token e g
+
+  without_effect : IsWithoutEffect r o t
+  without_effect =
+      let same = holds_after A r o t IsSame (act r).step (act r).after (same_after (act r).step refl) s in
+      record {
+        no_token = λ token e. no_token token e (act r).step refl (given_by A r o t (act r).step (act r).after s);
+        same_definitions = same.0;
+        same_lines = same.1;
+      }
 
 live_step : (A : Answers) (r : SourceReader) (o : Option Outcome) (t : SourceReader) → Steps A r o t → LiveSteps A r o t
 live_step A r o t s = record { steps = s; in_dead_text = λ dead. without_effect A r (dead_text_gives_nothing r dead) o t s }

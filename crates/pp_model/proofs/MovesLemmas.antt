@@ -14,7 +14,7 @@ use Rattle.pp_model.specs.Calls.{Fault}
 use Rattle.pp_model.specs.Lines.{line_length, line_fault, line_tokens, comments_before_end, ended_line, only_name}
 use Rattle.pp_model.specs.DefineLines.{defined_on}
 use Rattle.pp_model.specs.Blocks.{part_of}
-use Rattle.pp_model.specs.Moves.{BlockFacts, Effect, gives_item, fails, passes, defines, undefines, opens_where, opens_if, opens_unread, parts, skips_branch, parts_if, closes, renumbers, Move, failing, passing, line_move, skip_move, item_move, version_item, extension_item, pragma_item, elif_move, else_effect, else_move, endif_move, directive_move}
+use Rattle.pp_model.specs.Moves.{BlockFacts, Effect, gives_item, fails, passes, defines, undefines, tests, decides, renumbers, Move, failing, passing, line_move, skip_move, item_move, version_item, extension_item, pragma_item, elif_move, else_effect, else_move, endif_move, directive_move}
 use Rattle.pp_model.specs.inner.Moves.{skip_by}
 use Rattle.pp_model.specs.declared.block.Part.TheVariants as part
 use Rattle.pp_model.specs.declared.definition.Named.{Named}
@@ -33,27 +33,36 @@ skips block = not block.are_surroundings_live || block.has_taken_branch
 abbrev pub IsDirectiveItem : (Bool → Bool → TokenValue) → Type 0
 IsDirectiveItem value = (has_text is_first : Bool) → is_ordinary (value has_text is_first) ≡ false
 
+-- Why a line only takes its items, in live or in dead text: it is no block line, it opens a block in dead text, or it parts or
+-- closes the innermost block without a condition.
+pub data Passes (live : Bool) (block : Option BlockFacts) (directive : Directive) : Type 0 where
+  plain : part_of directive ≡ None → Passes live block directive
+  unread : live ≡ false → part_of directive ≡ Some part.Opens → Passes live block directive
+  parting : part_of directive ≡ Some part.Else → (found : BlockFacts) → block ≡ Some found → found.has_else ≡ false → Passes live block directive
+  skipping : part_of directive ≡ Some part.Elif → (found : BlockFacts) → block ≡ Some found → found.has_else ≡ false → skips found ≡ true
+      → Passes live block directive
+  closing : part_of directive ≡ Some part.Closes → (found : BlockFacts) → block ≡ Some found → Passes live block directive
+
+-- Why a line has a condition: it opens a block in live text, or it parts the innermost one.
+pub data Decides (live : Bool) (block : Option BlockFacts) (directive : Directive) : Type 0 where
+  opening : live ≡ true → part_of directive ≡ Some part.Opens → Decides live block directive
+  choosing : part_of directive ≡ Some part.Elif → (found : BlockFacts) → block ≡ Some found → found.has_else ≡ false → skips found ≡ false
+      → Decides live block directive
+
 -- It holds of each kind of line that this directive has, in live or in dead text.
 pub record HoldsOfLine (P : Move → Type 0) (live : Bool) (block : Option BlockFacts) (directive : Directive)
     (word : Location) (after : List Seen) : Type 0 where
   pub failing : (fault : Fault) → P (failing fault)
   pub refusing : (fault : Fault) → P (over_line (fails fault) after)
   pub unknown : live ≡ false → part_of directive ≡ None → P (passing 0)
-  pub passing : part_of directive ≡ None → P (over_line passes after)
+  pub passing : Passes live block directive → P (over_line passes after)
   pub items : live ≡ true → part_of directive ≡ None → (value : Bool → Bool → TokenValue) → IsDirectiveItem value
       → P (over_line (gives_item value word) after)
   pub defining : live ≡ true → part_of directive ≡ None → (named : Named) → defined_on word after ≡ Ok named → P (over_line (defines named) after)
   pub undefining : live ≡ true → part_of directive ≡ None → (name : Name) → P (over_line (undefines name) after)
   pub numbering : live ≡ true → part_of directive ≡ None → (tokens : List Token) → P (over_line (renumbers word tokens) after)
-  pub asking : live ≡ true → part_of directive ≡ Some part.Opens → (holds : Bool → Bool) (name : Name) → P (over_line (opens_where holds word name) after)
-  pub opening : live ≡ true → part_of directive ≡ Some part.Opens → (tokens : List Token) → P (over_line (opens_if word tokens) after)
-  pub unread : live ≡ false → part_of directive ≡ Some part.Opens → P (over_line (opens_unread word) after)
-  pub parting : part_of directive ≡ Some part.Else → (found : BlockFacts) → block ≡ Some found → found.has_else ≡ false → P (over_line parts after)
-  pub skipping : part_of directive ≡ Some part.Elif → (found : BlockFacts) → block ≡ Some found → found.has_else ≡ false → skips found ≡ true
-      → P (over_line skips_branch after)
-  pub choosing : part_of directive ≡ Some part.Elif → (found : BlockFacts) → block ≡ Some found → found.has_else ≡ false → skips found ≡ false
-      → (tokens : List Token) → P (over_line (parts_if word tokens) after)
-  pub closing : part_of directive ≡ Some part.Closes → (found : BlockFacts) → block ≡ Some found → P (over_line closes after)
+  pub testing : live ≡ true → part_of directive ≡ Some part.Opens → (holds : Bool → Bool) (name : Name) → P (over_line (tests holds name) after)
+  pub deciding : Decides live block directive → (tokens : List Token) → P (over_line (decides word tokens) after)
 
 module _ (P : Move → Type 0) (word : Location) (after : List Seen) (none : (fault : Fault) → P (failing fault)) where
   line_holds : {A : Type 0} (line : Result A Fault) (effect : A → Effect) → ((value : A) → line ≡ Ok value → P (over_line (effect value) after))
@@ -61,10 +70,10 @@ module _ (P : Move → Type 0) (word : Location) (after : List Seen) (none : (fa
   line_holds (Ok value) effect h = h value refl
   line_holds (Err fault) effect h = none fault
 
-  skip_holds : (effect : Effect) → P (over_line effect after) → P (skip_move effect after)
-  skip_holds effect h = go (line_fault after)
+  skip_holds : P (over_line passes after) → P (skip_move after)
+  skip_holds h = go (line_fault after)
     where
-      go : (found : Option Fault) → P (skip_by found effect (line_length after))
+      go : (found : Option Fault) → P (skip_by found (line_length after))
       go (Some fault) = none fault
       go None = h
 
@@ -79,11 +88,11 @@ module _ (P : Move → Type 0) (live : Bool) (directive : Directive) (word : Loc
   elif_holds None all its = all.failing _
   elif_holds (Some found) all its = go found.has_else (skips found) refl refl
     where
-      go : (e s : Bool) → found.has_else ≡ e → skips found ≡ s → P (if e then failing (ElifAfterElse, word) else if s then skip_move skips_branch after
-          else line_move (line_tokens after) (parts_if word) after)
+      go : (e s : Bool) → found.has_else ≡ e → skips found ≡ s → P (if e then failing (ElifAfterElse, word) else if s then skip_move after
+          else line_move (line_tokens after) (decides word) after)
       go true s p q = all.failing _
-      go false true p q = skip_holds P word after all.failing skips_branch (all.skipping its found refl p q)
-      go false false p q = line_holds P word after all.failing (line_tokens after) (parts_if word) (λ tokens is. all.choosing its found refl p q tokens)
+      go false true p q = skip_holds P word after all.failing (all.passing (skipping its found refl p q))
+      go false false p q = line_holds P word after all.failing (line_tokens after) (decides word) (λ tokens is. all.deciding (choosing its found refl p q) tokens)
 
   else_holds : (block : Option BlockFacts) → HoldsOfLine P live block directive word after → part_of directive ≡ Some part.Else
       → P (else_move block word after)
@@ -93,27 +102,26 @@ module _ (P : Move → Type 0) (live : Bool) (directive : Directive) (word : Loc
       of None p = all.refusing _
       of (Some found) p = go found.has_else refl
         where
-          go : (e : Bool) → found.has_else ≡ e → P (over_line (if e then fails (MoreThanOneElse, word) else parts) after)
+          go : (e : Bool) → found.has_else ≡ e → P (over_line (if e then fails (MoreThanOneElse, word) else passes) after)
           go true q = all.refusing _
-          go false q = all.parting its found p q
+          go false q = all.passing (parting its found p q)
 
   endif_holds : (block : Option BlockFacts) → HoldsOfLine P live block directive word after → part_of directive ≡ Some part.Closes
       → P (endif_move block word after)
   endif_holds None all its = all.failing _
   endif_holds (Some found) all its = go found.are_surroundings_live
     where
-      go : (b : Bool) → P (if b then line_move (ended_line word after) (λ end. closes) after else skip_move closes after)
-      go true = line_holds P word after all.failing (ended_line word after) (λ end. closes) (λ end is. all.closing its found refl)
-      go false = skip_holds P word after all.failing closes (all.closing its found refl)
+      go : (b : Bool) → P (if b then line_move (ended_line word after) (λ end. passes) after else skip_move after)
+      go true = line_holds P word after all.failing (ended_line word after) (λ end. passes) (λ end is. all.passing (closing its found refl))
+      go false = skip_holds P word after all.failing (all.passing (closing its found refl))
 
 module _ (P : Move → Type 0) (block : Option BlockFacts) (word : Location) (after : List Seen) where
   live_holds : (directive : Directive) → HoldsOfLine P true block directive word after → P (directive_move true block directive word after)
   live_holds d.Define all = line_holds P word after all.failing (defined_on word after) defines (all.defining refl refl)
   live_holds d.Undef all = line_holds P word after all.failing (only_name word after) undefines (λ name is. all.undefining refl refl name)
-  live_holds d.If all = line_holds P word after all.failing (line_tokens after) (opens_if word) (λ tokens is. all.opening refl refl tokens)
-  live_holds d.Ifdef all =
-      line_holds P word after all.failing (only_name word after) (opens_where (λ is. is) word) (λ name is. all.asking refl refl _ name)
-  live_holds d.Ifndef all = line_holds P word after all.failing (only_name word after) (opens_where not word) (λ name is. all.asking refl refl not name)
+  live_holds d.If all = line_holds P word after all.failing (line_tokens after) (decides word) (λ tokens is. all.deciding (opening refl refl) tokens)
+  live_holds d.Ifdef all = line_holds P word after all.failing (only_name word after) (tests (λ is. is)) (λ name is. all.testing refl refl _ name)
+  live_holds d.Ifndef all = line_holds P word after all.failing (only_name word after) (tests not) (λ name is. all.testing refl refl not name)
   live_holds d.Elif all = elif_holds P true d.Elif word after block all refl
   live_holds d.Else all = else_holds P true d.Else word after block all refl
   live_holds d.Endif all = endif_holds P true d.Endif word after block all refl
@@ -125,14 +133,14 @@ module _ (P : Move → Type 0) (block : Option BlockFacts) (word : Location) (af
   live_holds d.Unknown all = all.failing _
 
   dead_holds : (directive : Directive) → HoldsOfLine P false block directive word after → P (directive_move false block directive word after)
-  dead_holds d.If all = skip_holds P word after all.failing (opens_unread word) (all.unread refl refl)
-  dead_holds d.Ifdef all = skip_holds P word after all.failing (opens_unread word) (all.unread refl refl)
-  dead_holds d.Ifndef all = skip_holds P word after all.failing (opens_unread word) (all.unread refl refl)
+  dead_holds d.If all = skip_holds P word after all.failing (all.passing (unread refl refl))
+  dead_holds d.Ifdef all = skip_holds P word after all.failing (all.passing (unread refl refl))
+  dead_holds d.Ifndef all = skip_holds P word after all.failing (all.passing (unread refl refl))
   dead_holds d.Elif all = elif_holds P false d.Elif word after block all refl
   dead_holds d.Else all = else_holds P false d.Else word after block all refl
   dead_holds d.Endif all = endif_holds P false d.Endif word after block all refl
   dead_holds d.Unknown all = all.unknown refl refl
-  dead_holds _ all = skip_holds P word after all.failing passes (all.passing refl)
+  dead_holds _ all = skip_holds P word after all.failing (all.passing (plain refl))
 
   -- so it holds of each directive
   pub directive_holds : (live : Bool) (directive : Directive) → HoldsOfLine P live block directive word after

@@ -5,12 +5,13 @@ use Rattle.pp_model.specs.Calls.{Answers}
 use Rattle.pp_model.specs.Blocks.{Block}
 use Rattle.pp_model.specs.SourceReader.{SourceReader}
 use Rattle.pp_model.specs.Acts.{Acted, end_by, act}
+use Rattle.pp_model.specs.Reads.{Defines}
 use Rattle.pp_model.specs.RunLaws.{Redefined, RedefinitionIsChecked}
 use Rattle.pp_model.specs.declared.definition.Named.{Named}
 use Rattle.pp_model.specs.declared.outcome.Outcome.{Outcome}
 use Rattle.pp_model.specs.declared.step.Step.TheVariants as step
 use Rattle.pp_model.proofs.ActsLemmas.{HoldsOfDead, HoldsOfLive, act_holds}
-use Rattle.pp_model.proofs.ReadsLemmas.{DefineComesTo, defines_that}
+use Rattle.pp_model.proofs.ReadsLemmas.{defines_that}
 
 -- where the act defines a name, it leaves the definitions to the step
 abbrev pub LeavesDefinitions : SourceReader → Acted → Type 0
@@ -40,16 +41,16 @@ abbrev definitions : SourceReader → Definitions
 definitions r = r.definitions
 
 checked : (named : Named) (old : Definition) (after r t : SourceReader) (o : Option Outcome) → after.definitions ≡ r.definitions
-    → DefineComesTo named (Some old) after r o t → Redefined named old r o t
-checked named old after r t o left (inl same) = record {
+    → Defines named (Some old) after o t → Redefined named old r o t
+checked named old after r t o left (p, inl same) = record {
   repeated = λ h. same.1;
   refused = λ other. absurd (other same.0);
-  same_definitions = ap definitions same.2 ∙ left;
+  same_definitions = ap definitions p ∙ left;
 }
-checked named old after r t o left (inr other) = record {
+checked named old after r t o left (p, inr other) = record {
   repeated = λ same. absurd (other.0 same);
   refused = λ h. other.1;
-  same_definitions = ap definitions other.2 ∙ left;
+  same_definitions = ap definitions p ∙ left;
 }
 
 pub redefinition_is_checked : (A : Answers) → RedefinitionIsChecked A

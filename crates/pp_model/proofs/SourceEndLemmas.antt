@@ -1,14 +1,14 @@
 -- Once reading a source gave the end, it gives nothing else.
-use Rattle.std.proofs.Common.{◌≡◌, ◌∙◌, Bool, true, false, take, drop, length, refl, sym, ap, subst, Option, Some, None}
+use Rattle.std.proofs.Common.{◌≡◌, ◌∙◌, Bool, true, false, take, drop, length, refl, sym, ap, subst, Option, Some, None, ◌⊎◌, inl, inr}
 use Rattle.pp_lexer.specs.declared.token.Location.{Location}
-use Rattle.pp_model.specs.Calls.{Answers}
+use Rattle.pp_model.specs.Calls.{Fault, Answers}
 use Rattle.pp_model.specs.Sights.{sight_of}
 use Rattle.pp_model.specs.Blocks.{Block, blocks_at, innermost, is_live}
 use Rattle.pp_model.specs.SourceReader.{SourceReader}
 use Rattle.pp_model.specs.Moves.{BlockFacts, move_at, directive_move}
 use Rattle.pp_model.specs.Acts.{Acted, end_by, perform, facts_here, act}
 use Rattle.pp_model.specs.inner.Acts.{perform_line, items_left, after_word}
-use Rattle.pp_model.specs.Reads.{Steps, passes, gives, defines, repeats, redefines, decides, undecided, renumbers, unnumbered, Reads, here, later}
+use Rattle.pp_model.specs.Reads.{Steps, Reads, here, later}
 use Rattle.pp_model.specs.Painting.{taken_of}
 use Rattle.pp_model.specs.declared.directive.Directive.{Directive}
 use Rattle.pp_model.specs.declared.outcome.Outcome.{Outcome}
@@ -19,7 +19,7 @@ use Rattle.pp_model.specs.declared.sight.Sight.{Sight}
 use Rattle.pp_model.specs.declared.sight.Sight.TheVariants as sight
 use Rattle.pp_model.specs.declared.step.Step.{Step}
 use Rattle.pp_model.specs.declared.step.Step.TheVariants as step
-use Rattle.pp_model.proofs.ReadsLemmas.{gives_that}
+use Rattle.pp_model.proofs.ReadsLemmas.{does_that, GivenBy, given_by}
 use Rattle.pp_model.proofs.ActsLemmas.{HoldsOfDead, HoldsOfLive, dead_directive_holds, live_directive_holds}
 
 -- the block whose fault is reported next at the source's end
@@ -113,20 +113,23 @@ given_end (outcome.Fault fault) e = cc
 given_end outcome.End e = refl
 
 module _ (A : Answers) where
+  no_end_given : (Some outcome.End ≡ None) ⊎ ((fault : Fault) × (Some outcome.End ≡ Some (outcome.Fault fault))) → ⊥
+  no_end_given (inl e) = cc
+  no_end_given (inr e) = let bad = e.1 in cc
+
   -- a step that gives the end stands there
   step_ends : (r t : SourceReader) → Steps A r (Some outcome.End) t → IsAtEnd r × (t ≡ r)
-  step_ends r t (passes o r1 t1 h p q) = cc
-  step_ends r t (gives x o r1 t1 h p q) =
-      let is : x ≡ outcome.End = cc in
-      let end = only_at_end r (rw is at h) in
-      (end, q ∙ ap (λ a. a.after) (end_acts r end))
-  step_ends r t (defines named o r1 t1 h k p q) = cc
-  step_ends r t (repeats named old o r1 t1 h k same p q) = cc
-  step_ends r t (redefines named old o r1 t1 h k other p q) = cc
-  step_ends r t (decides word tokens holds o r1 t1 h is p q) = cc
-  step_ends r t (undecided word tokens fault o r1 t1 h is p q) = cc
-  step_ends r t (renumbers word tokens n o r1 t1 h is p q) = cc
-  step_ends r t (unnumbered word tokens fault o r1 t1 h is p q) = cc
+  step_ends r t s = go (act r).step refl (given_by A r (Some outcome.End) t (act r).step (act r).after s)
+    where
+      go : (did : Step) → (act r).step ≡ did → GivenBy did (Some outcome.End) → IsAtEnd r × (t ≡ r)
+      go (step.Given x) h g =
+          let end = only_at_end r (h ∙ ap step.Given (let same : x ≡ outcome.End = cc in same)) in
+          let acts = end_acts r end in
+          (end, (does_that A (step.Given outcome.End) r (Some outcome.End) t (ap (λ a. a.step) acts) s).1 ∙ ap (λ a. a.after) acts)
+      go step.Passed h g = absurd (no_end_given g)
+      go (step.Defines named) h g = absurd (no_end_given g)
+      go (step.Condition word tokens) h g = absurd (no_end_given g)
+      go (step.LineNumber word tokens) h g = absurd (no_end_given g)
 
   -- after the end that is read the reader stands there,
   pub reading_ends : (x : Taken) (r t : SourceReader) → Reads A r x t → x ≡ taken.End → IsAtEnd t
@@ -140,9 +143,9 @@ module _ (A : Answers) where
   pub reading_at_end : (x : Taken) (r t : SourceReader) → IsAtEnd r → Reads A r x t → (x ≡ taken.End) × (t ≡ r)
   reading_at_end x r t end (here o1 x1 r1 t1 s p) =
       let acts = end_acts r end in
-      let same = gives_that A outcome.End r (Some o1) t (ap (λ a. a.step) acts) s in
+      let same = does_that A (step.Given outcome.End) r (Some o1) t (ap (λ a. a.step) acts) s in
       let is : o1 ≡ outcome.End = (let z = same.0 in cc) in
       (p ∙ ap taken_of is, same.1 ∙ ap (λ a. a.after) acts)
   reading_at_end x r t end (later o1 r1 s t1 h more) =
-      let same = (gives_that A outcome.End r None s (ap (λ a. a.step) (end_acts r end)) h).0 in
+      let same = (does_that A (step.Given outcome.End) r None s (ap (λ a. a.step) (end_acts r end)) h).0 in
       cc

@@ -1,5 +1,5 @@
 -- What holds of each token among a source's items holds of each token that reading it gives, and of the bodies that it defines.
-use Rattle.std.proofs.Common.{◌≡◌, ℕ, ℤ, pos, ◌+ℤ◌, Bool, true, false, if◌then◌else◌, List, [], ◌∷◌, drop, zero, suc, refl, sym, subst, Option, Some, None, arith}
+use Rattle.std.proofs.Common.{◌≡◌, ℕ, ℤ, pos, ◌+ℤ◌, Bool, true, false, if◌then◌else◌, List, [], ◌∷◌, drop, zero, suc, refl, sym, subst, Option, Some, None, inl, inr, arith}
 use Rattle.std.specs.Prelude.{⊤, IfOk, IfSome, Result, Ok, Err}
 use Rattle.std.specs.List.{AllByRecursion as Each}
 use Rattle.pp_lexer.specs.Items.{Lexeme}
@@ -23,7 +23,7 @@ use Rattle.pp_model.specs.SourceReader.{SourceReader}
 use Rattle.pp_model.specs.Moves.{BlockFacts, move_at, directive_move}
 use Rattle.pp_model.specs.Acts.{Acted, pause_at, advanced_by, end_by, perform, facts_here, act}
 use Rattle.pp_model.specs.inner.Acts.{perform_line, item_at, items_left, after_word}
-use Rattle.pp_model.specs.Reads.{Steps, passes, gives, defines, repeats, redefines, decides, undecided, renumbers, unnumbered, Reads, here, later, source_reading}
+use Rattle.pp_model.specs.Reads.{Steps, Reads, here, later, source_reading}
 use Rattle.pp_model.specs.declared.definition.Named.{Named}
 use Rattle.pp_model.specs.declared.directive.Directive.{Directive}
 use Rattle.pp_model.specs.Painting.{taken_of}
@@ -32,11 +32,13 @@ use Rattle.pp_model.specs.declared.read.Taken.{Taken}
 use Rattle.pp_model.specs.declared.outcome.Outcome.TheVariants as outcome
 use Rattle.pp_model.specs.declared.sight.Sight.{Sight}
 use Rattle.pp_model.specs.declared.sight.Sight.TheVariants as sight
+use Rattle.pp_model.specs.declared.step.Step.{Step}
 use Rattle.pp_model.specs.declared.step.Step.TheVariants as step
 use Rattle.pp_model.proofs.MovesLemmas.{directive_holds}
 use Rattle.pp_model.proofs.ActsLemmas.{HoldsOfDead}
 use Rattle.pp_model.proofs.HoldingLemmas.{AreClosed, HoldInBodies, HoldsOfTaken}
 use Rattle.pp_model.proofs.KeptItemsLemmas.{step_keeps_items}
+use Rattle.pp_model.proofs.ReadsLemmas.{GivenBy, HoldsAfter, given_by, holds_after}
 use Rattle.pp_model.proofs.KeptTokensLemmas.{ReaderKeeps}
 use Rattle.pp_model.proofs.LineHoldsLemmas.{HoldsOfLexeme, HoldInItems, defined_holds}
 
@@ -177,18 +179,13 @@ module _ (Q : Token → Type 0) (L : ℕ → Type 0) (closed : AreClosed Q L) wh
           failing = λ fault. dead.fault fault;
           refusing = λ fault. dead.fault fault;
           unknown = λ live its. dead.nothing 2 (omega arith);
-          passing = λ its. dead.nothing _ (omega arith);
+          passing = λ why. dead.nothing _ (omega arith);
           items = λ live its value is. given_holds _ _ (items_hold _ (is _ _) l) refl;
           defining = λ live its named is. define_holds named _ (line_defines word named is) refl;
           undefining = λ live its name. passed_holds _ (undefined_holds r.definitions name bodies);
           numbering = λ live its tokens. record { token = λ token e. cc; body = λ named e. cc; bodies = bodies };
-          asking = λ live its holds name. passed_holds _ bodies;
-          opening = λ live its tokens. dead.wanted word tokens;
-          unread = λ live its. dead.nothing _ (omega arith);
-          parting = λ its found is none. dead.nothing _ (omega arith);
-          skipping = λ its found is none skips. dead.nothing _ (omega arith);
-          choosing = λ its found is none reads tokens. dead.wanted word tokens;
-          closing = λ its found is. dead.nothing _ (omega arith);
+          testing = λ live its holds name. passed_holds _ bodies;
+          deciding = λ why tokens. dead.wanted word tokens;
         })
 
     text_acts : (live : Bool) (block : Option BlockFacts) (s : Sight) → HoldsOfSight s → HoldsOfAct (perform (move_at live block s (items_left r)) r)
@@ -218,46 +215,43 @@ module _ (Q : Token → Type 0) (L : ℕ → Type 0) (closed : AreClosed Q L) wh
   outcome_holds a (outcome.Fault fault) h e = tt
   outcome_holds a outcome.End h e = tt
 
+  unless_given : (o : Option Outcome) → GivenBy step.Passed o → IfSome o (HoldsOfOutcome Q)
+  unless_given o (inl n) = subst (λ (x : Option Outcome). IfSome x (HoldsOfOutcome Q)) (sym n) tt
+  unless_given o (inr n) = subst (λ (x : Option Outcome). IfSome x (HoldsOfOutcome Q)) (sym n.1) tt
+
   module _ (items_hold : DirectiveItemsHold) (A : Answers) where
-    step_bodies : (o : Option Outcome) (r t : SourceReader) → Steps A r o t → HoldsOfReader r → IfSome o (HoldsOfOutcome Q) × HoldInBodies Q t.definitions
-    step_bodies o r t (passes o1 r1 t1 e p q) h =
-        let a = act_holds items_hold r h.0 h.1 in
-        (subst (λ (x : Option Outcome). IfSome x (HoldsOfOutcome Q)) (sym p) tt, subst (λ (x : SourceReader). HoldInBodies Q x.definitions) (sym q) a.bodies)
-    step_bodies o r t (gives x o1 r1 t1 e p q) h =
-        let a = act_holds items_hold r h.0 h.1 in (
-          subst (λ (y : Option Outcome). IfSome y (HoldsOfOutcome Q)) (sym p) (outcome_holds (act r) x a e),
-          subst (λ (y : SourceReader). HoldInBodies Q y.definitions) (sym q) a.bodies,
-        )
-    step_bodies o r t (defines named o1 r1 t1 e k p q) h =
-        let a = act_holds items_hold r h.0 h.1 in (
-          subst (λ (x : Option Outcome). IfSome x (HoldsOfOutcome Q)) (sym p) tt,
-          subst (λ (x : SourceReader). HoldInBodies Q x.definitions) (sym q)
-              (defined_now_holds (act r).after.definitions named.name named.definition a.bodies (a.body named e)),
-        )
-    step_bodies o r t (repeats named old o1 r1 t1 e k same p q) h =
-        let a = act_holds items_hold r h.0 h.1 in
-        (subst (λ (x : Option Outcome). IfSome x (HoldsOfOutcome Q)) (sym p) tt, subst (λ (x : SourceReader). HoldInBodies Q x.definitions) (sym q) a.bodies)
-    step_bodies o r t (redefines named old o1 r1 t1 e k other p q) h =
-        let a = act_holds items_hold r h.0 h.1 in
-        (subst (λ (x : Option Outcome). IfSome x (HoldsOfOutcome Q)) (sym p) tt, subst (λ (x : SourceReader). HoldInBodies Q x.definitions) (sym q) a.bodies)
-    step_bodies o r t (decides word tokens holds o1 r1 t1 e is p q) h =
-        (subst (λ (x : Option Outcome). IfSome x (HoldsOfOutcome Q)) (sym p) tt, subst (λ (x : SourceReader). HoldInBodies Q x.definitions) (sym q) h.1)
-    step_bodies o r t (undecided word tokens fault o1 r1 t1 e is p q) h =
-        (subst (λ (x : Option Outcome). IfSome x (HoldsOfOutcome Q)) (sym p) tt, subst (λ (x : SourceReader). HoldInBodies Q x.definitions) (sym q) h.1)
-    step_bodies o r t (renumbers word tokens n o1 r1 t1 e is p q) h =
-        (subst (λ (x : Option Outcome). IfSome x (HoldsOfOutcome Q)) (sym p) tt, subst (λ (x : SourceReader). HoldInBodies Q x.definitions) (sym q) h.1)
-    step_bodies o r t (unnumbered word tokens fault o1 r1 t1 e is p q) h =
-        (subst (λ (x : Option Outcome). IfSome x (HoldsOfOutcome Q)) (sym p) tt, subst (λ (x : SourceReader). HoldInBodies Q x.definitions) (sym q) h.1)
+    module _ (r : SourceReader) (h : HoldsOfReader r) where
+      acted : HoldsOfAct (act r)
+      acted = act_holds items_hold r h.0 h.1
+
+      outcome_given : (did : Step) (o : Option Outcome) → (act r).step ≡ did → GivenBy did o → IfSome o (HoldsOfOutcome Q)
+      outcome_given (step.Given x) o e g = subst (λ (y : Option Outcome). IfSome y (HoldsOfOutcome Q)) (sym g) (outcome_holds (act r) x acted e)
+      outcome_given step.Passed o e g = unless_given o g
+      outcome_given (step.Defines named) o e g = unless_given o g
+      outcome_given (step.Condition word tokens) o e g = unless_given o g
+      outcome_given (step.LineNumber word tokens) o e g = unless_given o g
+
+      bodies_after : (did : Step) → (act r).step ≡ did → HoldsAfter (λ t. HoldInBodies Q t.definitions) r did (act r).after
+      bodies_after step.Passed e = acted.bodies
+      bodies_after (step.Given x) e = acted.bodies
+      bodies_after (step.Defines named) e =
+          (acted.bodies, defined_now_holds (act r).after.definitions named.name named.definition acted.bodies (acted.body named e))
+      bodies_after (step.Condition word tokens) e = (h.1, λ holds. acted.bodies)
+      bodies_after (step.LineNumber word tokens) e = (h.1, λ n. acted.bodies)
+
+    step_holds : (o : Option Outcome) (r t : SourceReader) → Steps A r o t → HoldsOfReader r → IfSome o (HoldsOfOutcome Q) × HoldsOfReader t
+    step_holds o r t s h = (
+      outcome_given r h (act r).step o refl (given_by A r o t (act r).step (act r).after s),
+      (
+        subst (λ (x : List Seen). HoldInItems Q x) (sym (step_keeps_items A o r t s)) h.0,
+        holds_after A r o t (λ t. HoldInBodies Q t.definitions) (act r).step (act r).after (bodies_after r h (act r).step refl) s,
+      ),
+    )
 
     unpainted_holds : (o : Outcome) → HoldsOfOutcome Q o → HoldsOfTaken Q (taken_of o)
     unpainted_holds (outcome.Token token) q = q
     unpainted_holds (outcome.Fault fault) q = tt
     unpainted_holds outcome.End q = tt
-
-    step_holds : (o : Option Outcome) (r t : SourceReader) → Steps A r o t → HoldsOfReader r → IfSome o (HoldsOfOutcome Q) × HoldsOfReader t
-    step_holds o r t s h =
-        let b = step_bodies o r t s h in
-        (b.0, (subst (λ (x : List Seen). HoldInItems Q x) (sym (step_keeps_items A o r t s)) h.0, b.1))
 
     reading_holds : (r t : SourceReader) (x : Taken) → Reads A r x t → HoldsOfReader r → HoldsOfTaken Q x × HoldsOfReader t
     reading_holds r t x (here o x1 r1 t1 s p) h =

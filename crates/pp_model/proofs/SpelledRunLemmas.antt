@@ -30,7 +30,7 @@ use Rattle.pp_model.specs.SpliceList.{outermost_line}
 use Rattle.pp_model.specs.Taking.{line_number, Takes, read, shown_token, shown_outcome}
 use Rattle.pp_model.specs.Calls.{Answers}
 use Rattle.pp_model.specs.Emitting.{Emits, itself}
-use Rattle.pp_model.specs.Reads.{Steps, passes, gives, Reads, here, later, source_reading, shown_line}
+use Rattle.pp_model.specs.Reads.{Steps, Reads, here, later, source_reading, shown_line}
 use Rattle.pp_model.specs.Run.{by_rules, start, Runs, done, given}
 use Rattle.pp_model.specs.RespellLaws.{calls_for, replies_with}
 use Rattle.pp_model.specs.declared.call.Reply.TheVariants as reply
@@ -41,6 +41,7 @@ use Rattle.pp_model.specs.Painting.{unpainted, is_one_of, taken_among}
 use Rattle.pp_model.specs.declared.sight.Sight.{Sight}
 use Rattle.pp_model.specs.declared.sight.Sight.TheVariants as sight
 use Rattle.pp_model.specs.declared.step.Step.TheVariants as step
+use Rattle.pp_model.proofs.ReadsLemmas.{act_does}
 
 -- the value of an item that is no number sign
 abbrev pub IsNoHash : Seen → Type 0
@@ -159,7 +160,8 @@ module _ (A : Answers) (items : List Seen) (all : Each IsNoHash items) where
       let a = act_there position (sight.Token token) e in
       let r = reader_at items position in
       let s : Steps A r (Some (outcome.Token token)) (reader_at items (position + 1)) =
-      gives (outcome.Token token) (Some (outcome.Token token)) r (reader_at items (position + 1)) (ap (λ x. x.step) a) refl (sym (ap (λ x. x.after) a)) in
+      act_does A (step.Given (outcome.Token token)) (reader_at items (position + 1)) r (Some (outcome.Token token)) (reader_at items (position + 1)) a
+      (refl, refl) in
       itself (taken.Token (unpainted token)) (state_at items position) (state_at items (position + 1))
       (taken_there position (taken.Token (unpainted token)) (taken.Token (unpainted token)) (position + 1)
       (here (outcome.Token token) (taken.Token (unpainted token)) r (reader_at items (position + 1)) s refl)
@@ -174,7 +176,7 @@ module _ (A : Answers) (items : List Seen) (all : Each IsNoHash items) where
       let r = reader_at items position in
       let a : act r ≡ record { step = step.Given outcome.End; after = r } = act_there position sight.End (ap sight_of e)
       ∙ ap (λ block. end_by block r) ended_there in
-      here outcome.End taken.End r r (gives outcome.End (Some outcome.End) r r (ap (λ x. x.step) a) refl (sym (ap (λ x. x.after) a))) refl
+      here outcome.End taken.End r r (act_does A (step.Given outcome.End) r r (Some outcome.End) r a (refl, refl)) refl
 
   -- after the last token a newline may stand
   reads_newline : (position : ℕ) → sight_of (drop position items) ≡ sight.NewLine → drop (position + 1) items ≡ []
@@ -183,7 +185,7 @@ module _ (A : Answers) (items : List Seen) (all : Each IsNoHash items) where
       let r = reader_at items position in
       let a = act_there position sight.NewLine e in
       later taken.End r (reader_at items (position + 1)) (reader_at items (position + 1))
-      (passes None r (reader_at items (position + 1)) (ap (λ x. x.step) a) refl (sym (ap (λ x. x.after) a))) (reads_end (position + 1) last)
+      (act_does A step.Passed (reader_at items (position + 1)) r None (reader_at items (position + 1)) a (refl, refl)) (reads_end (position + 1) last)
 
   gives_end : (position after : ℕ) → Reads A (reader_at items position) taken.End (reader_at items after)
       → Emits (source_reading A) A (state_at items position) taken.End (state_at items after)

@@ -39,21 +39,15 @@ pub data Effect : Type 0 where
   -- gives a fault; or at the end of the source the fault of each block that is open, and then the end
   fails : Fault → Effect
   ends : Effect
-  -- gives nothing
+  -- Gives nothing. A line that opens, parts or closes a block and has no condition does no more: which blocks are open
+  -- follows from the lines that were passed.
   passes : Effect
   -- defines a name, or takes its definition away
   defines : Named → Effect
   undefines : Name → Effect
-  -- opens a block: with a condition on whether a name is defined, with the condition of these tokens, or unread
-  opens_where : (Bool → Bool) → Location → Name → Effect
-  opens_if : Location → List Token → Effect
-  opens_unread : Location → Effect
-  -- parts the innermost block by its `#else`, by an `#elif` that is skipped, or by an `#elif` with a condition; or
-  -- closes it
-  parts : Effect
-  skips_branch : Effect
-  parts_if : Location → List Token → Effect
-  closes : Effect
+  -- notes a condition: on whether a name is defined, or that of these tokens
+  tests : (Bool → Bool) → Name → Effect
+  decides : Location → List Token → Effect
   -- numbers the lines after it anew
   renumbers : Location → List Token → Effect
 
@@ -75,8 +69,8 @@ line_move (Ok value) effect after = record { effect = effect value; taken = line
 line_move (Err fault) effect after = failing fault
 
 -- a line that is skipped, except for the lexer's errors
-abbrev pub skip_move : Effect → List Seen → Move
-skip_move effect line = option_map_or failing (line_fault line) (record { effect = effect; taken = line_length line })
+abbrev pub skip_move : List Seen → Move
+skip_move line = option_map_or failing (line_fault line) (passing (line_length line))
 
 -- an item that holds the tokens of its line
 abbrev pub item_move : (List Entry → Bool → Bool → TokenValue) → Location → List Seen → Move
@@ -97,13 +91,13 @@ abbrev pub elif_move : Option BlockFacts → Location → List Seen → Move
 elif_move None word after = failing (ElifOutsideOfBlock, word)
 elif_move (Some block) word after =
     if block.has_else then failing (ElifAfterElse, word)
-    else if not block.are_surroundings_live || block.has_taken_branch then skip_move skips_branch after
-    else line_move (line_tokens after) (parts_if word) after
+    else if not block.are_surroundings_live || block.has_taken_branch then skip_move after
+    else line_move (line_tokens after) (decides word) after
 
 -- an `#else` of the innermost block, if its line ends as it must
 abbrev pub else_effect : Option BlockFacts → Location → Effect
 else_effect None word = fails (ElseOutsideOfBlock, word)
-else_effect (Some block) word = if block.has_else then fails (MoreThanOneElse, word) else parts
+else_effect (Some block) word = if block.has_else then fails (MoreThanOneElse, word) else passes
 
 abbrev pub else_move : Option BlockFacts → Location → List Seen → Move
 else_move block word after = line_move (ended_line word after) (λ end. else_effect block word) after
@@ -112,8 +106,7 @@ else_move block word after = line_move (ended_line word after) (λ end. else_eff
 abbrev pub endif_move : Option BlockFacts → Location → List Seen → Move
 endif_move None word after = failing (EndifOutsideOfBlock, word)
 endif_move (Some block) word after =
-    if block.are_surroundings_live then line_move (ended_line word after) (λ end. closes) after
-    else skip_move closes after
+    if block.are_surroundings_live then line_move (ended_line word after) (λ end. passes) after else skip_move after
 
 -- A directive in live or in dead text, if these items come after its word. The directives that part and close blocks
 -- act in dead text too.
@@ -124,21 +117,18 @@ directive_move live block d.Endif word after = endif_move block word after
 -- In live text each other directive acts.
 directive_move true block d.Define word after = line_move (defined_on word after) defines after
 directive_move true block d.Undef word after = line_move (only_name word after) undefines after
-directive_move true block d.If word after = line_move (line_tokens after) (opens_if word) after
-directive_move true block d.Ifdef word after = line_move (only_name word after) (opens_where (λ is. is) word) after
-directive_move true block d.Ifndef word after = line_move (only_name word after) (opens_where not word) after
+directive_move true block d.If word after = line_move (line_tokens after) (decides word) after
+directive_move true block d.Ifdef word after = line_move (only_name word after) (tests (λ is. is)) after
+directive_move true block d.Ifndef word after = line_move (only_name word after) (tests not) after
 directive_move true block d.Error word after = failing (ErrorDirective, word)
 directive_move true block d.Line word after = line_move (line_tokens after) (renumbers word) after
 directive_move true block d.Version word after = item_move (version_item (comments_before_end after)) word after
 directive_move true block d.Extension word after = item_move extension_item word after
 directive_move true block d.Pragma word after = item_move pragma_item word after
 directive_move true block d.Unknown word after = failing (UnknownDirective, word)
--- In dead text a block is opened unread; after an unknown word the line is dead text; each other line is skipped.
-directive_move false block d.If word after = skip_move (opens_unread word) after
-directive_move false block d.Ifdef word after = skip_move (opens_unread word) after
-directive_move false block d.Ifndef word after = skip_move (opens_unread word) after
+-- In dead text each other line is skipped, also one that opens a block; after an unknown word it is dead text.
 directive_move false block d.Unknown word after = passing 0
-directive_move false block _ word after = skip_move passes after
+directive_move false block _ word after = skip_move after
 
 -- what is at the front of these items does this, in live or in dead text, if these are the facts of the innermost block
 abbrev pub move_at : Bool → Option BlockFacts → Sight → List Seen → Move

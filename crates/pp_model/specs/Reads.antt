@@ -1,85 +1,58 @@
 -- Reading a source: what comes next, once directives have acted (GLSL ES 3.20, section 3.4,
 -- and docs/RULES.md, Directives).
-use Rattle.std.specs.Prelude.{◌≡◌, ℕ, pos, ◌+ℤ◌, ◌-ℤ◌, Bool, false, List, Option, Some, None, Ok, Err}
-use Rattle.pp_lexer.specs.declared.token.Location.{Location}
+use Rattle.std.specs.Prelude.{◌≡◌, ◌⊎◌, ℕ, pos, ◌+ℤ◌, ◌-ℤ◌, Bool, false, Option, Some, None, Result, Ok, Err}
 use Rattle.pp_lexer.specs.declared.token.PreprocessorError.TheVariants.{DefineRedefined}
-use Rattle.pp_lexer.specs.declared.token.Token.{Token}
 use Rattle.pp_model.specs.Definitions.{Definition, with_change, IsSameDefinition}
 use Rattle.pp_model.specs.Painting.{taken_of}
 use Rattle.pp_model.specs.Reading.{Reading}
 use Rattle.pp_model.specs.Calls.{Fault, Answers}
 use Rattle.pp_model.specs.LineValues.{IsCondition, IsLineNumber, as_line_number}
 use Rattle.pp_model.specs.SourceReader.{SourceReader}
-use Rattle.pp_model.specs.Acts.{act, after_line, decided}
+use Rattle.pp_model.specs.Acts.{act, decided}
 use Rattle.pp_model.specs.declared.definition.Named.{Named}
 use Rattle.pp_model.specs.declared.outcome.Outcome.{Outcome}
 use Rattle.pp_model.specs.declared.outcome.Outcome.TheVariants as outcome
 use Rattle.pp_model.specs.declared.read.Taken.{Taken}
+use Rattle.pp_model.specs.declared.step.Step.{Step}
 use Rattle.pp_model.specs.declared.step.Step.TheVariants as step
 
 -- the line number that `__LINE__` shows for a line
 abbrev pub shown_line : SourceReader → ℕ → Option ℕ
 shown_line reader line = as_line_number (pos line +ℤ reader.line_offset)
 
--- One token or line of the source: it gives something, or nothing. `A` says what calls in `#if`, `#elif` and `#line`
--- lines give.
-pub data Steps (A : Answers) : SourceReader → Option Outcome → SourceReader → Type 0 where
-  -- it gives nothing
-  passes : (o : Option Outcome) (r t : SourceReader)
-      → (act r).step ≡ step.Passed
-      → o ≡ None → t ≡ (act r).after
-      → Steps A r o t
-  -- it gives a token, an error or the end
-  gives : (x : Outcome) (o : Option Outcome) (r t : SourceReader)
-      → (act r).step ≡ step.Given x
-      → o ≡ Some x → t ≡ (act r).after
-      → Steps A r o t
-  -- a `#define` of a new name
-  defines : (named : Named) (o : Option Outcome) (r t : SourceReader)
-      → (act r).step ≡ step.Defines named
-      → r.definitions named.name ≡ None
-      → o ≡ None
-      → t ≡ record (act r).after
-      { definitions = with_change (act r).after.definitions named.name (Some named.definition) }
-      → Steps A r o t
-  -- a `#define` that says what was said before: the old definition stays
-  repeats : (named : Named) (old : Definition) (o : Option Outcome) (r t : SourceReader)
-      → (act r).step ≡ step.Defines named
-      → r.definitions named.name ≡ Some old
-      → IsSameDefinition old named.definition
-      → o ≡ None → t ≡ (act r).after
-      → Steps A r o t
-  -- a `#define` that says something else: a fault, and the old definition stays
-  redefines : (named : Named) (old : Definition) (o : Option Outcome) (r t : SourceReader)
-      → (act r).step ≡ step.Defines named
-      → r.definitions named.name ≡ Some old
-      → (IsSameDefinition old named.definition → ⊥)
-      → o ≡ Some (outcome.Fault (DefineRedefined, named.location)) → t ≡ (act r).after
-      → Steps A r o t
-  -- an `#if` or `#elif` whose condition holds or not
-  decides : (word : Location) (tokens : List Token) (holds : Bool) (o : Option Outcome) (r t : SourceReader)
-      → (act r).step ≡ step.Condition word tokens
-      → IsCondition A word tokens r.definitions (Ok holds)
-      → o ≡ None → t ≡ decided r holds
-      → Steps A r o t
-  -- an `#if` or `#elif` whose condition has a fault
-  undecided : (word : Location) (tokens : List Token) (fault : Fault) (o : Option Outcome) (r t : SourceReader)
-      → (act r).step ≡ step.Condition word tokens
-      → IsCondition A word tokens r.definitions (Err fault)
-      → o ≡ Some (outcome.Fault fault) → t ≡ r
-      → Steps A r o t
-  -- a `#line`: it adds to later lines its number less the line of its word
-  renumbers : (word : Location) (tokens : List Token) (n : ℕ) (o : Option Outcome) (r t : SourceReader)
-      → (act r).step ≡ step.LineNumber word tokens
-      → IsLineNumber A word tokens r.definitions (Ok n)
-      → o ≡ None → t ≡ record (after_line r) { line_offset = pos n -ℤ pos word.line }
-      → Steps A r o t
-  -- a `#line` with a fault
-  unnumbered : (word : Location) (tokens : List Token) (fault : Fault) (o : Option Outcome) (r t : SourceReader)
-      → (act r).step ≡ step.LineNumber word tokens
-      → IsLineNumber A word tokens r.definitions (Err fault)
-      → o ≡ Some (outcome.Fault fault) → t ≡ r
-      → Steps A r o t
+-- A `#define` of a name that had this definition, if it had one: a new name is defined. The same definition again gives
+-- nothing, another one is a fault, and both leave the old one.
+abbrev pub Defines : Named → Option Definition → SourceReader → Option Outcome → SourceReader → Type 0
+Defines named None after o t =
+    (o ≡ None) × (t ≡ record after { definitions = with_change after.definitions named.name (Some named.definition) })
+Defines named (Some old) after o t =
+    (t ≡ after)
+    × ((IsSameDefinition old named.definition × (o ≡ None))
+    ⊎ ((IsSameDefinition old named.definition → ⊥) × (o ≡ Some (outcome.Fault (DefineRedefined, named.location)))))
+
+-- A line of this value gives nothing, and `next` says which reader comes after it. A fault is given, and the reader `r`
+-- stays as it is.
+abbrev pub Evaluated : {A : Type 0} → Result A Fault → (next : A → SourceReader) → SourceReader → Option Outcome
+    → SourceReader → Type 0
+Evaluated (Ok value) next r o t = (o ≡ None) × (t ≡ next value)
+Evaluated (Err fault) next r o t = (o ≡ Some (outcome.Fault fault)) × (t ≡ r)
+
+-- What a step of the reader `r` gives, and the reader `t` after it, if `after` is the reader after the items that it
+-- takes. `A` says what calls in `#if`, `#elif` and `#line` lines give.
+abbrev pub Does : Answers → SourceReader → Step → SourceReader → Option Outcome → SourceReader → Type 0
+Does A r step.Passed after o t = (o ≡ None) × (t ≡ after)
+Does A r (step.Given x) after o t = (o ≡ Some x) × (t ≡ after)
+Does A r (step.Defines named) after o t = Defines named (r.definitions named.name) after o t
+Does A r (step.Condition word tokens) after o t =
+    (condition : Result Bool Fault) × IsCondition A word tokens r.definitions condition
+    × Evaluated condition (λ holds. decided r.position holds after) r o t
+Does A r (step.LineNumber word tokens) after o t =
+    (number : Result ℕ Fault) × IsLineNumber A word tokens r.definitions number
+    × Evaluated number (λ n. record after { line_offset = pos n -ℤ pos word.line }) r o t
+
+-- One token or line of the source: it gives something, or nothing.
+abbrev pub Steps : Answers → SourceReader → Option Outcome → SourceReader → Type 0
+Steps A r o t = Does A r (act r).step (act r).after o t
 
 -- What reading gives next, unpainted: the first step that gives something.
 pub data Reads (A : Answers) : SourceReader → Taken → SourceReader → Type 0 where

@@ -1,12 +1,13 @@
 //! A source as a reader after an expander.
 
 ghost use Rattle.std.specs.Prelude.{◌≡◌, ◌≤◌, ◌+◌, Some, length, IfOk};
-ghost use Rattle.pp_reference.specs.inner.Acting.{Defining, Deciding, Renumbering};
+ghost use Rattle.pp_model.specs.inner.Acts.{after_line};
 ghost use Rattle.pp_reference.specs.inner.Changes.{meaning_of};
 ghost use Rattle.pp_model.specs.Emitting.{answers_at, expansion_limit};
 ghost use Rattle.pp_reference.specs.inner.ReaderState.{reader_of};
-ghost use Rattle.pp_model.specs.Reads.{Steps};
+ghost use Rattle.pp_model.specs.Reads.{Defines, Does, Steps};
 ghost use Rattle.pp_model.specs.declared.outcome.Outcome.TheVariants as outcome;
+ghost use Rattle.pp_model.specs.declared.step.Step.TheVariants as step;
 
 use crate::condition::{condition, line_number};
 use crate::definitions::Definitions;
@@ -41,7 +42,7 @@ fn fault_outcome(fault: Fault) -> Option<Outcome>
 impl<'a> Source<'a> {
     // Defines the name, unless it has another definition already.
     fn define(&mut self, named: Named) -> Result<Option<Outcome>, Stop>
-        ensures { IfOk result (λ o. Defining named
+        ensures { IfOk result (λ o. Defines named
             (meaning_of self.old.reader.changes named.name) (reader_of self.old.reader) o
             (reader_of self.new.reader)) }
     {
@@ -65,8 +66,9 @@ impl<'a> Source<'a> {
         budget: &mut Budget,
     ) -> Result<Option<Outcome>, Stop>
         requires { self.old.reader.position + 2 ≤ length self.old.reader.items }
-        ensures decides { IfOk result (λ o. Deciding (answers_at expansion_limit) word tokens
-            (reader_of self.old.reader) o (reader_of self.new.reader)) }
+        ensures decides { IfOk result (λ o. Does (answers_at expansion_limit)
+            (reader_of self.old.reader) (step.Condition word tokens)
+            (after_line (reader_of self.old.reader)) o (reader_of self.new.reader)) }
         ensures budget { budget.new.steps ≤ budget.old.steps }
     {
         let definitions = &self.reader.definitions;
@@ -95,9 +97,9 @@ impl<'a> Source<'a> {
         budget: &mut Budget,
     ) -> Result<Option<Outcome>, Stop>
         requires { self.old.reader.position + 2 ≤ length self.old.reader.items }
-        ensures renumbers { IfOk result
-            (λ o. Renumbering (answers_at expansion_limit) word tokens
-            (reader_of self.old.reader) o (reader_of self.new.reader)) }
+        ensures renumbers { IfOk result (λ o. Does (answers_at expansion_limit)
+            (reader_of self.old.reader) (step.LineNumber word tokens)
+            (after_line (reader_of self.old.reader)) o (reader_of self.new.reader)) }
         ensures budget { budget.new.steps ≤ budget.old.steps }
     {
         let definitions = &self.reader.definitions;

@@ -4,7 +4,7 @@ ghost use Rattle.std.specs.Prelude.{◌≡◌, ◌≤◌, ◌+◌, Some, None, l
 ghost use Rattle.pp_model.specs.Lines.{only_name, line_tokens, comments_before_end};
 ghost use Rattle.pp_model.specs.DefineLines.{defined_on};
 ghost use Rattle.std.specs.Option.{option_copied};
-ghost use Rattle.pp_reference.specs.inner.Acting.{ActsAs, HasLine, HasLineIfOk};
+ghost use Rattle.pp_reference.specs.inner.Acting.{ActsAs, HasLine, HasLineIfOk, arrived};
 ghost use Rattle.pp_model.specs.Acts as spec;
 ghost use Rattle.pp_model.specs.inner.Acts as parts;
 ghost use Rattle.pp_model.specs.Moves as moves;
@@ -84,7 +84,7 @@ impl<'a> SourceReader<'a> {
     // Moves past the directive's line.
     fn pass_line(&mut self)
         requires { self.old.position + 2 ≤ length self.old.items }
-        ensures { (reader_of self.new) ≡ spec.after_line (reader_of self.old) }
+        ensures { (reader_of self.new) ≡ parts.after_line (reader_of self.old) }
     {
         let length = line_length(self.after_word());
         self.position += 2 + length;
@@ -94,9 +94,9 @@ impl<'a> SourceReader<'a> {
     fn skip_line(&mut self, alloc: Global) -> Result<Step, Halt>
         requires { self.old.position + 2 ≤ length self.old.items }
         ensures acts { ActsAs result (parts.perform_line
-            (moves.skip_move moves.passes (parts.after_word (reader_of self.old)))
+            (moves.skip_move (parts.after_word (reader_of self.old)))
             (reader_of self.old)) (reader_of self.new) }
-        ensures line { HasLineIfOk result self.new }
+        ensures line { HasLineIfOk result self.old self.new }
     {
         match line_fault(alloc, self.after_word())? {
             Some(fault) => Err(Halt::Fault(fault)),
@@ -110,7 +110,7 @@ impl<'a> SourceReader<'a> {
     /// Notes whether the condition of a line holds, and moves past the line.
     pub fn decide(&mut self, holds: bool) -> Result<(), Stop>
         requires { self.old.position + 2 ≤ length self.old.items }
-        ensures { OnOk result ((reader_of self.new) ≡ spec.decided (reader_of self.old) holds) }
+        ensures { OnOk result (reader_of self.new ≡ parts.after_condition (reader_of self.old) holds) }
     {
         let position = self.position;
         self.truths.insert(0, Truth { position, holds })?;
@@ -152,9 +152,9 @@ impl<'a> SourceReader<'a> {
         requires { self.old.position + 2 ≤ length self.old.items }
         ensures acts { ActsAs result (parts.perform_line
             (moves.line_move (line_tokens (parts.after_word (reader_of self.old)))
-            (moves.opens_if word) (parts.after_word (reader_of self.old)))
+            (moves.decides word) (parts.after_word (reader_of self.old)))
             (reader_of self.old)) (reader_of self.new) }
-        ensures line { HasLineIfOk result self.new }
+        ensures line { HasLineIfOk result self.old self.new }
     {
         let tokens = line_tokens(alloc, self.after_word())?;
         Ok(Step::Condition(word, tokens))
@@ -167,7 +167,7 @@ impl<'a> SourceReader<'a> {
             (moves.line_move (line_tokens (parts.after_word (reader_of self.old)))
             (moves.renumbers word) (parts.after_word (reader_of self.old)))
             (reader_of self.old)) (reader_of self.new) }
-        ensures line { HasLineIfOk result self.new }
+        ensures line { HasLineIfOk result self.old self.new }
     {
         let tokens = line_tokens(alloc, self.after_word())?;
         Ok(Step::LineNumber(word, tokens))
@@ -180,7 +180,7 @@ impl<'a> SourceReader<'a> {
             (moves.line_move (defined_on word (parts.after_word (reader_of self.old)))
             moves.defines (parts.after_word (reader_of self.old)))
             (reader_of self.old)) (reader_of self.new) }
-        ensures line { HasLineIfOk result self.new }
+        ensures line { HasLineIfOk result self.old self.new }
     {
         let named = defined_on(alloc, word, self.after_word())?;
         self.pass_line();
@@ -194,7 +194,7 @@ impl<'a> SourceReader<'a> {
             (moves.line_move (only_name word (parts.after_word (reader_of self.old)))
             moves.undefines (parts.after_word (reader_of self.old)))
             (reader_of self.old)) (reader_of self.new) }
-        ensures line { HasLineIfOk result self.new }
+        ensures line { HasLineIfOk result self.old self.new }
     {
         let name = only_name(alloc, word, self.after_word())?;
         self.definitions.change(name, None)?;
@@ -207,9 +207,9 @@ impl<'a> SourceReader<'a> {
         requires { self.old.position + 2 ≤ length self.old.items }
         ensures acts { ActsAs result (parts.perform_line
             (moves.line_move (only_name word (parts.after_word (reader_of self.old)))
-            (moves.opens_where (λ is. is) word) (parts.after_word (reader_of self.old)))
+            (moves.tests (λ is. is)) (parts.after_word (reader_of self.old)))
             (reader_of self.old)) (reader_of self.new) }
-        ensures line { HasLineIfOk result self.new }
+        ensures line { HasLineIfOk result self.old self.new }
     {
         let name = only_name(alloc, word, self.after_word())?;
         let holds = self.definitions.find(&name).is_some();
@@ -221,9 +221,9 @@ impl<'a> SourceReader<'a> {
         requires { self.old.position + 2 ≤ length self.old.items }
         ensures acts { ActsAs result (parts.perform_line
             (moves.line_move (only_name word (parts.after_word (reader_of self.old)))
-            (moves.opens_where not word) (parts.after_word (reader_of self.old)))
+            (moves.tests not) (parts.after_word (reader_of self.old)))
             (reader_of self.old)) (reader_of self.new) }
-        ensures line { HasLineIfOk result self.new }
+        ensures line { HasLineIfOk result self.old self.new }
     {
         let name = only_name(alloc, word, self.after_word())?;
         let holds = self.definitions.find(&name).is_none();
@@ -252,7 +252,7 @@ impl<'a> SourceReader<'a> {
             (option_map (spec.facts_of (reader_of self.old)) (option_copied block.entry))
             word (parts.after_word (reader_of self.old))) (reader_of self.old))
             (reader_of self.new) }
-        ensures line { HasLineIfOk result self.new }
+        ensures line { HasLineIfOk result self.old self.new }
     {
         let Some(block) = block else {
             return Err(refuse(PreprocessorError::ElifOutsideOfBlock, word));
@@ -279,7 +279,7 @@ impl<'a> SourceReader<'a> {
             (option_map (spec.facts_of (reader_of self.old)) (option_copied block.entry))
             word (parts.after_word (reader_of self.old))) (reader_of self.old))
             (reader_of self.new) }
-        ensures line { HasLineIfOk result self.new }
+        ensures line { HasLineIfOk result self.old self.new }
     {
         ended_line(alloc, word, self.after_word())?;
         let Some(block) = block else {
@@ -305,7 +305,7 @@ impl<'a> SourceReader<'a> {
             (option_map (spec.facts_of (reader_of self.old)) (option_copied block.entry))
             word (parts.after_word (reader_of self.old))) (reader_of self.old))
             (reader_of self.new) }
-        ensures line { HasLineIfOk result self.new }
+        ensures line { HasLineIfOk result self.old self.new }
     {
         let Some(block) = block else {
             return Err(refuse(PreprocessorError::EndifOutsideOfBlock, word));
@@ -325,7 +325,7 @@ impl<'a> SourceReader<'a> {
             (moves.elif_move (spec.facts_here (reader_of self.old)) word
             (parts.after_word (reader_of self.old))) (reader_of self.old))
             (reader_of self.new) }
-        ensures line { HasLineIfOk result self.new }
+        ensures line { HasLineIfOk result self.old self.new }
     {
         let blocks = blocks_at(alloc, self.items, self.position)?;
         self.elif_in(alloc, blocks.last(), word)
@@ -337,7 +337,7 @@ impl<'a> SourceReader<'a> {
             (moves.else_move (spec.facts_here (reader_of self.old)) word
             (parts.after_word (reader_of self.old))) (reader_of self.old))
             (reader_of self.new) }
-        ensures line { HasLineIfOk result self.new }
+        ensures line { HasLineIfOk result self.old self.new }
     {
         let blocks = blocks_at(alloc, self.items, self.position)?;
         self.else_in(alloc, blocks.last(), word)
@@ -349,7 +349,7 @@ impl<'a> SourceReader<'a> {
             (moves.endif_move (spec.facts_here (reader_of self.old)) word
             (parts.after_word (reader_of self.old))) (reader_of self.old))
             (reader_of self.new) }
-        ensures line { HasLineIfOk result self.new }
+        ensures line { HasLineIfOk result self.old self.new }
     {
         let blocks = blocks_at(alloc, self.items, self.position)?;
         self.endif_in(alloc, blocks.last(), word)
@@ -363,7 +363,7 @@ impl<'a> SourceReader<'a> {
             (comments_before_end (parts.after_word (reader_of self.old)))) word
             (parts.after_word (reader_of self.old))) (reader_of self.old))
             (reader_of self.new) }
-        ensures line { HasLineIfOk result self.new }
+        ensures line { HasLineIfOk result self.old self.new }
     {
         let tokens = line_tokens(alloc, self.after_word())?;
         let first = is_first_directive(alloc, self.items, &self.truths, self.position)?;
@@ -382,7 +382,7 @@ impl<'a> SourceReader<'a> {
             (moves.item_move moves.extension_item word
             (parts.after_word (reader_of self.old))) (reader_of self.old))
             (reader_of self.new) }
-        ensures line { HasLineIfOk result self.new }
+        ensures line { HasLineIfOk result self.old self.new }
     {
         let tokens = line_tokens(alloc, self.after_word())?;
         let before = has_live_text_before(alloc, self.items, &self.truths, self.position)?;
@@ -400,7 +400,7 @@ impl<'a> SourceReader<'a> {
             (moves.item_move moves.pragma_item word
             (parts.after_word (reader_of self.old))) (reader_of self.old))
             (reader_of self.new) }
-        ensures line { HasLineIfOk result self.new }
+        ensures line { HasLineIfOk result self.old self.new }
     {
         let tokens = line_tokens(alloc, self.after_word())?;
         let value = TokenValue::Pragma(Pragma {
@@ -412,7 +412,7 @@ impl<'a> SourceReader<'a> {
     // Gives a line's item, and moves past the line.
     fn give_line(&mut self, value: TokenValue, word: Location) -> Step
         requires { self.old.position + 2 ≤ length self.old.items }
-        ensures { parts.item_at (record { value = value; location = word }) (spec.after_line
+        ensures { parts.item_at (record { value = value; location = word }) (parts.after_line
             (reader_of self.old)) ≡ record { step = result; after = (reader_of self.new) } }
     {
         self.pass_line();
@@ -434,7 +434,7 @@ impl<'a> SourceReader<'a> {
             (moves.directive_move true (spec.facts_here (reader_of self.old)) directive word
             (parts.after_word (reader_of self.old))) (reader_of self.old))
             (reader_of self.new) }
-        ensures line { HasLineIfOk result self.new }
+        ensures line { HasLineIfOk result self.old self.new }
     {
         match directive {
             Directive::Define => self.define(alloc, word),
@@ -466,7 +466,7 @@ impl<'a> SourceReader<'a> {
             (moves.directive_move false (spec.facts_here (reader_of self.old)) directive word
             (parts.after_word (reader_of self.old))) (reader_of self.old))
             (reader_of self.new) }
-        ensures line { HasLineIfOk result self.new }
+        ensures line { HasLineIfOk result self.old self.new }
     {
         match directive {
             Directive::Elif => self.elif_line(alloc, word),
@@ -492,7 +492,7 @@ impl<'a> SourceReader<'a> {
     // Reports the next of the blocks that stay open at the end, or the end.
     fn tell_end(&mut self, alloc: Global) -> Result<Step, Halt>
         ensures acts { ActsAs result (spec.end_at (reader_of self.old)) (reader_of self.new) }
-        ensures line { HasLineIfOk result self.new }
+        ensures line { HasLineIfOk result self.old self.new }
     {
         let mut blocks = blocks_at(alloc, self.items, self.items.len())?;
         blocks.truncate(self.unfinished);
@@ -511,7 +511,7 @@ impl<'a> SourceReader<'a> {
           step = result;
           after = reader_of self.new;
         } }
-        ensures line { HasLine result self.new }
+        ensures line { HasLine result self.old self.new }
     {
         self.position += count;
         Step::Passed
@@ -524,7 +524,7 @@ impl<'a> SourceReader<'a> {
             (moves.move_at true (spec.facts_here (reader_of self.old)) sight
             (parts.items_left (reader_of self.old))) (reader_of self.old))
             (reader_of self.new) }
-        ensures line { HasLineIfOk result self.new }
+        ensures line { HasLineIfOk result self.old self.new }
     {
         match sight {
             Sight::End => self.tell_end(alloc),
@@ -547,7 +547,7 @@ impl<'a> SourceReader<'a> {
             (moves.move_at false (spec.facts_here (reader_of self.old)) sight
             (parts.items_left (reader_of self.old))) (reader_of self.old))
             (reader_of self.new) }
-        ensures line { HasLineIfOk result self.new }
+        ensures line { HasLineIfOk result self.old self.new }
     {
         match sight {
             Sight::End => self.tell_end(alloc),
@@ -561,7 +561,7 @@ impl<'a> SourceReader<'a> {
     // Acts on the sight at the position.
     fn act_here(&mut self, alloc: Global) -> Result<Step, Halt>
         ensures acts { ActsAs result (spec.act (reader_of self.old)) (reader_of self.new) }
-        ensures line { HasLineIfOk result self.new }
+        ensures line { HasLineIfOk result self.old self.new }
     {
         let live = is_live(alloc, self.items, &self.truths, self.position)?;
         let sight = sight_of(alloc, &self.items[self.position..])?;
@@ -576,9 +576,9 @@ impl<'a> SourceReader<'a> {
     pub fn act(&mut self, alloc: Global) -> Result<Step, Stop>
         ensures acts { IfOk result (λ step. spec.act (reader_of self.old) ≡ record {
           step = step;
-          after = reader_of self.new;
+          after = arrived step (reader_of self.new);
         }) }
-        ensures line { IfOk result (λ step. HasLine step self.new) }
+        ensures line { IfOk result (λ step. HasLine step self.old self.new) }
     {
         match self.act_here(alloc) {
             Ok(step) => Ok(step),

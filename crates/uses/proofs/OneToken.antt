@@ -12,7 +12,7 @@ use Rattle.pp_model.specs.Emitting.{Emits, itself}
 use Rattle.pp_model.specs.Names.{Name, is_same_name, line_name}
 use Rattle.pp_model.specs.Painting.{unpainted}
 use Rattle.pp_model.specs.Reading.{Expander}
-use Rattle.pp_model.specs.Reads.{Steps, passes, gives, Reads, here, later, source_reading, shown_line}
+use Rattle.pp_model.specs.Reads.{Steps, Reads, here, later, source_reading, shown_line}
 use Rattle.pp_model.specs.Run.{by_rules, start, next, Runs, done, given}
 use Rattle.pp_model.specs.SourceReader.{SourceReader, reader_at_start}
 use Rattle.pp_model.specs.Taking.{read, line_number, shown_token}
@@ -54,13 +54,13 @@ module _ (A : Answers) (name : Name) (place after : Location) (b f c g : Bool) (
 
   word_comes : Emits (source_reading A) A (state_at 0) first (state_at 1)
   word_comes =
-      let step : Steps A (reader_at 0) (Some (outcome.Token (token_of name place))) (reader_at 1) = gives (outcome.Token (token_of name place)) _ _ _ refl refl refl in
+      let step : Steps A (reader_at 0) (Some (outcome.Token (token_of name place))) (reader_at 1) = (refl, refl) in
       itself first _ _ (record { first = first; fetches = read first first (reader_at 1) _ _ refl refl (here _ first _ _ step refl) shown refl; paints = refl }) refl
 
   end_comes : Emits (source_reading A) A (state_at 1) taken.End (state_at 2)
   end_comes =
-      let newline : Steps A (reader_at 1) None (reader_at 2) = passes _ _ _ refl refl refl in
-      let end : Steps A (reader_at 2) (Some outcome.End) (reader_at 2) = gives outcome.End _ _ _ refl refl refl in
+      let newline : Steps A (reader_at 1) None (reader_at 2) = (refl, refl) in
+      let end : Steps A (reader_at 2) (Some outcome.End) (reader_at 2) = (refl, refl) in
       let reads : Reads A (reader_at 1) taken.End (reader_at 2) = later taken.End _ (reader_at 2) _ newline (here _ taken.End _ _ end refl) in
       itself taken.End _ _ (record { first = taken.End; fetches = read taken.End taken.End (reader_at 2) _ _ refl refl reads refl refl; paints = refl }) refl
 

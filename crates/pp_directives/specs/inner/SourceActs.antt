@@ -15,9 +15,10 @@ use Rattle.pp_model.specs.declared.definition.Named.{Named}
 use Rattle.pp_macros.specs.inner.Defined.{Defined, meaning_of, body_tokens}
 use Rattle.pp_macros.specs.Item.{Step}
 use Rattle.pp_macros.specs.inner.Source.{Source, Condition, LineNumber, Makes}
-use Rattle.pp_model.specs.Moves.{Effect, fails, defines, opens_if, parts_if, renumbers, Move, failing, directive_move}
+use Rattle.pp_model.specs.Moves.{Effect, fails, defines, decides, renumbers, Move, failing, directive_move}
 use Rattle.pp_model.specs.Moves.{BlockFacts, passing}
 use Rattle.pp_model.specs.inner.Moves.{taking_more}
+use Rattle.pp_macros.specs.inner.OpenBlocks.{BlockChange, unchanged, block_change_at}
 use Rattle.pp_macros.specs.inner.SourceMoves.{Note, unnoted, note_at}
 use Rattle.pp_macros.specs.inner.Turns.{as_pause}
 use Rattle.pp_macros.specs.declared.halt.Halt.{Halt}
@@ -41,17 +42,18 @@ RedefinesWith named (Some before) fault =
 abbrev pub FailsWith : Effect → List Defined → Fault → Type 0
 FailsWith (fails wanted) definitions fault = fault ≡ wanted
 FailsWith (defines named) definitions fault = RedefinesWith named (meaning_of definitions named.name) fault
-FailsWith (opens_if word tokens) definitions fault = Condition word tokens definitions (Err fault)
-FailsWith (parts_if word tokens) definitions fault = Condition word tokens definitions (Err fault)
+FailsWith (decides word tokens) definitions fault = Condition word tokens definitions (Err fault)
 FailsWith (renumbers word tokens) definitions fault = LineNumber word tokens definitions (Err fault)
 FailsWith _ definitions fault = ⊥
 
--- A directive does what the move says: with a value, the step that shows it; with a fault, the fault of the move's
--- effect. If memory runs out, this says nothing.
-abbrev pub ActsAs : {A : Type 0} → (A → Step Token) → Note → Move → Source → Result A Halt → Source → Type 0
-ActsAs shows note move old (Ok value) new = Makes note move old (shows value) new
-ActsAs shows note move old (Err (halt.Fault fault)) new = FailsWith move.effect old.definitions fault × HasKept old new
-ActsAs shows note move old (Err halt.OutOfMemory) new = ⊤
+-- A directive does what the move says, if this becomes of the blocks: with a value, the step that shows it; with a
+-- fault, the fault of the move's effect. If memory runs out, this says nothing.
+abbrev pub ActsAs : {A : Type 0} → (A → Step Token) → Note → BlockChange → Move → Source → Result A Halt → Source
+    → Type 0
+ActsAs shows note change move old (Ok value) new = Makes note change move old (shows value) new
+ActsAs shows note change move old (Err (halt.Fault fault)) new =
+    FailsWith move.effect old.definitions fault × HasKept old new
+ActsAs shows note change move old (Err halt.OutOfMemory) new = ⊤
 
 -- a directive that gives nothing, as one that may give an item
 abbrev pub without_item : Result (Unit {0}) Halt → Result (Option Token) Halt
@@ -65,24 +67,27 @@ is_as wanted is = if wanted then is else not is
 
 -- after a directive's word, before it is noted: a directive that gives an item, one that gives nothing, and any
 abbrev pub ActsAsItem : Move → Source → Result Token Halt → Source → Type 0
-ActsAsItem move old result new = ActsAs (λ token. Ok token) unnoted move old result new
+ActsAsItem move old result new = ActsAs (λ token. Ok token) unnoted unchanged move old result new
 
-abbrev pub Acts : Move → Source → Result (Unit {0}) Halt → Source → Type 0
-Acts move old result new = ActsAs (λ done. Err Continue) unnoted move old result new
+abbrev pub Acts : BlockChange → Move → Source → Result (Unit {0}) Halt → Source → Type 0
+Acts change move old result new = ActsAs (λ done. Err Continue) unnoted change move old result new
 
-abbrev pub Gives : Move → Source → Result (Option Token) Halt → Source → Type 0
-Gives move old result new = ActsAs as_pause unnoted move old result new
+abbrev pub Gives : BlockChange → Move → Source → Result (Option Token) Halt → Source → Type 0
+Gives change move old result new = ActsAs as_pause unnoted change move old result new
 
 -- after a directive's number sign, with what is noted: a directive that gives nothing, and any
-abbrev pub ActsNoted : Note → Move → Source → Result (Unit {0}) Halt → Source → Type 0
-ActsNoted note move old result new = ActsAs (λ done. Err Continue) note move old result new
+abbrev pub ActsNoted : Note → BlockChange → Move → Source → Result (Unit {0}) Halt → Source → Type 0
+ActsNoted note change move old result new = ActsAs (λ done. Err Continue) note change move old result new
 
-abbrev pub GivesNoted : Note → Move → Source → Result (Option Token) Halt → Source → Type 0
-GivesNoted note move old result new = ActsAs as_pause note move old result new
+abbrev pub GivesNoted : Note → BlockChange → Move → Source → Result (Option Token) Halt → Source → Type 0
+GivesNoted note change move old result new = ActsAs as_pause note change move old result new
 
--- what is noted, if this is the item after the number sign
+-- what is noted, and what becomes of the blocks, if this is the item after the number sign
 abbrev pub word_note : Bool → Result LexerToken Fault → Note
 word_note live first = note_at live (directive_sight first)
+
+abbrev pub word_change : Result LexerToken Fault → BlockChange
+word_change first = block_change_at (directive_sight first)
 
 -- what a directive does after its number sign, if this token follows it, and then these items
 abbrev pub name_move : Bool → Option BlockFacts → LexerToken → Option Name → List Seen → Move

@@ -7,7 +7,8 @@ use Rattle.pp_model.specs.Definitions.{Definition}
 use Rattle.pp_model.specs.declared.definition.Named.{Named}
 use Rattle.pp_macros.specs.inner.Defined.{meaning_of}
 use Rattle.pp_macros.specs.declared.blocks.OpenBlock.{OpenBlock}
-use Rattle.pp_model.specs.Moves.{Effect, gives, gives_item, fails, ends, passes, defines, undefines, opens_where, opens_if, opens_unread, parts, skips_branch, parts_if, closes, renumbers}
+use Rattle.pp_model.specs.Moves.{Effect, gives, gives_item, fails, ends, passes, defines, undefines, tests, decides, renumbers}
+use Rattle.pp_macros.specs.inner.OpenBlocks.{BlockChange}
 use Rattle.pp_macros.specs.inner.SourceMoves.{Note}
 use Rattle.pp_macros.specs.inner.Source.{Source, DefinesOver, HasEffect, Decides, holds, faulty, Renumbers, numbers, unnumbered}
 use Rattle.pp_macros.specs.declared.step.StepExit.TheVariants.{Finished}
@@ -32,20 +33,15 @@ renumbers_on : (word : Location) (tokens : List Token) (taken : ℕ) (note : Not
 renumbers_on word tokens taken note old new (numbers n number h) = let e = h.0 in cc
 renumbers_on word tokens taken note old new (unnumbered fault number failed left) = cc
 
-pub finished_ends : (effect : Effect) (taken : ℕ) (note : Note) (old new : Source) → HasEffect effect taken note old (Err Finished) new
+pub finished_ends : (effect : Effect) (taken : ℕ) (note : Note) (change : BlockChange) (old new : Source) → HasEffect effect taken note change old (Err Finished) new
     → is_end_effect effect ≡ true
-finished_ends (gives token) taken note old new h = let e = h.0 in cc
-finished_ends (gives_item item word) taken note old new h = let e = h.0 in cc
-finished_ends (fails fault) taken note old new h = let e = h.0 in cc
-finished_ends ends taken note old new h = refl
-finished_ends passes taken note old new h = let e = h.0 in cc
-finished_ends (defines named) taken note old new h = absurd (defines_on named (meaning_of old.definitions named.name) taken note old new h)
-finished_ends (undefines name) taken note old new h = let e = h.0 in cc
-finished_ends (opens_where wanted word name) taken note old new h = let e = h.0 in cc
-finished_ends (opens_if word tokens) taken note old new h = absurd (decides_on word tokens _ taken note old new h)
-finished_ends (opens_unread word) taken note old new h = let e = h.0 in cc
-finished_ends skips_branch taken note old new h = let e = h.0 in cc
-finished_ends parts taken note old new h = let e = h.0 in cc
-finished_ends (parts_if word tokens) taken note old new h = absurd (decides_on word tokens _ taken note old new h)
-finished_ends closes taken note old new h = let e = h.0 in cc
-finished_ends (renumbers word tokens) taken note old new h = absurd (renumbers_on word tokens taken note old new h)
+finished_ends (gives token) taken note change old new h = let e = h.0 in cc
+finished_ends (gives_item item word) taken note change old new h = let e = h.0 in cc
+finished_ends (fails fault) taken note change old new h = let e = h.0 in cc
+finished_ends ends taken note change old new h = refl
+finished_ends passes taken note change old new h = let e = h.0 in cc
+finished_ends (defines named) taken note change old new h = absurd (defines_on named (meaning_of old.definitions named.name) taken note old new h)
+finished_ends (undefines name) taken note change old new h = let e = h.0 in cc
+finished_ends (tests asked name) taken note change old new h = let e = h.0 in cc
+finished_ends (decides word tokens) taken note change old new h = absurd (decides_on word tokens _ taken note old new h)
+finished_ends (renumbers word tokens) taken note change old new h = absurd (renumbers_on word tokens taken note old new h)

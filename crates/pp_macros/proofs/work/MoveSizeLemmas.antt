@@ -1,35 +1,29 @@
--- A directive takes at least as much as it adds, without its number sign and its word.
-use Rattle.std.proofs.Common.{◌≡◌, ℕ, ◌+◌, ◌≤◌, Bool, List, length, subst, arith, Option, Result, Ok, IfOk}
+-- A directive takes at least as many items as it defines tokens, without its number sign and its word.
+use Rattle.std.proofs.Common.{◌≡◌, ℕ, ◌≤◌, Bool, List, length, subst, arith, Option, Result, Ok, IfOk}
 use Rattle.pp_lexer.specs.Lexed.{Seen}
 use Rattle.pp_lexer.specs.declared.token.Location.{Location}
 use Rattle.pp_model.specs.Calls.{Fault}
 use Rattle.pp_model.specs.DefineLines.{defined_on}
 use Rattle.pp_model.specs.Lines.{line_length}
-use Rattle.pp_model.specs.Moves.{BlockFacts, Effect, defines, opens_where, opens_if, opens_unread, parts, skips_branch, parts_if, Move, directive_move}
+use Rattle.pp_model.specs.Moves.{BlockFacts, Effect, defines, Move, directive_move}
 use Rattle.pp_model.specs.declared.definition.Named.{Named}
 use Rattle.pp_model.specs.declared.directive.Directive.{Directive}
 use Rattle.pp_model.proofs.MovesLemmas.{over_line, directive_holds}
 use Rattle.pp_macros.proofs.work.BodyLemmas.{line_length_least}
 use Rattle.pp_macros.proofs.work.DefinedBodyLemmas.{defined_least}
 
--- how many tokens an effect defines, or blocks it adds; a block that is parted counts as one that is added
+-- how many tokens an effect defines
 abbrev pub effect_adds : Effect → ℕ
 effect_adds (defines named) = length named.definition.body
-effect_adds (opens_where holds word name) = 1
-effect_adds (opens_if word tokens) = 1
-effect_adds (opens_unread word) = 1
-effect_adds parts = 1
-effect_adds skips_branch = 1
-effect_adds (parts_if word tokens) = 1
 effect_adds _ = 0
 
 -- a directive's move, which takes its number sign and its word and so many items more
 pub record IsWithin (move : Move) (count : ℕ) : Type 0 where
-  pub adds : effect_adds move.effect ≤ 1 + move.taken
+  pub adds : effect_adds move.effect ≤ move.taken
   pub taken : move.taken ≤ count
 
 module _ (word : Location) (after : List Seen) where
-  line_within : (effect : Effect) → effect_adds effect ≤ 1 → IsWithin (over_line effect after) (length after)
+  line_within : (effect : Effect) → effect_adds effect ≤ 0 → IsWithin (over_line effect after) (length after)
   line_within effect few = record { adds = omega (arith, few); taken = line_length_least after }
 
   define_within : (named : Named) → defined_on word after ≡ Ok named → IsWithin (over_line (defines named) after) (length after)
@@ -45,16 +39,11 @@ module _ (word : Location) (after : List Seen) where
         failing = λ fault. record { adds = omega arith; taken = omega arith };
         refusing = λ fault. line_within _ (omega arith);
         unknown = λ live its. record { adds = omega arith; taken = omega arith };
-        passing = λ its. line_within _ (omega arith);
+        passing = λ why. line_within _ (omega arith);
         items = λ live its value is. line_within _ (omega arith);
         defining = λ live its. define_within;
         undefining = λ live its name. line_within _ (omega arith);
         numbering = λ live its tokens. line_within _ (omega arith);
-        asking = λ live its holds name. line_within _ (omega arith);
-        opening = λ live its tokens. line_within _ (omega arith);
-        unread = λ live its. line_within _ (omega arith);
-        parting = λ its found is none. line_within _ (omega arith);
-        skipping = λ its found is none skips. line_within _ (omega arith);
-        choosing = λ its found is none reads tokens. line_within _ (omega arith);
-        closing = λ its found is. line_within _ (omega arith);
+        testing = λ live its holds name. line_within _ (omega arith);
+        deciding = λ why tokens. line_within _ (omega arith);
       })

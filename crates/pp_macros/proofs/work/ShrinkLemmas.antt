@@ -1,7 +1,6 @@
 -- A step of a source shrinks it: fewer items and open blocks are left, and no more names or tokens are defined than were left or defined before.
-use Rattle.std.proofs.Common.{◌≡◌, ◌≢◌, ◌∙◌, ℕ, ◌+◌, ◌-◌, ◌<◌, ◌≤◌, ◌⊎◌, Bool, true, false, List, [], ◌∷◌, ◌++◌, length, length-drop, refl, ap, arith, Option, Some, None, Err, MatchBool, is_some, inl, inr, append-nil}
-use Rattle.std.specs.Option.{option_map_or}
-use Rattle.std.proofs.lemmas.List.{length-take, length_push}
+use Rattle.std.proofs.Common.{◌≡◌, ◌≢◌, ◌∙◌, ℕ, ◌+◌, ◌-◌, ◌<◌, ◌≤◌, ◌⊎◌, Bool, true, false, List, length, length-drop, refl, ap, arith, Option, Some, None, Err, MatchBool, inl, inr}
+use Rattle.std.proofs.lemmas.List.{length-take}
 use Rattle.std.proofs.lemmas.Option.{slice_get_within}
 use Rattle.std.specs.Prelude.{pos, ◌-ℤ◌}
 use Rattle.pp_lexer.specs.declared.token.Location.{Location}
@@ -10,14 +9,16 @@ use Rattle.pp_model.specs.Definitions.{Definition}
 use Rattle.pp_model.specs.declared.definition.Named.{Named}
 use Rattle.pp_macros.specs.inner.Defined.{meaning_of, body_tokens}
 use Rattle.pp_macros.specs.Item.{Step}
-use Rattle.pp_macros.specs.inner.OpenBlocks.{last_block, outer_blocks, with_last, block_opened, block_unread, block_parted, block_skipped, block_decided}
+use Rattle.pp_macros.specs.inner.OpenBlocks.{last_block, BlockChange, block_change_at}
 use Rattle.pp_macros.specs.declared.blocks.OpenBlock.{OpenBlock}
-use Rattle.pp_macros.specs.inner.Source.{Source, IsAfter, IsAfterFault, IsAfterBlock, DefinesOver, Ends, HasEffect, Makes, IsRefusedStep, StepsSource, Decides, holds, faulty, Renumbers, numbers, unnumbered}
-use Rattle.pp_model.specs.Moves.{Effect, gives, gives_item, fails, ends, passes, defines, undefines, opens_where, opens_if, opens_unread, parts, skips_branch, parts_if, closes, renumbers, Move}
+use Rattle.pp_macros.specs.inner.Source.{Source, IsAfter, IsAfterFault, IsAfterBlock, DefinesOver, Ends, HasEffect, MakesMove, IsRefusedStep, StepsSource, Decides, holds, faulty, Renumbers, numbers, unnumbered}
+use Rattle.pp_model.specs.Moves.{Effect, gives, gives_item, fails, ends, passes, defines, undefines, tests, decides, renumbers, Move}
+use Rattle.pp_model.specs.Sights.{sight_of}
+use Rattle.pp_model.specs.declared.sight.Sight.{Sight}
 use Rattle.pp_macros.specs.inner.SourceMoves.{Note, move_of, note_of}
 use Rattle.pp_macros.specs.inner.Work.{goes_on, most_reads, most_names, most_steps}
 use Rattle.pp_macros.specs.declared.step.StepExit.TheVariants.{Finished}
-use Rattle.pp_macros.proofs.work.ShortenLemmas.{Shortens, move_of_shortens}
+use Rattle.pp_macros.proofs.work.ShortenLemmas.{sight_adds, sight_least, Shortens, move_of_shortens}
 use Rattle.pp_macros.proofs.taking.StepLemmas.{goes_on_not_end, goes_on_not_want}
 
 -- fewer items and open blocks are left, and there is no need for more names or steps
@@ -25,13 +26,6 @@ pub record Shrinks (old new : Source) : Type 0 where
   pub shorter : most_reads new < most_reads old
   pub names : most_names new ≤ most_names old
   pub steps : most_steps new ≤ most_steps old
-
-parted_least : (change : OpenBlock → OpenBlock) (blocks : List OpenBlock) → length (with_last change blocks) ≤ length blocks + 1
-parted_least change blocks = go (last_block blocks)
-  where
-    go : (last : Option OpenBlock) → length (outer_blocks blocks ++ option_map_or (λ block. change block ∷ []) last []) ≤ length blocks + 1
-    go None = omega (arith, ap length (append-nil (outer_blocks blocks)), length-take (length blocks - 1) blocks)
-    go (Some block) = omega (arith, length_push (outer_blocks blocks) (change block), length-take (length blocks - 1) blocks)
 
 module _ (old new : Source) where
   after_shrinks : (taken adds : ℕ) (note : Note) (blocks : List OpenBlock) → IsAfter taken note blocks old new
@@ -71,11 +65,11 @@ module _ (old new : Source) where
   define_shrinks named (Some before) taken note step low (inl h) = passed_shrinks taken (length named.definition.body) note old.blocks h.2 h.3 low (omega arith)
   define_shrinks named (Some before) taken note step low (inr h) = fault_shrinks h.2
 
-  decides_shrinks : (word : Location) (tokens : List Token) (blocks : Bool → List OpenBlock) (taken : ℕ) (note : Note) (step : Step Token)
-      → length old.rest - taken + length old.blocks + 1 < length old.rest + length old.blocks
-      → ((value : Bool) → length (blocks value) ≤ length old.blocks + 1) → Decides word tokens blocks taken note old step new → Shrinks old new
-  decides_shrinks word tokens blocks taken note step low few (holds value condition h) = passed_shrinks taken 1 note (blocks value) h.1 h.2 low (few value)
-  decides_shrinks word tokens blocks taken note step low few (faulty fault condition failed left) = fault_shrinks left
+  decides_shrinks : (word : Location) (tokens : List Token) (blocks : Bool → List OpenBlock) (taken adds : ℕ) (note : Note) (step : Step Token)
+      → length old.rest - taken + length old.blocks + adds < length old.rest + length old.blocks
+      → ((value : Bool) → length (blocks value) ≤ length old.blocks + adds) → Decides word tokens blocks taken note old step new → Shrinks old new
+  decides_shrinks word tokens blocks taken adds note step low few (holds value condition h) = passed_shrinks taken adds note (blocks value) h.1 h.2 low (few value)
+  decides_shrinks word tokens blocks taken adds note step low few (faulty fault condition failed left) = fault_shrinks left
 
 renumbers_shrinks : (old new : Source) (word : Location) (tokens : List Token) (taken : ℕ) (note : Note) (step : Step Token)
     → length old.rest - taken + length old.blocks + 0 < length old.rest + length old.blocks
@@ -92,35 +86,24 @@ module _ (old new : Source) where
   end_shrinks (Some block) is step h not_end =
       block_shrinks old new h.1 (omega (arith, slice_get_within old.blocks (length old.blocks - 1) block is))
 
-  effect_shrinks : (effect : Effect) (taken : ℕ) (note : Note) (step : Step Token)
-      → Shortens (record { effect = effect; taken = taken }) (length old.rest) (length old.blocks)
-      → HasEffect effect taken note old step new → step ≢ Err Finished → Shrinks old new
-  effect_shrinks (gives token) taken note step low h not_end = passed_shrinks old new taken 0 note old.blocks h.1 h.2 (low refl) (omega arith)
-  effect_shrinks (gives_item item word) taken note step low h not_end = passed_shrinks old new taken 0 note old.blocks h.1 h.2 (low refl) (omega arith)
-  effect_shrinks (fails fault) taken note step low h not_end = fault_shrinks old new h.1
-  effect_shrinks ends taken note step low h not_end = end_shrinks (last_block old.blocks) refl step h not_end
-  effect_shrinks passes taken note step low h not_end = passed_shrinks old new taken 0 note old.blocks h.1 h.2 (low refl) (omega arith)
-  effect_shrinks (defines named) taken note step low h not_end =
-      define_shrinks old new named (meaning_of old.definitions named.name) taken note step (low refl) h
-  effect_shrinks (undefines name) taken note step low h not_end =
-      let names : length new.definitions ≤ length old.definitions + 0 = h.2.names in
-      after_shrinks old new taken 0 note old.blocks h.1 (omega arith) (omega (arith, h.2.tokens)) (low refl) (omega arith)
-  effect_shrinks (opens_where asked word name) taken note step low h not_end =
-      let block = block_opened word (asked (is_some (meaning_of old.definitions name))) in
-      passed_shrinks old new taken 1 note (old.blocks ++ block ∷ []) h.1 h.2 (low refl) (omega (arith, length_push old.blocks block))
-  effect_shrinks (opens_if word tokens) taken note step low h not_end =
-      decides_shrinks old new word tokens _ taken note step (low refl) (λ value. omega (arith, length_push old.blocks (block_opened word value))) h
-  effect_shrinks (opens_unread word) taken note step low h not_end =
-      passed_shrinks old new taken 1 note (old.blocks ++ block_unread word ∷ []) h.1 h.2 (low refl) (omega (arith, length_push old.blocks (block_unread word)))
-  effect_shrinks parts taken note step low h not_end =
-      passed_shrinks old new taken 1 note (with_last block_parted old.blocks) h.1 h.2 (low refl) (parted_least block_parted old.blocks)
-  effect_shrinks skips_branch taken note step low h not_end =
-      passed_shrinks old new taken 1 note (with_last block_skipped old.blocks) h.1 h.2 (low refl) (parted_least block_skipped old.blocks)
-  effect_shrinks (parts_if word tokens) taken note step low h not_end =
-      decides_shrinks old new word tokens _ taken note step (low refl) (λ value. parted_least (λ block. block_decided block value) old.blocks) h
-  effect_shrinks closes taken note step low h not_end = passed_shrinks old new taken 0 note (outer_blocks old.blocks) h.1 h.2 (low refl)
-      (omega (arith, length-take (length old.blocks - 1) old.blocks))
-  effect_shrinks (renumbers word tokens) taken note step low h not_end = renumbers_shrinks old new word tokens taken note step (low refl) h
+  module _ (taken : ℕ) (note : Note) (change : BlockChange) (more : ℕ)
+      (few : (condition : Option Bool) → length (change condition old.blocks) ≤ length old.blocks + more) (step : Step Token) (not_end : step ≢ Err Finished) where
+    effect_shrinks : (effect : Effect) → Shortens more (record { effect = effect; taken = taken }) (length old.rest) (length old.blocks)
+        → HasEffect effect taken note change old step new → Shrinks old new
+    effect_shrinks (gives token) low h = passed_shrinks old new taken more note old.blocks h.1 h.2 (omega (arith, low refl)) (omega arith)
+    effect_shrinks (gives_item item word) low h = passed_shrinks old new taken more note old.blocks h.1 h.2 (omega (arith, low refl)) (omega arith)
+    effect_shrinks (fails fault) low h = fault_shrinks old new h.1
+    effect_shrinks ends low h = end_shrinks (last_block old.blocks) refl step h not_end
+    effect_shrinks passes low h = passed_shrinks old new taken more note (change None old.blocks) h.1 h.2 (omega (arith, low refl)) (few None)
+    effect_shrinks (defines named) low h =
+        define_shrinks old new named (meaning_of old.definitions named.name) taken note step (omega (arith, low refl)) h
+    effect_shrinks (undefines name) low h =
+        let names : length new.definitions ≤ length old.definitions + 0 = h.2.names in
+        after_shrinks old new taken more note old.blocks h.1 (omega arith) (omega (arith, h.2.tokens)) (omega (arith, low refl)) (omega arith)
+    effect_shrinks (tests asked name) low h = passed_shrinks old new taken more note _ h.1 h.2 (omega (arith, low refl)) (few _)
+    effect_shrinks (decides word tokens) low h =
+        decides_shrinks old new word tokens _ taken more note step (omega (arith, low refl)) (λ value. few (Some value)) h
+    effect_shrinks (renumbers word tokens) low h = renumbers_shrinks old new word tokens taken note step (omega (arith, low refl)) h
 
   -- so does a step after which reading goes on
   pub source_shrinks : (step : Step Token) → StepsSource old step new → goes_on step ≡ true → Shrinks old new
@@ -129,10 +112,15 @@ module _ (old new : Source) where
       move : Move
       move = move_of old.dead_for_good old.blocks old.rest
 
+      shown : Sight
+      shown = sight_of old.rest
+
       note : Note
       note = note_of old.dead_for_good old.blocks old.rest
 
-      go : (b : Bool) → MatchBool b ((step ≡ Err Finished) × (new ≡ old)) (IsRefusedStep old step ⊎ Makes note move old step new) → Shrinks old new
+      go : (b : Bool) → MatchBool b ((step ≡ Err Finished) × (new ≡ old)) (IsRefusedStep old step ⊎ MakesMove old step new) → Shrinks old new
       go true h = absurd (goes_on_not_end step on h.0)
       go false (inl h) = absurd (goes_on_not_want step on h.fault)
-      go false (inr h) = effect_shrinks move.effect move.taken note step (move_of_shortens old.dead_for_good old.blocks old.rest) h (goes_on_not_end step on)
+      go false (inr h) =
+          effect_shrinks move.taken note (block_change_at shown) (sight_adds shown) (λ condition. sight_least shown condition old.blocks) step
+          (goes_on_not_end step on) move.effect (move_of_shortens old.dead_for_good old.blocks old.rest) h

@@ -7,6 +7,7 @@ use Rattle.pp_lexer.specs.declared.token.Location.{Location}
 use Rattle.pp_model.specs.Calls.{Fault, Gathered, before, closes}
 use Rattle.pp_model.specs.Names.{Name, is_identifier, line_name}
 use Rattle.pp_model.specs.Taking.{line_number}
+use Rattle.pp_model.specs.Sights.{sight_of}
 use Rattle.pp_model.specs.declared.read.Taken.TheVariants as given
 use Rattle.pp_macros.specs.inner.Frames.{Frame, Advance, advance, outermost_frame_line}
 use Rattle.pp_macros.specs.Item.{Step, wants_memory}
@@ -16,10 +17,10 @@ use Rattle.pp_macros.specs.inner.Left.{reads_left, most_open, most_bodies, one_m
 use Rattle.pp_macros.specs.inner.Expander.{Expander, is_pause, step_of_outcome, taken_as, StepsFetching, StepsTaking, held, moved, TakesNext, now, later, GathersNext, closed, inside, overfull, ended, failed}
 use Rattle.pp_macros.specs.inner.Reach.{growth, through, total}
 use Rattle.pp_macros.specs.inner.Reader.{Reader, of_source, of_list, Listing, listed_step, Reads, shown_line}
-use Rattle.pp_macros.specs.inner.Source.{Source, StepsSource, IsRefusedStep, Ends, Makes, HasEffect}
-use Rattle.pp_model.specs.Moves.{Effect, gives, gives_item, fails, ends, passes, defines, undefines, opens_where, opens_if, opens_unread, parts, skips_branch, parts_if, closes, renumbers}
+use Rattle.pp_macros.specs.inner.Source.{Source, StepsSource, IsRefusedStep, Ends, MakesMove, HasEffect}
+use Rattle.pp_model.specs.Moves.{Effect, gives, gives_item, fails, ends, passes, defines, undefines, tests, decides, renumbers}
 use Rattle.pp_macros.specs.inner.SourceMoves.{Note, move_of, note_of}
-use Rattle.pp_macros.specs.inner.OpenBlocks.{last_block}
+use Rattle.pp_macros.specs.inner.OpenBlocks.{last_block, BlockChange, block_change_at}
 use Rattle.pp_macros.specs.declared.blocks.OpenBlock.{OpenBlock}
 use Rattle.pp_macros.specs.inner.Turns.{as_pause, frame_move, Moves, masks}
 use Rattle.pp_macros.specs.inner.Reading.{unpainted_step, painted_step}
@@ -71,34 +72,29 @@ end_stays : (block : Option OpenBlock) (old new : Source) → Ends block old (Er
 end_stays None old new h = h.1
 end_stays (Some block) old new h = let e = h.0 in cc
 
-effect_stays : (effect : Effect) (taken : ℕ) (note : Note) (old new : Source) → HasEffect effect taken note old (Err Finished) new → new ≡ old
-effect_stays ends taken note old new h = end_stays (last_block old.blocks) old new h
-effect_stays (gives token) taken note old new h = let e = h.0 in cc
-effect_stays (gives_item item word) taken note old new h = let e = h.0 in cc
-effect_stays (fails fault) taken note old new h = let e = h.0 in cc
-effect_stays passes taken note old new h = let e = h.0 in cc
-effect_stays (defines named) taken note old new h = absurd (let bad = finished_ends (defines named) taken note old new h in cc)
-effect_stays (undefines name) taken note old new h = let e = h.0 in cc
-effect_stays (opens_where wanted word name) taken note old new h = let e = h.0 in cc
-effect_stays (opens_if word tokens) taken note old new h = absurd (let bad = finished_ends (opens_if word tokens) taken note old new h in cc)
-effect_stays (opens_unread word) taken note old new h = let e = h.0 in cc
-effect_stays skips_branch taken note old new h = let e = h.0 in cc
-effect_stays parts taken note old new h = let e = h.0 in cc
-effect_stays (parts_if word tokens) taken note old new h = absurd (let bad = finished_ends (parts_if word tokens) taken note old new h in cc)
-effect_stays closes taken note old new h = let e = h.0 in cc
-effect_stays (renumbers word tokens) taken note old new h = absurd (let bad = finished_ends (renumbers word tokens) taken note old new h in cc)
+effect_stays : (effect : Effect) (taken : ℕ) (note : Note) (change : BlockChange) (old new : Source)
+    → HasEffect effect taken note change old (Err Finished) new → new ≡ old
+effect_stays ends taken note change old new h = end_stays (last_block old.blocks) old new h
+effect_stays (gives token) taken note change old new h = let e = h.0 in cc
+effect_stays (gives_item item word) taken note change old new h = let e = h.0 in cc
+effect_stays (fails fault) taken note change old new h = let e = h.0 in cc
+effect_stays passes taken note change old new h = let e = h.0 in cc
+effect_stays (defines named) taken note change old new h = absurd (let bad = finished_ends (defines named) taken note change old new h in cc)
+effect_stays (undefines name) taken note change old new h = let e = h.0 in cc
+effect_stays (tests asked name) taken note change old new h = let e = h.0 in cc
+effect_stays (decides word tokens) taken note change old new h = absurd (let bad = finished_ends (decides word tokens) taken note change old new h in cc)
+effect_stays (renumbers word tokens) taken note change old new h = absurd (let bad = finished_ends (renumbers word tokens) taken note change old new h in cc)
 
 pub source_end_stays : (old new : Source) → StepsSource old (Err Finished) new → new ≡ old
 source_end_stays old new h = go old.spent h
   where
     go : (b : Bool) → MatchBool b ((◌≡◌ {A = Step Token} (Err Finished) (Err Finished)) × (new ≡ old))
-        (IsRefusedStep old (Err Finished)
-        ⊎ Makes (note_of old.dead_for_good old.blocks old.rest) (move_of old.dead_for_good old.blocks old.rest) old (Err Finished) new) → new ≡ old
+        (IsRefusedStep old (Err Finished) ⊎ MakesMove old (Err Finished) new) → new ≡ old
     go true h = h.1
     go false (inl h) = let bad = h.fault in cc
     go false (inr h) =
         let move = move_of old.dead_for_good old.blocks old.rest in
-        effect_stays move.effect move.taken (note_of old.dead_for_good old.blocks old.rest) old new h
+        effect_stays move.effect move.taken (note_of old.dead_for_good old.blocks old.rest) (block_change_at (sight_of old.rest)) old new h
 
 -- what a step of a reader leaves: less, but at the end
 abbrev pub ReadSpends : Step Read → Reader → Reader → Type 0

@@ -6,10 +6,14 @@ use Rattle.std.specs.Option.{option_map_or}
 use Rattle.std.specs.List.{AllByRecursion as Each, AllZip, list_all}
 use Rattle.pp_lexer.specs.Lexed.{Seen}
 use Rattle.pp_lexer.specs.declared.token.Location.{Location}
-use Rattle.pp_model.specs.Blocks.{Block, Truths, fails_at, are_surroundings_live, has_taken_branch, has_else}
+use Rattle.pp_model.specs.Blocks.{Block, Truths, part_of, fails_at, are_surroundings_live, has_taken_branch, has_else}
 use Rattle.pp_model.specs.inner.Blocks.{is_branch_live}
 use Rattle.pp_model.specs.Moves.{BlockFacts}
 use Rattle.pp_model.specs.declared.block.BlockLine.{BlockLine}
+use Rattle.pp_model.specs.declared.block.Part.{Part}
+use Rattle.pp_model.specs.declared.block.Part.TheVariants as part
+use Rattle.pp_model.specs.declared.sight.Sight.{Sight}
+use Rattle.pp_model.specs.declared.sight.Sight.TheVariants as sight
 -- A block that is open: the place of its first line's word, whether its surroundings are live, whether a branch of it
 -- was taken, whether it has an `#else`, and whether the branch that is being read is chosen.
 pub use Rattle.pp_macros.specs.declared.blocks.OpenBlock.{OpenBlock}
@@ -63,6 +67,38 @@ block_skipped block = record block { chosen = false }
 -- the block after an `#elif` whose condition holds or doesn't, if no branch was taken before
 abbrev pub block_decided : OpenBlock → Bool → OpenBlock
 block_decided block holds = record block { taken = holds; chosen = holds }
+
+-- what a line does to the open blocks, if its condition holds or doesn't, or if it has none
+abbrev pub BlockChange : Type 0
+BlockChange = Option Bool → List OpenBlock → List OpenBlock
+
+abbrev pub unchanged : BlockChange
+unchanged condition blocks = blocks
+
+-- the block that a line opens, and the block after an `#elif`
+abbrev pub block_begun : Location → Option Bool → OpenBlock
+block_begun word (Some holds) = block_opened word holds
+block_begun word None = block_unread word
+
+abbrev pub block_branched : Option Bool → OpenBlock → OpenBlock
+block_branched (Some holds) block = block_decided block holds
+block_branched None block = block_skipped block
+
+abbrev pub elif_change : BlockChange
+elif_change condition blocks = with_last (block_branched condition) blocks
+
+-- a line with this word that opens, parts or closes a block, or does nothing to one
+abbrev pub block_change : Option Part → Location → BlockChange
+block_change None word = unchanged
+block_change (Some part.Opens) word = λ condition blocks. blocks ++ block_begun word condition ∷ []
+block_change (Some part.Elif) word = elif_change
+block_change (Some part.Else) word = λ condition blocks. with_last block_parted blocks
+block_change (Some part.Closes) word = λ condition blocks. outer_blocks blocks
+
+-- what is at the front does this to the blocks
+abbrev pub block_change_at : Sight → BlockChange
+block_change_at (sight.Directive directive word) = block_change (part_of directive) word
+block_change_at _ = unchanged
 
 -- whether an `#elif` of the block is skipped: its surroundings are dead, or a branch was taken
 abbrev pub skips_branches : OpenBlock → Bool

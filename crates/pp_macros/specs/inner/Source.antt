@@ -1,5 +1,5 @@
 -- What the reader of a source keeps, and one step of it.
-use Rattle.std.specs.Prelude.{◌≡◌, ◌≢◌, ℕ, ◌+◌, ◌<◌, ◌≤◌, ◌⊎◌, Bool, false, not, ◌||◌, is_some, List, [], ◌∷◌, ◌++◌}
+use Rattle.std.specs.Prelude.{◌≡◌, ◌≢◌, ℕ, ◌+◌, ◌<◌, ◌≤◌, ◌⊎◌, Bool, false, not, ◌||◌, is_some, List, []}
 use Rattle.std.specs.Prelude.{length, drop, Option, Some, None, Result, Ok, Err, MatchBool, ℤ, pos, ◌-ℤ◌}
 use Rattle.pp_lexer.specs.Lexed.{Seen}
 use Rattle.pp_lexer.specs.PreprocessorError.{out_of_memory}
@@ -13,11 +13,11 @@ use Rattle.pp_model.specs.LineValues.{IsCondition, IsLineNumber}
 use Rattle.pp_model.specs.declared.definition.Named.{Named}
 use Rattle.pp_macros.specs.Item.{Step}
 use Rattle.pp_macros.specs.inner.Defined.{Defined, meaning_of, body_tokens, IsChanged}
-use Rattle.pp_macros.specs.inner.OpenBlocks.{last_block, outer_blocks, with_last, block_opened, block_unread}
-use Rattle.pp_macros.specs.inner.OpenBlocks.{block_parted, block_skipped, block_decided}
+use Rattle.pp_macros.specs.inner.OpenBlocks.{last_block, outer_blocks, BlockChange, block_change_at}
 use Rattle.pp_macros.specs.declared.blocks.OpenBlock.{OpenBlock}
-use Rattle.pp_model.specs.Moves.{Effect, gives, gives_item, fails, ends, passes, defines, undefines, opens_where}
-use Rattle.pp_model.specs.Moves.{opens_if, opens_unread, parts, skips_branch, parts_if, closes, renumbers, Move}
+use Rattle.pp_model.specs.Moves.{Effect, gives, gives_item, fails, ends, passes, defines, undefines, tests, decides}
+use Rattle.pp_model.specs.Moves.{renumbers, Move}
+use Rattle.pp_model.specs.Sights.{sight_of}
 use Rattle.pp_macros.specs.inner.SourceMoves.{Note, notes_text, notes_directive, move_of, note_of}
 use Rattle.pp_macros.specs.inner.Unreported.{Unreported, unreported}
 use Rattle.pp_macros.specs.declared.step.StepExit.TheVariants.{Error, Continue, Finished}
@@ -128,38 +128,37 @@ pub data Renumbers (word : Location) (tokens : List Token) (taken : ℕ) (note :
       → IsAfterFault old new
       → Renumbers word tokens taken note old step new
 
--- what an effect means for the step, and for the source after it
-abbrev pub HasEffect : Effect → ℕ → Note → Source → Step Token → Source → Type 0
-HasEffect (gives token) taken note old step new =
+-- what an effect means for the step, and for the source after it, if its line does this to the open blocks
+abbrev pub HasEffect : Effect → ℕ → Note → BlockChange → Source → Step Token → Source → Type 0
+HasEffect (gives token) taken note change old step new =
     (step ≡ Ok token) × IsAfter taken note old.blocks old new × (new.definitions ≡ old.definitions)
-HasEffect (gives_item value word) taken note old step new =
+HasEffect (gives_item value word) taken note change old step new =
     (step ≡ Ok (record { value = value old.has_text (not (old.has_directive || old.has_text)); location = word }))
     × IsAfter taken note old.blocks old new
     × (new.definitions ≡ old.definitions)
-HasEffect (fails fault) taken note old step new = (step ≡ Err (Error fault)) × IsAfterFault old new
-HasEffect ends taken note old step new = Ends (last_block old.blocks) old step new
-HasEffect passes taken note old step new = Pauses taken note old.blocks old step new
-HasEffect (defines named) taken note old step new =
+HasEffect (fails fault) taken note change old step new = (step ≡ Err (Error fault)) × IsAfterFault old new
+HasEffect ends taken note change old step new = Ends (last_block old.blocks) old step new
+HasEffect passes taken note change old step new = Pauses taken note (change None old.blocks) old step new
+HasEffect (defines named) taken note change old step new =
     DefinesOver named (meaning_of old.definitions named.name) taken note old step new
-HasEffect (undefines name) taken note old step new = (step ≡ Err Continue) × IsAfter taken note old.blocks old new
+HasEffect (undefines name) taken note change old step new =
+    (step ≡ Err Continue)
+    × IsAfter taken note old.blocks old new
     × IsChanged name None old.definitions new.definitions
-HasEffect (opens_where asked word name) taken note old step new =
-    Pauses taken note
-    (old.blocks ++ block_opened word (asked (is_some (meaning_of old.definitions name))) ∷ [])
-    old step new
-HasEffect (opens_if word tokens) taken note old step new =
-    Decides word tokens (λ value. old.blocks ++ block_opened word value ∷ []) taken note old step new
-HasEffect (opens_unread word) taken note old step new =
-    Pauses taken note (old.blocks ++ block_unread word ∷ []) old step new
-HasEffect parts taken note old step new = Pauses taken note (with_last block_parted old.blocks) old step new
-HasEffect skips_branch taken note old step new = Pauses taken note (with_last block_skipped old.blocks) old step new
-HasEffect (parts_if word tokens) taken note old step new =
-    Decides word tokens (λ value. with_last (λ block. block_decided block value) old.blocks) taken note old step new
-HasEffect closes taken note old step new = Pauses taken note (outer_blocks old.blocks) old step new
-HasEffect (renumbers word tokens) taken note old step new = Renumbers word tokens taken note old step new
+HasEffect (tests asked name) taken note change old step new =
+    Pauses taken note (change (Some (asked (is_some (meaning_of old.definitions name)))) old.blocks) old step new
+HasEffect (decides word tokens) taken note change old step new =
+    Decides word tokens (λ value. change (Some value) old.blocks) taken note old step new
+HasEffect (renumbers word tokens) taken note change old step new = Renumbers word tokens taken note old step new
 
-abbrev pub Makes : Note → Move → Source → Step Token → Source → Type 0
-Makes note move old step new = HasEffect move.effect move.taken note old step new
+abbrev pub Makes : Note → BlockChange → Move → Source → Step Token → Source → Type 0
+Makes note change move old step new = HasEffect move.effect move.taken note change old step new
+
+-- the same of the item at the front
+abbrev pub MakesMove : Source → Step Token → Source → Type 0
+MakesMove old step new =
+    Makes (note_of old.dead_for_good old.blocks old.rest) (block_change_at (sight_of old.rest))
+    (move_of old.dead_for_good old.blocks old.rest) old step new
 
 -- memory ran out, and something was left to read
 pub record IsRefusedStep (old : Source) (step : Step Token) : Type 0 where
@@ -171,5 +170,4 @@ pub record IsRefusedStep (old : Source) (step : Step Token) : Type 0 where
 abbrev pub StepsSource : Source → Step Token → Source → Type 0
 StepsSource old step new =
     MatchBool old.spent ((step ≡ Err Finished) × (new ≡ old))
-    (IsRefusedStep old step ⊎
-    Makes (note_of old.dead_for_good old.blocks old.rest) (move_of old.dead_for_good old.blocks old.rest) old step new)
+    (IsRefusedStep old step ⊎ MakesMove old step new)

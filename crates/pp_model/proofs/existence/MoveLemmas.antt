@@ -15,30 +15,22 @@ abbrev pub stops : Step → Bool
 stops (step.Given o) = not (is_given_token o)
 stops _ = false
 
--- the reader after the act is that of the next step: no line's value is wanted first
-abbrev pub has_moved : Step → Bool
-has_moved step.Passed = true
-has_moved (step.Given o) = is_given_token o
-has_moved (step.Defines named) = true
-has_moved (step.Condition word tokens) = false
-has_moved (step.LineNumber word tokens) = false
-
 pub record Moves (r : SourceReader) (a : Acted) : Type 0 where
   pub items : a.after.items ≡ r.items
   pub finite : IsFinite r.definitions → IsFinite a.after.definitions
-  pub further : has_moved a.step ≡ true → r.position + 1 ≤ a.after.position
+  pub further : stops a.step ≡ false → r.position + 1 ≤ a.after.position
 
 dead_moves : (r : SourceReader) → HoldsOfDead (Moves r) r
 dead_moves r = record {
   fault = λ found. record { items = refl; finite = λ f. f; further = λ h. cc };
   nothing = λ count least. record { items = refl; finite = λ f. f; further = λ h. omega (arith, least) };
-  wanted = λ word tokens. record { items = refl; finite = λ f. f; further = λ h. cc };
+  wanted = λ word tokens. record { items = refl; finite = λ f. f; further = λ h. omega arith };
 }
 
 live_moves : (r : SourceReader) → HoldsOfLive (Moves r) r
 live_moves r = record {
   dead = dead_moves r;
-  numbered = λ word tokens. record { items = refl; finite = λ f. f; further = λ h. cc };
+  numbered = λ word tokens. record { items = refl; finite = λ f. f; further = λ h. omega arith };
   defined = λ named. record { items = refl; finite = λ f. f; further = λ h. omega arith };
   changed = λ name. record { items = refl; finite = λ f. without_one r.definitions name f; further = λ h. omega arith };
   decision = λ holds. record { items = refl; finite = λ f. f; further = λ h. omega arith };
@@ -72,12 +64,9 @@ some_left r h = go (drop r.position r.items) refl
     go [] p = let bad : true ≡ false = sym (at_end r p) ∙ h in cc
     go (s ∷ rest) p = rw p (omega arith)
 
--- A reader of the same items, further on than one that doesn't stop, has less left.
-pub less_left : (r t : SourceReader) → t.items ≡ r.items → r.position + 1 ≤ t.position → stops (act r).step ≡ false → left t < left r
-less_left r t same further on =
-    let all : length t.items ≡ length r.items = ap length same in
-    omega (arith, length-drop t.position t.items, length-drop r.position r.items, all, further, some_left r on)
-
--- The reader after an act that has moved has less left.
-pub act_less_left : (r : SourceReader) → has_moved (act r).step ≡ true → stops (act r).step ≡ false → left (act r).after < left r
-act_less_left r moved on = less_left r (act r).after (moves r).items ((moves r).further moved) on
+-- The reader after an act that doesn't stop has less left.
+pub act_less_left : (r : SourceReader) → stops (act r).step ≡ false → left (act r).after < left r
+act_less_left r on =
+    let t = (act r).after in
+    let all : length t.items ≡ length r.items = ap length (moves r).items in
+    omega (arith, length-drop t.position t.items, length-drop r.position r.items, all, (moves r).further on, some_left r on)

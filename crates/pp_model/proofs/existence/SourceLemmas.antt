@@ -1,16 +1,17 @@
 -- Each token or line of a source has an outcome, and reading the source gives something next.
-use Rattle.std.proofs.Common.{◌≡◌, ℕ, zero, suc, ◌<◌, Bool, true, List, refl, arith, Option, Some, None, ◌⊎◌, inl, inr}
+use Rattle.std.proofs.Common.{◌≡◌, ℕ, zero, suc, ◌<◌, Bool, true, false, List, refl, arith, Option, Some, None, ◌⊎◌, inl, inr}
 use Rattle.std.specs.Prelude.{Result, Ok, Err, pos, ◌-ℤ◌}
 use Rattle.pp_lexer.specs.declared.token.Location.{Location}
 use Rattle.pp_lexer.specs.declared.token.PreprocessorError.TheVariants.{DefineRedefined}
 use Rattle.pp_lexer.specs.declared.token.Token.{Token}
-use Rattle.pp_model.specs.Definitions.{Definition, with_change, IsSameDefinition}
+use Rattle.pp_model.specs.Definitions.{Definition, IsSameDefinition}
 use Rattle.pp_model.specs.Painting.{taken_of}
 use Rattle.pp_model.specs.Calls.{Fault, Answers}
 use Rattle.pp_model.specs.LineValues.{IsCondition, IsLineNumber}
 use Rattle.pp_model.specs.SourceReader.{SourceReader}
-use Rattle.pp_model.specs.Acts.{after_line, decided, act}
-use Rattle.pp_model.specs.Reads.{Steps, passes, gives, defines, repeats, redefines, decides, undecided, renumbers, unnumbered, here, later, source_reading}
+use Rattle.pp_model.specs.Acts.{decided, act}
+use Rattle.pp_model.specs.Reads.{Does, Steps, here, later, source_reading}
+use Rattle.pp_model.specs.inner.Reads.{after_define}
 use Rattle.pp_model.specs.ExistenceLaws.{is_given_token, IsFinite, AnAnswer, AStep, AReading}
 use Rattle.pp_model.specs.declared.definition.Named.{Named}
 use Rattle.pp_model.specs.declared.outcome.Outcome.{Outcome}
@@ -20,7 +21,8 @@ use Rattle.pp_model.specs.declared.step.Step.TheVariants as step
 use Rattle.pp_model.proofs.existence.Turns.{is_token, Given}
 use Rattle.pp_model.proofs.existence.DefinitionLemmas.{with_one, same_definition}
 use Rattle.pp_model.proofs.existence.LineValueLemmas.{a_condition, a_line_number}
-use Rattle.pp_model.proofs.existence.MoveLemmas.{moves, left, less_left, act_less_left}
+use Rattle.pp_model.proofs.existence.MoveLemmas.{stops, moves, left, act_less_left}
+use Rattle.pp_model.proofs.ReadsLemmas.{that_does}
 
 -- reading goes on after a step with this outcome, or a token was given
 abbrev goes : Option Outcome → Bool
@@ -46,84 +48,54 @@ module _ (A : Answers) (answered : AnAnswer A) where
     falls : goes outcome ≡ true → left after < left r
 
   module _ (r : SourceReader) (f : HasFinite r) where
+    -- an outcome with which reading goes on, after the items that are taken
+    passed : (did : Step) (t : SourceReader) → (act r).step ≡ did → stops did ≡ false → HasFinite t → left t ≡ left (act r).after
+        → Does A r did (act r).after None t → Stepped r
+    passed did t p on finite same d = record {
+      outcome = None;
+      after = t;
+      steps = that_does A did r None t p d;
+      finite = finite;
+      falls = λ h. omega (arith, same, act_less_left r (rw p on));
+    }
+
+    -- a fault
+    faulty : (did : Step) (fault : Fault) (t : SourceReader) → (act r).step ≡ did → HasFinite t → Does A r did (act r).after (Some (outcome.Fault fault)) t
+        → Stepped r
+    faulty did fault t p finite d =
+        record { outcome = Some (outcome.Fault fault); after = t; steps = that_does A did r _ t p d; finite = finite; falls = λ h. cc }
+
     defined_by : (named : Named) → (act r).step ≡ step.Defines named → (old : Option Definition) → r.definitions named.name ≡ old → Stepped r
     defined_by named p None q =
-        let t : SourceReader = record (act r).after { definitions = with_change (act r).after.definitions named.name (Some named.definition) } in
-        record {
-          outcome = None;
-          after = t;
-          steps = defines named None r t p q refl refl;
-          finite = with_one (act r).after.definitions named.name ((moves r).finite f) named.definition;
-          falls = λ h. less_left r t (moves r).items ((moves r).further (rw p refl)) (rw p refl);
-        }
+        passed (step.Defines named) (after_define named (act r).after) p refl
+        (with_one (act r).after.definitions named.name ((moves r).finite f) named.definition) refl (rw q (refl, refl))
     defined_by named p (Some old) q = by (same_definition old named.definition)
       where
         by : IsSameDefinition old named.definition ⊎ (IsSameDefinition old named.definition → ⊥) → Stepped r
-        by (inl same) = record {
-          outcome = None;
-          after = (act r).after;
-          steps = repeats named old None r (act r).after p q same refl refl;
-          finite = (moves r).finite f;
-          falls = λ h. act_less_left r (rw p refl) (rw p refl);
-        }
-        by (inr other) = record {
-          outcome = Some (outcome.Fault (DefineRedefined, named.location));
-          after = (act r).after;
-          steps = redefines named old (Some (outcome.Fault (DefineRedefined, named.location))) r (act r).after p q other refl refl;
-          finite = (moves r).finite f;
-          falls = λ h. cc;
-        }
+        by (inl same) = passed (step.Defines named) (act r).after p refl ((moves r).finite f) refl (rw q (refl, inl (same, refl)))
+        by (inr other) = faulty (step.Defines named) (DefineRedefined, named.location) (act r).after p ((moves r).finite f) (rw q (refl, inr (other, refl)))
 
     decided_by : (word : Location) (tokens : List Token) → (act r).step ≡ step.Condition word tokens
         → (x : Result Bool Fault) → IsCondition A word tokens r.definitions x → Stepped r
-    decided_by word tokens p (Ok holds) c = record {
-      outcome = None;
-      after = decided r holds;
-      steps = decides word tokens holds None r (decided r holds) p c refl refl;
-      finite = f;
-      falls = λ h. less_left r (decided r holds) refl (omega arith) (rw p refl);
-    }
-    decided_by word tokens p (Err fault) c = record {
-      outcome = Some (outcome.Fault fault);
-      after = r;
-      steps = undecided word tokens fault (Some (outcome.Fault fault)) r r p c refl refl;
-      finite = f;
-      falls = λ h. cc;
-    }
+    decided_by word tokens p (Ok holds) c =
+        passed (step.Condition word tokens) (decided r.position holds (act r).after) p refl ((moves r).finite f) refl (Ok holds, c, (refl, refl))
+    decided_by word tokens p (Err fault) c = faulty (step.Condition word tokens) fault r p f (Err fault, c, (refl, refl))
 
     numbered_by : (word : Location) (tokens : List Token) → (act r).step ≡ step.LineNumber word tokens
         → (x : Result ℕ Fault) → IsLineNumber A word tokens r.definitions x → Stepped r
     numbered_by word tokens p (Ok n) c =
-        let t : SourceReader = record (after_line r) { line_offset = pos n -ℤ pos word.line } in
-        record {
-          outcome = None;
-          after = t;
-          steps = renumbers word tokens n None r t p c refl refl;
-          finite = f;
-          falls = λ h. less_left r t refl (omega arith) (rw p refl);
-        }
-    numbered_by word tokens p (Err fault) c = record {
-      outcome = Some (outcome.Fault fault);
-      after = r;
-      steps = unnumbered word tokens fault (Some (outcome.Fault fault)) r r p c refl refl;
-      finite = f;
-      falls = λ h. cc;
-    }
+        let t : SourceReader = record (act r).after { line_offset = pos n -ℤ pos word.line } in
+        passed (step.LineNumber word tokens) t p refl ((moves r).finite f) refl (Ok n, c, (refl, refl))
+    numbered_by word tokens p (Err fault) c = faulty (step.LineNumber word tokens) fault r p f (Err fault, c, (refl, refl))
 
     step_by : (s : Step) → (act r).step ≡ s → Stepped r
-    step_by step.Passed p = record {
-      outcome = None;
-      after = (act r).after;
-      steps = passes None r (act r).after p refl refl;
-      finite = (moves r).finite f;
-      falls = λ h. act_less_left r (rw p refl) (rw p refl);
-    }
+    step_by step.Passed p = passed step.Passed (act r).after p refl ((moves r).finite f) refl (refl, refl)
     step_by (step.Given x) p = record {
       outcome = Some x;
       after = (act r).after;
-      steps = gives x (Some x) r (act r).after p refl refl;
+      steps = that_does A (step.Given x) r (Some x) (act r).after p (refl, refl);
       finite = (moves r).finite f;
-      falls = λ h. act_less_left r (rw p h) (rw p (rw h refl));
+      falls = λ h. act_less_left r (rw p (rw h refl));
     }
     step_by (step.Defines named) p = defined_by named p (r.definitions named.name) refl
     step_by (step.Condition word tokens) p =

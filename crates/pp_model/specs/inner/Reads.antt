@@ -3,7 +3,7 @@ use Rattle.std.specs.Prelude.{ℕ, pos, ◌-ℤ◌, Some}
 use Rattle.pp_lexer.specs.declared.token.Location.{Location}
 use Rattle.pp_model.specs.Definitions.{with_change}
 use Rattle.pp_model.specs.SourceReader.{SourceReader}
-use Rattle.pp_model.specs.Acts.{after_line}
+use Rattle.pp_model.specs.inner.Acts.{after_line}
 use Rattle.pp_model.specs.declared.definition.Named.{Named}
 
 -- the reader after a `#line` of this number, whose word is here

@@ -1,5 +1,5 @@
 -- Each step of a source keeps what is known of the blocks that its reader has met.
-use Rattle.std.proofs.Common.{◌≡◌, ◌∙◌, Bool, true, false, refl, ap, sym, subst, Option, Some, None}
+use Rattle.std.proofs.Common.{◌≡◌, ◌∙◌, Bool, true, false, refl, ap, Option, Some, None}
 use Rattle.std.specs.Prelude.{option_map}
 use Rattle.pp_lexer.specs.declared.token.Location.{Location}
 use Rattle.pp_model.specs.Calls.{Answers}
@@ -7,27 +7,21 @@ use Rattle.pp_model.specs.Sights.{sight_of}
 use Rattle.pp_model.specs.Blocks.{part_of, Block, is_live}
 use Rattle.pp_model.specs.SourceReader.{SourceReader}
 use Rattle.pp_model.specs.Moves.{BlockFacts, directive_move, move_at}
-use Rattle.pp_model.specs.Acts.{Acted, after_line, decided, end_by, perform, facts_of, facts_here, act}
-use Rattle.pp_model.specs.inner.Acts.{items_left, after_word, block_here, perform_line}
-use Rattle.pp_model.specs.Reads.{Steps, passes, gives, defines, repeats, redefines, decides, undecided, renumbers, unnumbered}
+use Rattle.pp_model.specs.Acts.{Acted, end_by, perform, facts_of, facts_here, act}
+use Rattle.pp_model.specs.inner.Acts.{items_left, after_word, after_line, after_condition, block_here, perform_line}
+use Rattle.pp_model.specs.Reads.{Steps}
 use Rattle.pp_model.specs.declared.block.Part.TheVariants as part
 use Rattle.pp_model.specs.declared.directive.Directive.{Directive}
 use Rattle.pp_model.specs.declared.outcome.Outcome.{Outcome}
 use Rattle.pp_model.specs.declared.sight.Sight.{Sight}
 use Rattle.pp_model.specs.declared.sight.Sight.TheVariants as sight
-use Rattle.pp_model.specs.declared.step.Step.{Step}
-use Rattle.pp_model.specs.declared.step.Step.TheVariants as step
-use Rattle.pp_model.proofs.MovesLemmas.{skips, directive_holds}
+use Rattle.pp_model.proofs.MovesLemmas.{skips, Passes, plain, unread, parting, skipping, closing, Decides, opening, choosing, directive_holds}
+use Rattle.pp_model.proofs.ReadsLemmas.{HoldsAfter, holds_after}
 use Rattle.pp_rs.proofs.blocks.KnownAfterLemmas.{HasRead, one_keeps, bare_keeps, unknown_keeps, line_keeps, opening_keeps, unread_keeps, closing_keeps, parting_keeps, skipping_keeps, choosing_keeps}
 
--- it is known after an act, and where a value is wanted, after the line
-abbrev KnownAfter : Step → SourceReader → SourceReader → Type 0
-KnownAfter (step.Condition word tokens) r after = (holds : Bool) → HasRead (decided r holds)
-KnownAfter (step.LineNumber word tokens) r after = HasRead (after_line r)
-KnownAfter _ r after = HasRead after
-
+-- it is known after each step of this act
 abbrev Keeps : SourceReader → Acted → Type 0
-Keeps r a = KnownAfter a.step r a.after
+Keeps r a = HoldsAfter HasRead r a.step a.after
 
 -- the innermost block of the facts that the table asks
 record Found (r : SourceReader) (found : BlockFacts) : Type 0 where
@@ -60,13 +54,25 @@ module _ (r : SourceReader) (b : HasRead r) where
         skipping_keeps r b directive word e f.block f.here its (ap (λ facts. facts.has_else) f.facts ∙ none) (ap skips f.facts ∙ skipped)
 
     choose_keeps : part_of directive ≡ Some part.Elif → (found : BlockFacts) → facts_here r ≡ Some found → found.has_else ≡ false → skips found ≡ false
-        → (holds : Bool) → HasRead (decided r holds)
+        → (holds : Bool) → HasRead (after_condition r holds)
     choose_keeps its found is none reads holds =
         let f = found_here r found is in
         choosing_keeps r b directive word e f.block f.here its (ap (λ facts. facts.has_else) f.facts ∙ none) (ap skips f.facts ∙ reads) holds
 
     close_keeps : part_of directive ≡ Some part.Closes → (found : BlockFacts) → facts_here r ≡ Some found → HasRead (after_line r)
     close_keeps its found is = let f = found_here r found is in closing_keeps r b directive word e f.block f.here its
+
+    passing_keeps : (live : Bool) → is_live r.items r.truths r.position ≡ live → Passes live (facts_here r) directive → HasRead (after_line r)
+    passing_keeps live alive (plain its) = line_keeps r b directive word e its
+    passing_keeps live alive (unread now its) = unread_keeps r b directive word e its (alive ∙ now)
+    passing_keeps live alive (parting its found is none) = part_keeps its found is none
+    passing_keeps live alive (skipping its found is none skipped) = skip_keeps its found is none skipped
+    passing_keeps live alive (closing its found is) = close_keeps its found is
+
+    deciding_keeps : (live : Bool) → is_live r.items r.truths r.position ≡ live → Decides live (facts_here r) directive → (holds : Bool)
+        → HasRead (after_condition r holds)
+    deciding_keeps live alive (opening now its) = opening_keeps r b directive word e its (alive ∙ now)
+    deciding_keeps live alive (choosing its found is none reads) = choose_keeps its found is none reads
 
     directive_keeps : (live : Bool) → is_live r.items r.truths r.position ≡ live
         → Keeps r (perform_line (directive_move live (facts_here r) directive word (after_word r)) r)
@@ -75,18 +81,13 @@ module _ (r : SourceReader) (b : HasRead r) where
           failing = λ fault. b;
           refusing = λ fault. b;
           unknown = λ now its. unknown_keeps r b directive word e its;
-          passing = λ its. line_keeps r b directive word e its;
+          passing = λ why. passing_keeps live alive why;
           items = λ now its value is. line_keeps r b directive word e its;
-          defining = λ now its named is. line_keeps r b directive word e its;
+          defining = λ now its named is. (line_keeps r b directive word e its, line_keeps r b directive word e its);
           undefining = λ now its name. line_keeps r b directive word e its;
-          numbering = λ now its tokens. line_keeps r b directive word e its;
-          asking = λ now its asked name. opening_keeps r b directive word e its (alive ∙ now) _;
-          opening = λ now its tokens. opening_keeps r b directive word e its (alive ∙ now);
-          unread = λ now its. unread_keeps r b directive word e its (alive ∙ now);
-          parting = λ its found is none. part_keeps its found is none;
-          skipping = λ its found is none skipped. skip_keeps its found is none skipped;
-          choosing = λ its found is none reads tokens. choose_keeps its found is none reads;
-          closing = λ its found is. close_keeps its found is;
+          numbering = λ now its tokens. (b, λ n. line_keeps r b directive word e its);
+          testing = λ now its asked name. opening_keeps r b directive word e its (alive ∙ now) _;
+          deciding = λ why tokens. (b, deciding_keeps live alive why);
         })
 
   sight_keeps : (live : Bool) (shown : Sight) → is_live r.items r.truths r.position ≡ live → sight_of (items_left r) ≡ shown
@@ -107,18 +108,7 @@ module _ (r : SourceReader) (b : HasRead r) where
   act_keeps : Keeps r (act r)
   act_keeps = sight_keeps (is_live r.items r.truths r.position) (sight_of (items_left r)) refl refl
 
-  known_by : (by : Step) → (act r).step ≡ by → KnownAfter by r (act r).after
-  known_by by is = subst (λ (s : Step). KnownAfter s r (act r).after) is act_keeps
-
 module _ (A : Answers) where
   -- so each step keeps it
   pub step_keeps_branches : (o : Option Outcome) (r t : SourceReader) → Steps A r o t → HasRead r → HasRead t
-  step_keeps_branches o r t (passes o1 r1 t1 h p q) b = subst HasRead (sym q) (known_by r b step.Passed h)
-  step_keeps_branches o r t (gives x o1 r1 t1 h p q) b = subst HasRead (sym q) (known_by r b (step.Given x) h)
-  step_keeps_branches o r t (defines named o1 r1 t1 h none p q) b = subst HasRead (sym q) (known_by r b (step.Defines named) h)
-  step_keeps_branches o r t (repeats named old o1 r1 t1 h is same p q) b = subst HasRead (sym q) (known_by r b (step.Defines named) h)
-  step_keeps_branches o r t (redefines named old o1 r1 t1 h is other p q) b = subst HasRead (sym q) (known_by r b (step.Defines named) h)
-  step_keeps_branches o r t (decides word tokens holds o1 r1 t1 h is p q) b = subst HasRead (sym q) (known_by r b (step.Condition word tokens) h holds)
-  step_keeps_branches o r t (undecided word tokens fault o1 r1 t1 h is p q) b = subst HasRead (sym q) b
-  step_keeps_branches o r t (renumbers word tokens n o1 r1 t1 h is p q) b = subst HasRead (sym q) (known_by r b (step.LineNumber word tokens) h)
-  step_keeps_branches o r t (unnumbered word tokens fault o1 r1 t1 h is p q) b = subst HasRead (sym q) b
+  step_keeps_branches o r t s b = holds_after A r o t HasRead (act r).step (act r).after (act_keeps r b) s

@@ -8,8 +8,8 @@ use Rattle.pp_model.specs.Sights.{sight_of}
 use Rattle.pp_model.specs.Blocks.{part_of, line_at, block_lines, Block, blocks_at, is_live, are_surroundings_live, has_taken_branch, has_else}
 use Rattle.pp_model.specs.inner.Blocks.{line_with}
 use Rattle.pp_model.specs.SourceReader.{SourceReader}
-use Rattle.pp_model.specs.Acts.{advanced_by, after_line, decided}
-use Rattle.pp_model.specs.inner.Acts.{after_word, block_here}
+use Rattle.pp_model.specs.Acts.{advanced_by}
+use Rattle.pp_model.specs.inner.Acts.{after_word, after_line, after_condition, block_here}
 use Rattle.pp_model.specs.declared.block.Part.{Part}
 use Rattle.pp_model.specs.declared.block.Part.TheVariants as part
 use Rattle.pp_model.specs.declared.directive.Directive.{Directive}
@@ -74,7 +74,7 @@ module _ (r : SourceReader) (b : HasRead r) where
     line_keeps its = read_quiet r.items r.position r.truths b (2 + line_length (after_word r)) (line_adds None its)
 
     -- which opens a block in live text
-    pub opening_keeps : part_of directive ≡ Some part.Opens → is_live r.items r.truths r.position ≡ true → (holds : Bool) → HasRead (decided r holds)
+    pub opening_keeps : part_of directive ≡ Some part.Opens → is_live r.items r.truths r.position ≡ true → (holds : Bool) → HasRead (after_condition r holds)
     opening_keeps its live holds =
         read_opened r.items (record { position = r.position; word = word; part = part.Opens }) r.truths b (2 + line_length (after_word r))
         (line_adds (Some part.Opens) its) holds (omega arith) refl live
@@ -114,7 +114,7 @@ module _ (r : SourceReader) (b : HasRead r) where
 
       -- an `#elif` whose condition is read
       pub choosing_keeps : part_of directive ≡ Some part.Elif → has_else block ≡ false
-          → not (are_surroundings_live r.items r.truths block) || has_taken_branch r.truths block ≡ false → (holds : Bool) → HasRead (decided r holds)
+          → not (are_surroundings_live r.items r.truths block) || has_taken_branch r.truths block ≡ false → (holds : Bool) → HasRead (after_condition r holds)
       choosing_keeps its none reads holds =
           let n = reads_branch (are_surroundings_live r.items r.truths block) (has_taken_branch r.truths block) reads in
           read_elif r.items (record { position = r.position; word = word; part = part.Elif }) r.truths b (2 + line_length (after_word r))

@@ -4,13 +4,14 @@ use Rattle.std.specs.Prelude.{Err, MatchBool}
 use Rattle.pp_lexer.specs.declared.token.Location.{Location}
 use Rattle.pp_lexer.specs.declared.token.Token.{Token}
 use Rattle.pp_model.specs.Definitions.{Definition}
+use Rattle.pp_model.specs.Sights.{sight_of}
 use Rattle.pp_model.specs.declared.definition.Named.{Named}
 use Rattle.pp_macros.specs.Item.{Step, wants_memory}
 use Rattle.pp_macros.specs.inner.Defined.{meaning_of}
-use Rattle.pp_macros.specs.inner.Source.{Source, Ends, DefinesOver, HasEffect, IsRefusedStep, Makes, Decides, holds, faulty, Renumbers, numbers, unnumbered}
+use Rattle.pp_macros.specs.inner.Source.{Source, Ends, DefinesOver, HasEffect, IsRefusedStep, MakesMove, Decides, holds, faulty, Renumbers, numbers, unnumbered}
 use Rattle.pp_macros.specs.declared.blocks.OpenBlock.{OpenBlock}
-use Rattle.pp_model.specs.Moves.{Effect, gives, gives_item, fails, ends, passes, defines, undefines, opens_where, opens_if, opens_unread, parts, skips_branch, parts_if, closes, renumbers}
-use Rattle.pp_macros.specs.inner.OpenBlocks.{last_block}
+use Rattle.pp_model.specs.Moves.{Effect, gives, gives_item, fails, ends, passes, defines, undefines, tests, decides, renumbers}
+use Rattle.pp_macros.specs.inner.OpenBlocks.{last_block, BlockChange, block_change_at}
 use Rattle.pp_macros.specs.inner.SourceMoves.{Note, note_of, move_of}
 use Rattle.pp_macros.specs.declared.step.StepExit.TheVariants.{Finished}
 
@@ -34,26 +35,20 @@ module _ (old new : Source) (step : Step Token) (unspent : old.spent ≡ false) 
   end_unspent None h = ap (λ (s : Source). s.spent) h.1 ∙ unspent
   end_unspent (Some block) h = h.1.spent
 
-  effect_unspent : (effect : Effect) (taken : ℕ) (note : Note) → HasEffect effect taken note old step new → new.spent ≡ false
-  effect_unspent (gives token) taken note h = h.1.spent
-  effect_unspent (gives_item item word) taken note h = h.1.spent
-  effect_unspent (fails fault) taken note h = h.1.spent
-  effect_unspent ends taken note h = end_unspent (last_block old.blocks) h
-  effect_unspent passes taken note h = h.1.spent
-  effect_unspent (defines named) taken note h = defines_unspent named (meaning_of old.definitions named.name) taken note h
-  effect_unspent (undefines name) taken note h = h.1.spent
-  effect_unspent (opens_where wanted word name) taken note h = h.1.spent
-  effect_unspent (opens_if word tokens) taken note h = decides_unspent word tokens _ taken note h
-  effect_unspent (opens_unread word) taken note h = h.1.spent
-  effect_unspent parts taken note h = h.1.spent
-  effect_unspent skips_branch taken note h = h.1.spent
-  effect_unspent (parts_if word tokens) taken note h = decides_unspent word tokens _ taken note h
-  effect_unspent closes taken note h = h.1.spent
-  effect_unspent (renumbers word tokens) taken note h = renumbers_unspent word tokens taken note h
+  effect_unspent : (effect : Effect) (taken : ℕ) (note : Note) (change : BlockChange) → HasEffect effect taken note change old step new → new.spent ≡ false
+  effect_unspent (gives token) taken note change h = h.1.spent
+  effect_unspent (gives_item item word) taken note change h = h.1.spent
+  effect_unspent (fails fault) taken note change h = h.1.spent
+  effect_unspent ends taken note change h = end_unspent (last_block old.blocks) h
+  effect_unspent passes taken note change h = h.1.spent
+  effect_unspent (defines named) taken note change h = defines_unspent named (meaning_of old.definitions named.name) taken note h
+  effect_unspent (undefines name) taken note change h = h.1.spent
+  effect_unspent (tests asked name) taken note change h = h.1.spent
+  effect_unspent (decides word tokens) taken note change h = decides_unspent word tokens _ taken note h
+  effect_unspent (renumbers word tokens) taken note change h = renumbers_unspent word tokens taken note h
 
   pub steps_unspent : (spent : Bool) → old.spent ≡ spent → wants_memory step ≡ false
-      → MatchBool spent ((step ≡ Err Finished) × (new ≡ old)) (IsRefusedStep old step
-      ⊎ Makes (note_of old.dead_for_good old.blocks old.rest) (move_of old.dead_for_good old.blocks old.rest) old step new)
+      → MatchBool spent ((step ≡ Err Finished) × (new ≡ old)) (IsRefusedStep old step ⊎ MakesMove old step new)
       → new.spent ≡ false
   steps_unspent true e reported h = cc
   steps_unspent false e reported (inl h) =
@@ -61,4 +56,4 @@ module _ (old new : Source) (step : Step Token) (unspent : old.spent ≡ false) 
       cc
   steps_unspent false e reported (inr h) =
       let move = move_of old.dead_for_good old.blocks old.rest in
-      effect_unspent move.effect move.taken (note_of old.dead_for_good old.blocks old.rest) h
+      effect_unspent move.effect move.taken (note_of old.dead_for_good old.blocks old.rest) (block_change_at (sight_of old.rest)) h

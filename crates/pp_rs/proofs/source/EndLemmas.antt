@@ -9,12 +9,12 @@ use Rattle.pp_model.specs.declared.directive.Directive.{Directive}
 use Rattle.pp_model.specs.declared.sight.Sight.{Sight}
 use Rattle.pp_model.specs.declared.sight.Sight.TheVariants as sight
 use Rattle.pp_macros.specs.Item.{Step}
-use Rattle.pp_macros.specs.inner.OpenBlocks.{last_block, facts_among, is_live_among}
+use Rattle.pp_macros.specs.inner.OpenBlocks.{last_block, facts_among, is_live_among, block_change_at}
 use Rattle.pp_macros.specs.declared.blocks.OpenBlock.{OpenBlock}
 use Rattle.pp_model.specs.Moves.{BlockFacts, directive_move, move_at}
 use Rattle.pp_model.proofs.MovesLemmas.{directive_holds}
 use Rattle.pp_macros.specs.inner.SourceMoves.{note_of, move_of}
-use Rattle.pp_macros.specs.inner.Source.{Source, Ends, IsRefusedStep, Makes}
+use Rattle.pp_macros.specs.inner.Source.{Source, Ends, IsRefusedStep, Makes, MakesMove}
 use Rattle.pp_macros.specs.declared.step.StepExit.TheVariants.{Finished}
 use Rattle.pp_rs.proofs.source.ItemThereLemmas.{item_there}
 use Rattle.pp_rs.proofs.source.StandsAfterLemmas.{no_blocks_kept}
@@ -28,18 +28,13 @@ directive_goes_on live block directive word after =
       failing = λ fault. refl;
       refusing = λ fault. refl;
       unknown = λ live its. refl;
-      passing = λ its. refl;
+      passing = λ why. refl;
       items = λ live its value is. refl;
       defining = λ live its named is. refl;
       undefining = λ live its name. refl;
       numbering = λ live its tokens. refl;
-      asking = λ live its asked name. refl;
-      opening = λ live its tokens. refl;
-      unread = λ live its. refl;
-      parting = λ its found is none. refl;
-      skipping = λ its found is none skipped. refl;
-      choosing = λ its found is none reads tokens. refl;
-      closing = λ its found is. refl;
+      testing = λ live its asked name. refl;
+      deciding = λ why tokens. refl;
     })
 
 -- what stands there is the end only after all items
@@ -67,20 +62,20 @@ end_nothing None old new none e h = (ap (λ (s : Source). s.rest) h.1 ∙ e, ap 
 end_nothing (Some kept) old new some e h = let bad = h.0 in cc
 
 makes_end : (rest : List Seen) (old new : Source) → old.rest ≡ rest
-    → Makes (note_of old.dead_for_good old.blocks rest) (move_of old.dead_for_good old.blocks rest) old (Err Finished) new → HasNothing new
+    → Makes (note_of old.dead_for_good old.blocks rest) (block_change_at (sight_of rest)) (move_of old.dead_for_good old.blocks rest) old (Err Finished) new
+    → HasNothing new
 makes_end [] old new e h = end_nothing (last_block old.blocks) old new refl e h
 makes_end (s ∷ rest) old new e h =
     let move = move_of old.dead_for_good old.blocks (s ∷ rest) in
     let on : is_end_effect move.effect ≡ false =
     sight_goes_on (is_live_among old.dead_for_good old.blocks) (facts_among old.blocks) (sight_of (s ∷ rest)) (s ∷ rest) (λ is. item_there s.item rest is) in
     let off : is_end_effect move.effect ≡ true =
-    finished_ends move.effect move.taken (note_of old.dead_for_good old.blocks (s ∷ rest)) old new h in
+    finished_ends move.effect move.taken (note_of old.dead_for_good old.blocks (s ∷ rest)) (block_change_at (sight_of (s ∷ rest))) old new h in
     absurd (let bad : false ≡ true = sym on ∙ off in cc)
 
 pub source_end : (old new : Source) (spent : Bool) → old.spent ≡ spent → spent ≡ false
     → MatchBool spent ((◌≡◌ {A = Step Token} (Err Finished) (Err Finished)) × (new ≡ old))
-    (IsRefusedStep old (Err Finished)
-    ⊎ Makes (note_of old.dead_for_good old.blocks old.rest) (move_of old.dead_for_good old.blocks old.rest) old (Err Finished) new) → HasNothing new
+    (IsRefusedStep old (Err Finished) ⊎ MakesMove old (Err Finished) new) → HasNothing new
 source_end old new true e f h = cc
 source_end old new false e f (inl h) = let bad = h.fault in cc
 source_end old new false e f (inr h) = makes_end old.rest old new refl h

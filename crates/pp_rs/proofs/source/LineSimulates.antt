@@ -1,5 +1,5 @@
 -- Each effect of a directive's line is a step of the source's reader.
-use Rattle.std.proofs.Common.{◌≡◌, ◌∙◌, inl, inr, Bool, true, false, ◌&&◌, ◌||◌, not, ℕ, List, drop, refl, ap, sym, subst, Option, Some, None, is_some}
+use Rattle.std.proofs.Common.{◌≡◌, ◌∙◌, inl, inr, Bool, true, false, ◌&&◌, ◌||◌, not, ℕ, List, [], ◌∷◌, ◌++◌, drop, refl, ap, sym, subst, Option, Some, None, is_some}
 use Rattle.std.specs.Prelude.{pos, ◌-ℤ◌, Ok, Err, option_map}
 use Rattle.pp_lexer.specs.declared.token.Location.{Location}
 use Rattle.pp_lexer.specs.declared.token.Token.{Token}
@@ -11,23 +11,28 @@ use Rattle.pp_model.specs.LineValues.{IsCondition, IsLineNumber}
 use Rattle.pp_model.specs.Sights.{sight_of}
 use Rattle.pp_model.specs.Blocks.{part_of}
 use Rattle.pp_model.specs.SourceReader.{SourceReader}
-use Rattle.pp_model.specs.Moves.{BlockFacts, Effect, gives_item, defines, undefines, opens_where, opens_if, opens_unread, parts, skips_branch, parts_if, closes, passes, renumbers, directive_move}
+use Rattle.pp_model.specs.Moves.{BlockFacts, Effect, gives_item, passes, defines, undefines, tests, decides, renumbers, directive_move}
 use Rattle.pp_model.specs.inner.Moves.{taking_more}
-use Rattle.pp_model.specs.Acts.{pause_at, outcome_at, advanced_by, after_line, decided, effect_on, perform, act}
-use Rattle.pp_model.specs.Reads.{defines as defines_new, repeats, redefines, decides, undecided, renumbers as numbers_anew, unnumbered}
-use Rattle.pp_model.specs.inner.Reads.{after_define, after_line_number}
+use Rattle.pp_model.specs.Acts.{pause_at, outcome_at, advanced_by, decided, effect_on, perform, act}
+use Rattle.pp_model.specs.inner.Acts.{after_line, after_condition}
+use Rattle.pp_model.specs.Reads.{Does, Steps}
+use Rattle.pp_model.specs.inner.Reads.{after_line_number}
+use Rattle.pp_model.specs.declared.block.Part.{Part}
 use Rattle.pp_model.specs.declared.block.Part.TheVariants as part
 use Rattle.pp_model.specs.declared.definition.Named.{Named}
 use Rattle.pp_model.specs.declared.directive.Directive.{Directive}
 use Rattle.pp_model.specs.declared.outcome.Outcome.TheVariants as outcome
 use Rattle.pp_model.specs.declared.sight.Sight.TheVariants as sight
+use Rattle.pp_model.specs.declared.step.Step.{Step as Did}
 use Rattle.pp_model.specs.declared.step.Step.TheVariants as step
-use Rattle.pp_model.proofs.MovesLemmas.{skips, directive_holds}
+use Rattle.pp_model.specs.declared.outcome.Outcome.{Outcome}
+use Rattle.pp_model.proofs.MovesLemmas.{skips, Passes, plain, unread, parting, skipping, closing, Decides as HasCondition, opening, choosing, directive_holds}
+use Rattle.pp_model.proofs.ReadsLemmas.{act_does}
 use Rattle.pp_macros.specs.Item.{Step}
 use Rattle.pp_macros.specs.inner.Defined.{meaning_of}
-use Rattle.pp_macros.specs.inner.OpenBlocks.{last_block, kept_facts, facts_among, is_live_in, block_parted, block_skipped, block_decided}
+use Rattle.pp_macros.specs.inner.OpenBlocks.{last_block, outer_blocks, with_last, kept_facts, facts_among, is_live_in, block_parted, block_branched, block_change}
 use Rattle.pp_macros.specs.declared.blocks.OpenBlock.{OpenBlock}
-use Rattle.pp_macros.specs.inner.Source.{Source, Pauses, DefinesOver, HasEffect, Decides, holds, faulty, numbers, unnumbered as faulty_number, Makes}
+use Rattle.pp_macros.specs.inner.Source.{Source, Pauses, DefinesOver, HasEffect, holds, faulty, numbers, unnumbered as faulty_number, Makes}
 use Rattle.pp_macros.specs.inner.SourceMoves.{directive_line}
 use Rattle.pp_rs.specs.inner.Stands.{StandsForReader}
 use Rattle.pp_macros.proofs.work.DirectiveLineLemmas.{begins_directive, quiet_word}
@@ -94,15 +99,35 @@ kept_among blocks found e = go (last_block blocks) refl e
 
 module _ {old : Source} {r : SourceReader} (s : StandsForReader old r) (move : Step Token) (new : Source)
     {directive : Directive} {word : Location} (e : sight_of old.rest ≡ sight.Directive directive word) where
+  -- a step of the reader over the line
+  steps_by : (did : Did) (o : Option Outcome) (t : SourceReader) → act r ≡ record { step = did; after = after_line r }
+      → Does (answers_at expansion_limit) r did (after_line r) o t → Steps (answers_at expansion_limit) r o t
+  steps_by did o t a does = act_does (answers_at expansion_limit) did (after_line r) r o t a does
+
   -- the effect of the line, on both sides
   abbrev ActsBy : Effect → Type 0
-  ActsBy effect = act r ≡ effect_on effect (whole_line old.rest) r
+  ActsBy effect = act r ≡ effect_on effect r (advanced_by (whole_line old.rest) r)
 
   abbrev Has : Effect → Type 0
-  Has effect = HasEffect effect (whole_line old.rest) directive_line old move new
+  Has effect = HasEffect effect (whole_line old.rest) directive_line (block_change (part_of directive) word) old move new
 
-  passes_simulates : part_of directive ≡ None → ActsBy passes → Has passes → Simulates move r new
-  passes_simulates its a h = passes_line s move new a (h.0, line_stays s e its h.1 h.2)
+  -- the pause after a line, which does this to the blocks
+  changed : (p : Option Part) → part_of directive ≡ p → (taken : ℕ) (condition : Option Bool)
+      → Pauses taken directive_line (block_change (part_of directive) word condition old.blocks) old move new
+      → Pauses taken directive_line (block_change p word condition old.blocks) old move new
+  changed p its taken condition h = subst (λ (q : Option Part). Pauses taken directive_line (block_change q word condition old.blocks) old move new) its h
+
+  -- the same where the innermost block changes
+  last_changed : (p : Option Part) → part_of directive ≡ p → (condition : Option Bool) (change : OpenBlock → OpenBlock)
+      → block_change p word condition old.blocks ≡ with_last change old.blocks → (block : OpenBlock) → last_block old.blocks ≡ Some block
+      → Pauses (whole_line old.rest) directive_line (block_change (part_of directive) word condition old.blocks) old move new
+      → Pauses (whole_line old.rest) directive_line (outer_blocks old.blocks ++ change block ∷ []) old move new
+  last_changed p its condition change is block last h =
+      subst (λ (blocks : List OpenBlock). Pauses (whole_line old.rest) directive_line blocks old move new) (is ∙ with_last_is change old.blocks block last)
+      (changed p its (whole_line old.rest) condition h)
+
+  plain_simulates : part_of directive ≡ None → ActsBy passes → Has passes → Simulates move r new
+  plain_simulates its a h = let there = changed None its (whole_line old.rest) None h in passes_line s move new a (there.0, line_stays s e its there.1 there.2)
 
   item_simulates : part_of directive ≡ None → (value : Bool → Bool → TokenValue) → ActsBy (gives_item value word) → Has (gives_item value word)
       → Simulates move r new
@@ -124,20 +149,20 @@ module _ {old : Source} {r : SourceReader} (s : StandsForReader old r) (move : S
       let t = record (after_line r) { definitions = with_change r.definitions named.name (Some named.definition) } in
       rw h.0 (record {
         after = t;
-        steps = defines_new named None r t (ap (λ x. x.step) a) (defined_now s named.name known) refl (ap (λ x. after_define named x.after) (sym a));
+        steps = steps_by (step.Defines named) None t a (rw (defined_now s named.name known) (refl, refl));
         stands = stands_line s e (with_change r.definitions named.name (Some named.definition)) its h.1
             (ap (λ (m : Definitions). with_change m named.name (Some named.definition)) s.definitions ∙ sym h.2.meaning);
       })
   define_over its named a (Some before) known (inl h) =
       rw h.1 (record {
         after = after_line r;
-        steps = repeats named before None r (after_line r) (ap (λ x. x.step) a) (defined_now s named.name known) h.0 refl (sym (ap (λ x. x.after) a));
+        steps = steps_by (step.Defines named) None (after_line r) a (rw (defined_now s named.name known) (refl, inl (h.0, refl)));
         stands = line_stays s e its h.2 h.3;
       })
   define_over its named a (Some before) known (inr h) =
       rw h.1 (record {
         after = after_line r;
-        steps = redefines named before _ r (after_line r) (ap (λ x. x.step) a) (defined_now s named.name known) h.0 refl (sym (ap (λ x. x.after) a));
+        steps = steps_by (step.Defines named) _ (after_line r) a (rw (defined_now s named.name known) (refl, inr (h.0, refl)));
       })
 
   define_simulates : part_of directive ≡ None → (named : Named) → ActsBy (defines named) → Has (defines named) → Simulates move r new
@@ -156,113 +181,134 @@ module _ {old : Source} {r : SourceReader} (s : StandsForReader old r) (move : S
   number_simulates : part_of directive ≡ None → (tokens : List Token) → ActsBy (renumbers word tokens) → Has (renumbers word tokens)
       → Simulates move r new
   number_simulates its tokens a (numbers n number pauses) =
+      let there = line_here s (λ n. record { step = step.LineNumber word tokens; after = advanced_by n r }) a in
       let same : IsLineNumber (answers_at expansion_limit) word tokens r.definitions (Ok n) =
       subst (λ (m : Definitions). IsLineNumber (answers_at expansion_limit) word tokens m (Ok n)) (sym s.definitions) number in
       rw pauses.0 (record {
         after = after_line_number r word n;
-        steps = numbers_anew word tokens n None r (after_line_number r word n) (ap (λ x. x.step) a) same refl refl;
+        steps = steps_by (step.LineNumber word tokens) None (after_line_number r word n) there (Ok n, same, (refl, refl));
         stands = line_stays (renumbered_stands old r s word n) e its pauses.1 pauses.2;
       })
   number_simulates its tokens a (faulty_number fault number failed left) =
+      let there = line_here s (λ n. record { step = step.LineNumber word tokens; after = advanced_by n r }) a in
       let same : IsLineNumber (answers_at expansion_limit) word tokens r.definitions (Err fault) =
       subst (λ (m : Definitions). IsLineNumber (answers_at expansion_limit) word tokens m (Err fault)) (sym s.definitions) number in
-      rw failed (record { after = r; steps = unnumbered word tokens fault (Some (outcome.Fault fault)) r r (ap (λ x. x.step) a) same refl refl })
+      rw failed (record { after = r; steps = steps_by (step.LineNumber word tokens) _ r there (Err fault, same, (refl, refl)) })
 
   -- a line whose condition holds or not, or is at fault
-  condition_simulates : (tokens : List Token) (blocks : Bool → List OpenBlock) → act r ≡ record { step = step.Condition word tokens; after = r }
-      → ((value : Bool) → Pauses (whole_line old.rest) directive_line (blocks value) old move new → PausesAt move new (decided r value))
-      → Decides word tokens blocks (whole_line old.rest) directive_line old move new → Simulates move r new
-  condition_simulates tokens blocks a stands (holds value condition pauses) =
+  condition_simulates : (tokens : List Token) → ActsBy (decides word tokens)
+      → ((value : Bool) → Pauses (whole_line old.rest) directive_line (block_change (part_of directive) word (Some value) old.blocks) old move new
+      → PausesAt move new (after_condition r value))
+      → Has (decides word tokens) → Simulates move r new
+  condition_simulates tokens a stands (holds value condition pauses) =
+      let acts = line_here s (λ n. record { step = step.Condition word tokens; after = advanced_by n r }) a in
       let there = stands value pauses in
       let same : IsCondition (answers_at expansion_limit) word tokens r.definitions (Ok value) =
       subst (λ (m : Definitions). IsCondition (answers_at expansion_limit) word tokens m (Ok value)) (sym s.definitions) condition in
       rw there.0 (record {
-        after = decided r value;
-        steps = decides word tokens value None r (decided r value) (ap (λ x. x.step) a) same refl refl;
+        after = after_condition r value;
+        steps = steps_by (step.Condition word tokens) None (after_condition r value) acts (Ok value, same, (refl, refl));
         stands = there.1;
       })
-  condition_simulates tokens blocks a stands (faulty fault condition failed left) =
+  condition_simulates tokens a stands (faulty fault condition failed left) =
+      let acts = line_here s (λ n. record { step = step.Condition word tokens; after = advanced_by n r }) a in
       let same : IsCondition (answers_at expansion_limit) word tokens r.definitions (Err fault) =
       subst (λ (m : Definitions). IsCondition (answers_at expansion_limit) word tokens m (Err fault)) (sym s.definitions) condition in
-      rw failed (record { after = r; steps = undecided word tokens fault (Some (outcome.Fault fault)) r r (ap (λ x. x.step) a) same refl refl })
+      rw failed (record { after = r; steps = steps_by (step.Condition word tokens) _ r acts (Err fault, same, (refl, refl)) })
 
   -- lines of blocks: a block opens,
   ask_simulates : is_live_in (last_block old.blocks) ≡ true → part_of directive ≡ Some part.Opens → (asked : Bool → Bool) (name : Name)
-      → ActsBy (opens_where asked word name) → Has (opens_where asked word name) → Simulates move r new
+      → ActsBy (tests asked name) → Has (tests asked name) → Simulates move r new
   ask_simulates alive its asked name a h =
-      pauses_here s move new (a ∙ ap (λ (m : Definitions). pause_at (decided r (asked (is_some (m name))))) s.definitions)
-      (opened_read s e (asked (is_some (meaning_of old.definitions name))) alive its h)
+      let holds_now = asked (is_some (meaning_of old.definitions name)) in
+      pauses_here s move new
+      (line_here s (λ n. pause_at (decided r.position (asked (is_some (r.definitions name))) (advanced_by n r))) a
+      ∙ ap (λ (m : Definitions). pause_at (after_condition r (asked (is_some (m name))))) s.definitions)
+      (opened_read s e holds_now alive its (changed (Some part.Opens) its (whole_line old.rest) (Some holds_now) h))
 
   open_simulates : is_live_in (last_block old.blocks) ≡ true → part_of directive ≡ Some part.Opens → (tokens : List Token)
-      → ActsBy (opens_if word tokens) → Has (opens_if word tokens) → Simulates move r new
-  open_simulates alive its tokens a h = condition_simulates tokens _ a (λ value. opened_read s e value alive its) h
+      → ActsBy (decides word tokens) → Has (decides word tokens) → Simulates move r new
+  open_simulates alive its tokens a h =
+      condition_simulates tokens a (λ value pauses.
+      opened_read s e value alive its (changed (Some part.Opens) its (whole_line old.rest) (Some value) pauses)) h
 
-  unread_simulates : is_live_in (last_block old.blocks) ≡ false → part_of directive ≡ Some part.Opens → ActsBy (opens_unread word)
-      → Has (opens_unread word) → Simulates move r new
-  unread_simulates dead its a h = passes_line s move new a (opened_unread s e dead its h)
+  unread_simulates : is_live_in (last_block old.blocks) ≡ false → part_of directive ≡ Some part.Opens → ActsBy passes
+      → Has passes → Simulates move r new
+  unread_simulates dead its a h = passes_line s move new a (opened_unread s e dead its (changed (Some part.Opens) its (whole_line old.rest) None h))
 
   -- or the innermost one is parted or closes
-  part_simulates : part_of directive ≡ Some part.Else → (found : BlockFacts) → facts_among old.blocks ≡ Some found → ActsBy parts → Has parts
+  part_simulates : part_of directive ≡ Some part.Else → (found : BlockFacts) → facts_among old.blocks ≡ Some found → ActsBy passes → Has passes
       → Simulates move r new
   part_simulates its found is a h =
       let k = kept_among old.blocks found is in
-      passes_line s move new a (parted_last s e k.block k.last its (rw (with_last_is block_parted old.blocks k.block k.last) at h))
+      passes_line s move new a (parted_last s e k.block k.last its (last_changed (Some part.Else) its None block_parted refl k.block k.last h))
 
   skip_simulates : part_of directive ≡ Some part.Elif → (found : BlockFacts) → facts_among old.blocks ≡ Some found → skips found ≡ true
-      → ActsBy skips_branch → Has skips_branch → Simulates move r new
+      → ActsBy passes → Has passes → Simulates move r new
   skip_simulates its found is skipped a h =
       let k = kept_among old.blocks found is in
       let dead : skips (kept_facts k.block) ≡ true = ap skips k.facts ∙ skipped in
       passes_line s move new a (skipped_last s e k.block k.last its (skipped_dead k.block.live_around k.block.taken dead)
-      (rw (with_last_is block_skipped old.blocks k.block k.last) at h))
+      (last_changed (Some part.Elif) its None (block_branched None) refl k.block k.last h))
 
   choose_simulates : part_of directive ≡ Some part.Elif → (found : BlockFacts) → facts_among old.blocks ≡ Some found → skips found ≡ false
-      → (tokens : List Token) → ActsBy (parts_if word tokens) → Has (parts_if word tokens) → Simulates move r new
+      → (tokens : List Token) → ActsBy (decides word tokens) → Has (decides word tokens) → Simulates move r new
   choose_simulates its found is reads tokens a h =
       let k = kept_among old.blocks found is in
       let live : skips (kept_facts k.block) ≡ false = ap skips k.facts ∙ reads in
-      condition_simulates tokens _ a (λ value pauses.
+      condition_simulates tokens a (λ value pauses.
       decided_last s e k.block k.last its (read_live k.block.live_around k.block.taken live) (read_untaken k.block.live_around k.block.taken live) value
-      (rw (with_last_is (λ block. block_decided block value) old.blocks k.block k.last) at pauses)) h
+      (last_changed (Some part.Elif) its (Some value) (block_branched (Some value)) refl k.block k.last pauses)) h
 
-  close_simulates : part_of directive ≡ Some part.Closes → (found : BlockFacts) → facts_among old.blocks ≡ Some found → ActsBy closes → Has closes
+  close_simulates : part_of directive ≡ Some part.Closes → (found : BlockFacts) → facts_among old.blocks ≡ Some found → ActsBy passes → Has passes
       → Simulates move r new
   close_simulates its found is a h =
       let k = kept_among old.blocks found is in
-      passes_line s move new a (closed_last s e k.block k.last its h)
+      passes_line s move new a (closed_last s e k.block k.last its (changed (Some part.Closes) its (whole_line old.rest) None h))
+
+  passes_simulates : (live : Bool) → is_live_in (last_block old.blocks) ≡ live → Passes live (facts_among old.blocks) directive → ActsBy passes → Has passes
+      → Simulates move r new
+  passes_simulates live alive (plain its) a h = plain_simulates its a h
+  passes_simulates live alive (unread now its) a h = unread_simulates (alive ∙ now) its a h
+  passes_simulates live alive (parting its found is none) a h = part_simulates its found is a h
+  passes_simulates live alive (skipping its found is none skipped) a h = skip_simulates its found is skipped a h
+  passes_simulates live alive (closing its found is) a h = close_simulates its found is a h
+
+  decides_simulates : (live : Bool) → is_live_in (last_block old.blocks) ≡ live → HasCondition live (facts_among old.blocks) directive
+      → (tokens : List Token) → ActsBy (decides word tokens) → Has (decides word tokens) → Simulates move r new
+  decides_simulates live alive (opening now its) tokens a h = open_simulates (alive ∙ now) its tokens a h
+  decides_simulates live alive (choosing its found is none reads) tokens a h = choose_simulates its found is reads tokens a h
 
   -- after an unknown word in dead text the line is dead text
   unknown_simulates : is_live_in (last_block old.blocks) ≡ false → part_of directive ≡ None → act r ≡ pause_at (advanced_by 2 r)
-      → Pauses 2 directive_line old.blocks old move new → Simulates move r new
+      → Pauses 2 directive_line (block_change (part_of directive) word None old.blocks) old move new → Simulates move r new
   unknown_simulates dead its a h =
       let b = begins_directive old.rest directive word e in
+      let there = changed None its 2 None h in
       pauses_here s move new a (
-        h.0,
+        there.0,
         stands_two s (λ alive. let bad : true ≡ false = sym alive ∙ dead in cc) e b.hash b.name b.after refl refl (word_adds old.rest directive word e) b.front
-            (λ later. quiet_word r.position old.rest later directive word b its) h.1 h.2,
+            (λ later. quiet_word r.position old.rest later directive word b its) there.1 there.2,
       )
 
   -- the line of a directive is the reader's step, in live and in dead text
   pub directive_simulates : (live : Bool) → is_live_in (last_block old.blocks) ≡ live
       → act r ≡ perform (taking_more 2 (directive_move live (facts_among old.blocks) directive word (drop 2 old.rest))) r
-      → Makes directive_line (taking_more 2 (directive_move live (facts_among old.blocks) directive word (drop 2 old.rest))) old move new
+      → Makes directive_line (block_change (part_of directive) word)
+      (taking_more 2 (directive_move live (facts_among old.blocks) directive word (drop 2 old.rest))) old move new
       → Simulates move r new
   directive_simulates live alive =
-      directive_holds (λ m. act r ≡ perform (taking_more 2 m) r → Makes directive_line (taking_more 2 m) old move new → Simulates move r new)
+      directive_holds (λ m. act r ≡ perform (taking_more 2 m) r → Makes directive_line (block_change (part_of directive) word) (taking_more 2 m) old move new
+      → Simulates move r new)
       (facts_among old.blocks) word (drop 2 old.rest) live directive (record {
         failing = λ fault a h. fails_here s move new a h.0;
         refusing = λ fault a h. fails_here s move new a h.0;
         unknown = λ now its a h. unknown_simulates (alive ∙ now) its a h;
-        passing = λ its a h. passes_simulates its a h;
+        passing = λ why a h. passes_simulates live alive why a h;
         items = λ now its value is a h. item_simulates its value a h;
         defining = λ now its named is a h. define_simulates its named a h;
         undefining = λ now its name a h. undefine_simulates its name a h;
         numbering = λ now its tokens a h. number_simulates its tokens a h;
-        asking = λ now its asked name a h. ask_simulates (alive ∙ now) its asked name a h;
-        opening = λ now its tokens a h. open_simulates (alive ∙ now) its tokens a h;
-        unread = λ now its a h. unread_simulates (alive ∙ now) its a h;
-        parting = λ its found is none a h. part_simulates its found is a h;
-        skipping = λ its found is none skipped a h. skip_simulates its found is skipped a h;
-        choosing = λ its found is none reads tokens a h. choose_simulates its found is reads tokens a h;
-        closing = λ its found is a h. close_simulates its found is a h;
+        testing = λ now its asked name a h. ask_simulates (alive ∙ now) its asked name a h;
+        deciding = λ why tokens a h. decides_simulates live alive why tokens a h;
       })

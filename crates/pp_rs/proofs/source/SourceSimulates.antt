@@ -9,9 +9,9 @@ use Rattle.pp_model.specs.Acts.{advanced_by}
 use Rattle.pp_model.specs.declared.sight.Sight.{Sight}
 use Rattle.pp_model.specs.declared.sight.Sight.TheVariants as sight
 use Rattle.pp_macros.specs.Item.{Step, wants_memory}
-use Rattle.pp_macros.specs.inner.OpenBlocks.{last_block, facts_among, is_live_in}
+use Rattle.pp_macros.specs.inner.OpenBlocks.{last_block, facts_among, is_live_in, block_change_at}
 use Rattle.pp_macros.specs.inner.SourceMoves.{note_at, note_of, move_of}
-use Rattle.pp_macros.specs.inner.Source.{Source, Makes, IsRefusedStep}
+use Rattle.pp_macros.specs.inner.Source.{Source, Makes, MakesMove, IsRefusedStep}
 use Rattle.pp_rs.specs.inner.Stands.{StandsForReader}
 use Rattle.pp_macros.specs.declared.step.StepExit.TheVariants.{Finished}
 use Rattle.pp_rs.proofs.source.BareSimulates.{lone_passes, no_word_passes}
@@ -24,7 +24,7 @@ use Rattle.pp_rs.proofs.source.StepHereLemmas.{act_here, gives_here, fails_here,
 module _ {old : Source} {r : SourceReader} (s : StandsForReader old r) (move : Step Token) (new : Source) where
   -- what stands in front is the reader's step, in live and in dead text
   sight_simulates : (live : Bool) → is_live_in (last_block old.blocks) ≡ live → (shown : Sight) → sight_of old.rest ≡ shown
-      → Makes (note_at live shown) (move_at live (facts_among old.blocks) shown old.rest) old move new → Simulates move r new
+      → Makes (note_at live shown) (block_change_at shown) (move_at live (facts_among old.blocks) shown old.rest) old move new → Simulates move r new
   sight_simulates live alive sight.End e h = end_simulates s e (act_here s alive e) move new (last_block old.blocks) refl h
   sight_simulates true alive sight.NewLine e h =
       pauses_here s move new (act_here s alive e) (h.0, stands_one s alive e refl refl refl h.1 h.2)
@@ -45,16 +45,14 @@ module _ {old : Source} {r : SourceReader} (s : StandsForReader old r) (move : S
 
 step_simulates : (old new : Source) (r : SourceReader) (move : Step Token) (spent : Bool) → StandsForReader old r → old.spent ≡ spent
     → wants_memory move ≡ false
-    → MatchBool spent ((move ≡ Err Finished) × (new ≡ old)) (IsRefusedStep old move
-    ⊎ Makes (note_of old.dead_for_good old.blocks old.rest) (move_of old.dead_for_good old.blocks old.rest) old move new)
-    → Simulates move r new
+    → MatchBool spent ((move ≡ Err Finished) × (new ≡ old)) (IsRefusedStep old move ⊎ MakesMove old move new) → Simulates move r new
 step_simulates old new r move true s is reported h = let e = s.unspent in cc
 step_simulates old new r move false s is reported (inl h) =
     let bad : true ≡ false = rw h.fault at reported in
     cc
 step_simulates old new r move false s is reported (inr h) =
     sight_simulates s move new (is_live_in (last_block old.blocks)) refl (sight_of old.rest) refl
-    (subst (λ (dead : Bool). Makes (note_of dead old.blocks old.rest) (move_of dead old.blocks old.rest) old move new) s.not_dead h)
+    (subst (λ (dead : Bool). Makes (note_of dead old.blocks old.rest) (block_change_at (sight_of old.rest)) (move_of dead old.blocks old.rest) old move new) s.not_dead h)
 
 -- each step of a source, but for a refusal of memory, is one of the reader that it stands for
 pub source_simulates : SourceSimulates

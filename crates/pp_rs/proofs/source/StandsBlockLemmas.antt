@@ -6,7 +6,7 @@ use Rattle.pp_lexer.specs.declared.token.Token.{Token}
 use Rattle.pp_model.specs.Sights.{sight_of}
 use Rattle.pp_model.specs.Blocks.{part_of}
 use Rattle.pp_model.specs.SourceReader.{SourceReader}
-use Rattle.pp_model.specs.Acts.{after_line, decided}
+use Rattle.pp_model.specs.inner.Acts.{after_line, after_condition}
 use Rattle.pp_model.specs.declared.block.Part.{Part}
 use Rattle.pp_model.specs.declared.block.Part.TheVariants as part
 use Rattle.pp_model.specs.declared.directive.Directive.{Directive}
@@ -46,7 +46,7 @@ module _ {old : Source} {r : SourceReader} (s : StandsForReader old r)
 
     -- a line whose condition is read in live text, and opens a block
     pub opened_read : (holds : Bool) → is_live_in (last_block old.blocks) ≡ true → part_of directive ≡ Some part.Opens
-        → Pauses (whole_line old.rest) directive_line (old.blocks ++ block_opened word holds ∷ []) old move new → PausesAt move new (decided r holds)
+        → Pauses (whole_line old.rest) directive_line (old.blocks ++ block_opened word holds ∷ []) old move new → PausesAt move new (after_condition r holds)
     opened_read holds alive its h =
         block_pauses s e (with_truth r.position holds r.truths) (old.blocks ++ block_opened word holds ∷ []) its
         (text_before_truth r.items r.position holds r.truths r.position (omega arith))
@@ -84,7 +84,7 @@ module _ {old : Source} {r : SourceReader} (s : StandsForReader old r)
     pub decided_last : (kept : OpenBlock) → last_block old.blocks ≡ Some kept → part_of directive ≡ Some part.Elif → kept.live_around ≡ true
         → kept.taken ≡ false → (holds : Bool)
         → Pauses (whole_line old.rest) directive_line (outer_blocks old.blocks ++ block_decided kept holds ∷ []) old move new
-        → PausesAt move new (decided r holds)
+        → PausesAt move new (after_condition r holds)
     decided_last kept found its around untaken holds h =
         block_pauses s e (with_truth r.position holds r.truths) (outer_blocks old.blocks ++ block_decided kept holds ∷ []) its
         (text_before_truth r.items r.position holds r.truths r.position (omega arith))

@@ -10,7 +10,7 @@ use Rattle.pp_model.specs.Sights.{sight_of}
 use Rattle.pp_model.specs.Blocks.{part_of, Truths, blocks_at}
 use Rattle.pp_model.specs.inner.Blocks.{line_with}
 use Rattle.pp_model.specs.SourceReader.{SourceReader, has_live_text_before}
-use Rattle.pp_model.specs.Acts.{after_line}
+use Rattle.pp_model.specs.inner.Acts.{after_line}
 use Rattle.pp_model.specs.declared.block.BlockLine.{BlockLine}
 use Rattle.pp_model.specs.declared.block.Part.{Part}
 use Rattle.pp_model.specs.declared.directive.Directive.{Directive}

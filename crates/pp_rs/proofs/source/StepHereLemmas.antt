@@ -9,13 +9,15 @@ use Rattle.pp_model.specs.Sights.{sight_of}
 use Rattle.pp_model.specs.Blocks.{Block, innermost, is_live}
 use Rattle.pp_model.specs.SourceReader.{SourceReader}
 use Rattle.pp_model.specs.Moves.{move_at}
-use Rattle.pp_model.specs.Acts.{Acted, pause_at, outcome_at, advanced_by, after_line, perform, facts_of, facts_here, act}
-use Rattle.pp_model.specs.inner.Acts.{items_left}
+use Rattle.pp_model.specs.Acts.{Acted, pause_at, outcome_at, advanced_by, perform, facts_of, facts_here, act}
+use Rattle.pp_model.specs.inner.Acts.{items_left, after_line}
 use Rattle.pp_model.specs.Emitting.{answers_at, expansion_limit}
-use Rattle.pp_model.specs.Reads.{Steps, passes, gives}
+use Rattle.pp_model.specs.Reads.{Steps}
+use Rattle.pp_model.proofs.ReadsLemmas.{act_does}
 use Rattle.pp_model.specs.declared.outcome.Outcome.{Outcome}
 use Rattle.pp_model.specs.declared.outcome.Outcome.TheVariants as outcome
 use Rattle.pp_model.specs.declared.sight.Sight.{Sight}
+use Rattle.pp_model.specs.declared.step.Step.TheVariants as step
 use Rattle.pp_macros.specs.Item.{Step}
 use Rattle.pp_macros.specs.inner.OpenBlocks.{last_block, kept_facts, facts_among, is_live_in}
 use Rattle.pp_macros.specs.declared.blocks.OpenBlock.{OpenBlock}
@@ -54,7 +56,7 @@ module _ {old : Source} {r : SourceReader} (s : StandsForReader old r) where
 
   -- the reader's step gives what is given there
   pub gives_here : {o : Outcome} {t : SourceReader} → act r ≡ outcome_at o t → Steps (answers_at expansion_limit) r (Some o) t
-  gives_here {o} {t} a = gives o (Some o) r t (ap (λ x. x.step) a) refl (sym (ap (λ x. x.after) a))
+  gives_here {o} {t} a = act_does (answers_at expansion_limit) (step.Given o) t r (Some o) t a (refl, refl)
 
   -- what takes the source's whole line takes the reader's
   pub line_here : (next : ℕ → Acted) → act r ≡ next (whole_line old.rest) → act r ≡ next (whole_line (items_left r))
@@ -68,7 +70,7 @@ module _ {old : Source} {r : SourceReader} (s : StandsForReader old r) where
     -- where nothing is given, a pause is the reader's step
     pub pauses_here : {t : SourceReader} → act r ≡ pause_at t → PausesAt move new t → Simulates move r new
     pauses_here {t} a h =
-        rw h.0 (record { after = t; steps = passes None r t (ap (λ x. x.step) a) refl (sym (ap (λ x. x.after) a)); stands = h.1 })
+        rw h.0 (record { after = t; steps = act_does (answers_at expansion_limit) step.Passed t r None t a (refl, refl); stands = h.1 })
 
     -- where nothing is given after a line, a pause is the reader's step
     pub passes_line : act r ≡ pause_at (advanced_by (whole_line old.rest) r) → PausesAt move new (after_line r) → Simulates move r new

@@ -1,5 +1,6 @@
 use Rattle.std.proofs.Common.{arith, refl, sym}
 use Rattle.pp_model.specs.Moves.{renumbers}
+use Rattle.pp_macros.specs.inner.OpenBlocks.{unchanged}
 use Rattle.pp_directives.proofs.SourceActsLemmas.{err_result}
 use Rattle.pp_directives.proofs.ConditionActsLemmas.{tokens_failed, number_failed, numbering_failed, line_numbers}
 use Rattle.pp_directives.proofs.directives.DirectiveProcessor.number_lines.Goals as goal
@@ -19,7 +20,7 @@ returns-in_err-tokens-clause-acts c =
     let p = c.self.inside in
     let e = c.in_err-tokens.ensures in
     rw (← c.self.view_is, err_result c.from_residual.result c.in_err-tokens.field-0.0 c.from_residual.ensures.1)
-    (tokens_failed (renumbers c.args.word) c.in_err-tokens.field-0.0 p.definitions p.blocks p.blocks (omega arith) p.line_offset p.has_text
+    (tokens_failed unchanged (renumbers c.args.word) c.in_err-tokens.field-0.0 p.definitions p.blocks p.blocks (omega arith) p.line_offset p.has_text
     p.has_directive p.dead_for_good p.lexer c.line_reads.new.lexer e.is e.takes)
 
 pub returns-in-Some-clause-acts : goal.returns-in-Some-clause-acts

@@ -1,6 +1,8 @@
-use Rattle.std.proofs.Common.{arith, ◌∙◌, ◌∷◌, ◌++◌, [], ap}
+use Rattle.std.proofs.Common.{arith, ◌∙◌, ◌∷◌, ◌++◌, [], ap, Some}
 use Rattle.pp_macros.specs.declared.blocks.OpenBlock.{OpenBlock}
-use Rattle.pp_model.specs.Moves.{opens_if}
+use Rattle.pp_model.specs.Moves.{decides}
+use Rattle.pp_model.specs.declared.block.Part.TheVariants as part
+use Rattle.pp_macros.specs.inner.OpenBlocks.{block_change}
 use Rattle.pp_directives.proofs.SourceActsLemmas.{err_result}
 use Rattle.pp_directives.proofs.ConditionActsLemmas.{tokens_failed, if_failed, if_opens}
 use Rattle.pp_directives.proofs.directives.DirectiveProcessor.open_if.Goals as goal
@@ -19,7 +21,7 @@ returns-in_err-tokens-clause-acts c =
     let p = c.self.inside in
     let e = c.in_err-tokens.ensures in
     rw (← c.self.view_is, err_result c.from_residual.result c.in_err-tokens.field-0.0 c.from_residual.ensures.1)
-    (tokens_failed (opens_if c.args.word) c.in_err-tokens.field-0.0 p.definitions p.blocks p.blocks (omega arith) p.line_offset p.has_text p.has_directive p.dead_for_good p.lexer
+    (tokens_failed (block_change (Some part.Opens) c.args.word) (decides c.args.word) c.in_err-tokens.field-0.0 p.definitions p.blocks p.blocks (omega arith) p.line_offset p.has_text p.has_directive p.dead_for_good p.lexer
     c.line_reads.new.lexer e.is e.takes)
 
 pub returns-in_err-holds-clause-acts : goal.returns-in_err-holds-clause-acts

@@ -1,7 +1,7 @@
 use Rattle.std.proofs.Common.{◌∙◌, ◌∷◌, ◌++◌, [], ap, arith}
-use Rattle.pp_macros.specs.inner.OpenBlocks.{outer_blocks}
+use Rattle.pp_macros.specs.inner.OpenBlocks.{outer_blocks, elif_change}
 use Rattle.pp_macros.specs.declared.blocks.OpenBlock.{OpenBlock}
-use Rattle.pp_model.specs.Moves.{parts_if}
+use Rattle.pp_model.specs.Moves.{decides}
 use Rattle.pp_directives.proofs.SourceActsLemmas.{err_result}
 use Rattle.pp_directives.proofs.ConditionActsLemmas.{tokens_failed, elif_failed, elif_parts, replaced_twice}
 use Rattle.pp_directives.proofs.directives.DirectiveProcessor.part_if.Goals as goal
@@ -23,7 +23,7 @@ returns-in_err-tokens-clause-acts c =
     let p = c.self.inside in
     let e = c.in_err-tokens.ensures in
     rw (← c.self.view_is, err_result c.from_residual.result c.in_err-tokens.field-0.0 c.from_residual.ensures.1)
-    (tokens_failed (parts_if c.args.word) c.in_err-tokens.field-0.0 p.definitions p.blocks c.replace_last.new.self
+    (tokens_failed elif_change (decides c.args.word) c.in_err-tokens.field-0.0 p.definitions p.blocks c.replace_last.new.self
     (omega (arith, c.replace_last.ensures.count)) p.line_offset p.has_text p.has_directive p.dead_for_good p.lexer
     c.line_reads.new.lexer e.is e.takes)
 

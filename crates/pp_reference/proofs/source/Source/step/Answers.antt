@@ -1,42 +1,53 @@
-use Rattle.std.proofs.Common.{◌∙◌, ap}
+use Rattle.std.proofs.Common.{◌∙◌, ap, subst, refl}
 use Rattle.pp_model.specs.Emitting.{answers_at, expansion_limit}
-use Rattle.pp_reference.specs.inner.ReaderState.{reader_of}
+use Rattle.pp_model.specs.inner.Acts.{after_line}
+use Rattle.pp_model.specs.Reads.{Does}
+use Rattle.pp_reference.specs.inner.Acting.{arrived}
+use Rattle.pp_reference.specs.inner.ReaderState.{ReaderState, reader_of}
 use Rattle.pp_model.specs.declared.step.Step.{Step}
-use Rattle.pp_reference.proofs.SourceStepLemmas.{comes, step_passes, step_gives, step_defines, step_decides, step_renumbers, ok_more}
+use Rattle.pp_model.specs.declared.step.Step.TheVariants as step
+use Rattle.pp_model.proofs.ReadsLemmas.{act_does}
+use Rattle.pp_reference.proofs.SourceStepLemmas.{comes, step_defines, ok_more}
 use Rattle.pp_reference.proofs.source.Source.step.Goals as goal
 
 pub returns-in-Passed-clause-steps : goal.returns-in-Passed-clause-steps
 returns-in-Passed-clause-steps c =
     let after = reader_of c.act.new.self in
-    step_passes (answers_at expansion_limit) (reader_of c.args.self.now.reader) after
-    ((c.in_ok-act.ensures {u = tt}).acts ∙ ap (λ (s : Step). comes s after) c.in-Passed.is)
+    act_does (answers_at expansion_limit) step.Passed after (reader_of c.args.self.now.reader) _ after
+    ((c.in_ok-act.ensures {u = tt}).acts ∙ ap (λ (s : Step). comes s (arrived s after)) c.in-Passed.is) (refl, refl)
 
 pub returns-in-Given-clause-steps : goal.returns-in-Given-clause-steps
 returns-in-Given-clause-steps c =
     let after = reader_of c.act.new.self in
-    step_gives (answers_at expansion_limit) (reader_of c.args.self.now.reader) after c.in-Given.outcome
-    ((c.in_ok-act.ensures {u = tt}).acts ∙ ap (λ (s : Step). comes s after) c.in-Given.is)
+    act_does (answers_at expansion_limit) (step.Given c.in-Given.outcome) after (reader_of c.args.self.now.reader) _ after
+    ((c.in_ok-act.ensures {u = tt}).acts ∙ ap (λ (s : Step). comes s (arrived s after)) c.in-Given.is) (refl, refl)
 
 pub returns-in-Defines-clause-steps : goal.returns-in-Defines-clause-steps
 returns-in-Defines-clause-steps c =
     let after = reader_of c.act.new.self in
     ok_more _ _ c.define.result
     (λ o by. step_defines (answers_at expansion_limit) (reader_of c.args.self.now.reader) after c.in-Defines.named o _
-    ((c.in_ok-act.ensures {u = tt}).acts ∙ ap (λ (s : Step). comes s after) c.in-Defines.is) by)
+    ((c.in_ok-act.ensures {u = tt}).acts ∙ ap (λ (s : Step). comes s (arrived s after)) c.in-Defines.is) by)
     c.define.ensures
 
 pub returns-in-Condition-clause-steps : goal.returns-in-Condition-clause-steps
 returns-in-Condition-clause-steps c =
     let after = reader_of c.act.new.self in
+    let did = step.Condition c.in-Condition.word c.in-Condition.tokens in
     ok_more _ _ c.decide.result
-    (λ o by. step_decides (answers_at expansion_limit) (reader_of c.args.self.now.reader) after c.in-Condition.word c.in-Condition.tokens o _
-    ((c.in_ok-act.ensures {u = tt}).acts ∙ ap (λ (s : Step). comes s after) c.in-Condition.is) by)
+    (λ o by. act_does (answers_at expansion_limit) did (after_line after) (reader_of c.args.self.now.reader) o _
+    ((c.in_ok-act.ensures {u = tt}).acts ∙ ap (λ (s : Step). comes s (arrived s after)) c.in-Condition.is)
+    (subst (λ (r : ReaderState). Does (answers_at expansion_limit) (reader_of r) did (after_line after) o _)
+    (rw c.in-Condition.is at (c.in_ok-act.ensures {u = tt}).line).0 by))
     c.decide.ensures.decides
 
 pub returns-in-LineNumber-clause-steps : goal.returns-in-LineNumber-clause-steps
 returns-in-LineNumber-clause-steps c =
     let after = reader_of c.act.new.self in
+    let did = step.LineNumber c.in-LineNumber.word c.in-LineNumber.tokens in
     ok_more _ _ c.renumber.result
-    (λ o by. step_renumbers (answers_at expansion_limit) (reader_of c.args.self.now.reader) after c.in-LineNumber.word c.in-LineNumber.tokens o _
-    ((c.in_ok-act.ensures {u = tt}).acts ∙ ap (λ (s : Step). comes s after) c.in-LineNumber.is) by)
+    (λ o by. act_does (answers_at expansion_limit) did (after_line after) (reader_of c.args.self.now.reader) o _
+    ((c.in_ok-act.ensures {u = tt}).acts ∙ ap (λ (s : Step). comes s (arrived s after)) c.in-LineNumber.is)
+    (subst (λ (r : ReaderState). Does (answers_at expansion_limit) (reader_of r) did (after_line after) o _)
+    (rw c.in-LineNumber.is at (c.in_ok-act.ensures {u = tt}).line).0 by))
     c.renumber.ensures.renumbers
