@@ -9,10 +9,10 @@ use Rattle.pp_model.specs.Calls.{Fault}
 use Rattle.pp_model.specs.Emitting.{Emits, answers_at}
 use Rattle.pp_model.specs.LineWords.{InParentheses, Operand, is_defined, name_in, unwanted_part, unwanted_closing}
 use Rattle.pp_model.specs.inner.LineWords.{is_open_paren, is_close_paren}
-use Rattle.pp_model.specs.LineWords as line
 use Rattle.pp_model.specs.inner.WordsRead.{Closes}
 use Rattle.pp_model.specs.declared.read.Taken.TheVariants as given
 use Rattle.pp_model.specs.declared.word.LineKind.{LineKind}
+use Rattle.pp_model.proofs.OperandCases as operand
 use Rattle.pp_model.proofs.WordLemmas.{closes, does_not_close, closes_named}
 use Rattle.pp_macros.specs.inner.Defined.{Defined, meaning_of}
 use Rattle.pp_directives.specs.inner.LineItems.{ReadsOn, ReadsItem, ReadsTaken, ReadsClosed, ReadsInParentheses, ReadsOperand, expander_of, taken_of_read, taken_of_item}
@@ -75,7 +75,7 @@ module _ (kind : LineKind) (directive : Location) (levels : ℕ) (definitions : 
         → ReadsInParentheses kind directive levels definitions m l (Err (halt.Fault fault)) n k
     parenthesized_fault fault is = (
       expander_of n k,
-      line.no_name (taken_of_read found) (expander_of m l) (expander_of n k) (Err fault) taken.0 is.0
+      operand.no_name kind directive (answers_at levels) (taken_of_read found) (expander_of m l) (expander_of n k) (Err fault) taken.0 is.0
           (reported_fault fault (unwanted_part directive (taken_of_read found)) is.1),
     )
 
@@ -86,12 +86,12 @@ module _ (kind : LineKind) (directive : Location) (levels : ℕ) (definitions : 
         reads_then levels definitions m l (λ (answer : Result Bool Fault) (f : Expander Listed). InParentheses kind directive (answers_at levels)
         (expander_of n k) answer f)
         (λ (answer : Result Bool Fault) (f : Expander Listed). Operand kind directive (answers_at levels) (expander_of m l) answer f) n p k q r taken.1
-        (λ answer f within. line.in_parentheses (taken_of_read found) (expander_of m l) (expander_of n k) f answer taken.0 open_paren within) reads
+        (λ answer f within. operand.in_parentheses kind directive (answers_at levels) (taken_of_read found) (expander_of m l) (expander_of n k) f answer taken.0 open_paren within) reads
 
     pub operand_name : (name : Name) (b : Bool) → name_in (taken_of_read found) ≡ Some name → b ≡ is_some (meaning_of definitions name)
         → ReadsOperand kind directive levels definitions m l (Ok b) n k
     operand_name name b is answer = (
-      line.name (taken_of_read found) name (expander_of m l) (expander_of n k) (Ok b) taken.0 is
+      operand.name kind directive (answers_at levels) (taken_of_read found) name (expander_of m l) (expander_of n k) (Ok b) taken.0 is
           (answered_there (defined_there levels definitions m n l k name b taken.1 answer)),
       taken.1,
     )
@@ -100,6 +100,6 @@ module _ (kind : LineKind) (directive : Location) (levels : ℕ) (definitions : 
         × (fault ≡ unwanted_part directive (taken_of_read found)) → ReadsOperand kind directive levels definitions m l (Err (halt.Fault fault)) n k
     operand_fault fault still is = (
       expander_of n k,
-      line.neither (taken_of_read found) (expander_of m l) (expander_of n k)
+      operand.neither kind directive (answers_at levels) (taken_of_read found) (expander_of m l) (expander_of n k)
           (Err fault) taken.0 is.0 still (reported_fault fault (unwanted_part directive (taken_of_read found)) is.1),
     )

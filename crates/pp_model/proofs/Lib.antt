@@ -7,6 +7,7 @@ pub mod TakingLemmas
 pub mod CallsLemmas
 pub mod EmittingLemmas
 pub mod LevelLemmas
+pub mod OperandCases
 pub mod OperandLemmas
 pub mod LineWordsLemmas
 pub mod OpenNamesLemmas

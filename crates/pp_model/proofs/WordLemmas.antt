@@ -8,12 +8,13 @@ use Rattle.pp_model.specs.Taking.{Takes}
 use Rattle.pp_model.specs.Calls.{Fault, Answers}
 use Rattle.pp_model.specs.Emitting.{Emits}
 use Rattle.pp_model.specs.Names.{Name}
-use Rattle.pp_model.specs.LineWords.{Words, word_before, InParentheses, named, name_in, is_defined, unwanted_closing}
+use Rattle.pp_model.specs.LineWords.{Words, word_before, InParentheses, name_in, is_defined, unwanted_closing}
 use Rattle.pp_model.specs.inner.LineWords.{is_close_paren}
 use Rattle.pp_model.specs.inner.WordsRead.{Closes}
 use Rattle.pp_model.specs.declared.read.Taken.{Taken}
 use Rattle.pp_model.specs.declared.word.LineKind.{LineKind}
 use Rattle.pp_model.specs.declared.word.Word.{Word}
+use Rattle.pp_model.proofs.OperandCases.{named}
 
 -- the words so far, and then those of the rest
 abbrev pub after_words : List Word → Words → Words
@@ -41,4 +42,4 @@ module _ (kind : LineKind) (directive : Location) (A : Answers) (n : Name) (foun
 -- an operand in parentheses whose name was taken
 pub closes_named : (kind : LineKind) (directive : Location) (A : Answers) (n : Name) (o : Taken) (e f g : Expander Listed) (r : Result Bool Fault)
     → Takes line_reading e o f → name_in o ≡ Some n → Closes kind directive A n f r g → InParentheses kind directive A e r g
-closes_named kind directive A n o e f g r takes is closed = named o closed.found n e f g r takes is closed.emits closed.answer
+closes_named kind directive A n o e f g r takes is closed = named kind directive A o closed.found n e f g r takes is closed.emits closed.answer

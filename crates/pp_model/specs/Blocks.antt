@@ -43,17 +43,18 @@ abbrev pub is_else : Part → Bool
 is_else part.Else = true
 is_else _ = false
 
--- The lines that part a block and no inner one, or none if the block is closed: this line, before which `inner` inner
--- blocks are open, and the later ones, for which `rest` says the same.
-abbrev pub parted_by : Part → BlockLine → ℕ → (ℕ → Option (List BlockLine)) → Option (List BlockLine)
-parted_by part.Opens line inner rest = rest (inner + 1)
-parted_by part.Closes line inner rest = if inner == 0 then None else rest (inner - 1)
-parted_by _ line inner rest = if inner == 0 then option_map (λ lines. line ∷ lines) (rest inner) else rest inner
+abbrev pub closes : Part → Bool
+closes part.Closes = true
+closes _ = false
 
 -- the lines that part a block in which `inner` inner ones are open, or none if one of these lines closes it
 abbrev pub partings_of : ℕ → List BlockLine → Option (List BlockLine)
 partings_of inner [] = Some []
-partings_of inner (line ∷ later) = parted_by line.part line inner (λ deeper. partings_of deeper later)
+partings_of inner (line ∷ later) =
+    if opens line.part then partings_of (inner + 1) later
+    else if closes line.part then (if inner == 0 then None else partings_of (inner - 1) later)
+    else if inner == 0 then option_map (λ lines. line ∷ lines) (partings_of 0 later)
+    else partings_of inner later
 
 -- A block that is open: its first line, and the lines that part it so far. Together these are its marks.
 pub record Block : Type 0 where

@@ -1,9 +1,9 @@
 -- The value of an `#if`, `#elif` or `#line` line, or its first fault (GLSL ES 3.20, section 3.4, and docs/RULES.md,
 -- Expressions 3 to 7 and Directives 13). Trees, their values and the first fault of an expression are those of
 -- pp_expression.
-use Rattle.std.specs.Prelude.{◌≡◌, ◌≢◌, ℕ, ℤ, pos, negsuc, ◌-◌, ◌^◌, nat_lt, Bool, not, if◌then◌else◌, List, [], length}
-use Rattle.std.specs.Prelude.{drop, slice_get, map, Option, Some, None, option_map, option_and_then, unwrap_or, Result}
-use Rattle.std.specs.Prelude.{Ok, Err}
+use Rattle.std.specs.Prelude.{◌≡◌, ℕ, zero, ℤ, pos, negsuc, ◌-◌, ◌^◌, nat_lt, Bool, not, if◌then◌else◌, List, []}
+use Rattle.std.specs.Prelude.{length, drop, slice_get, map, Option, Some, None, option_map, option_and_then, unwrap_or}
+use Rattle.std.specs.Prelude.{MatchOption, Result, Ok, Err, MatchResult}
 use Rattle.pp_expression.specs.declared.symbol.Symbol.{Symbol}
 use Rattle.pp_expression.specs.declared.symbol.Symbol.TheVariants as symbol
 use Rattle.pp_expression.specs.declared.symbol.ExpressionFault.{ExpressionFault}
@@ -76,28 +76,25 @@ placed_fault directive words kind.Unread left = unwrap_or words.ending (ended_ea
 placed_fault directive words kind.Operand left =
     unwrap_or (option_and_then operand_fault (word_from_end left words)) (ended_early directive)
 
--- what is reported of the value of an expression that is alone on its line, or its first fault; a word after it is a
--- fault
-abbrev pub alone_on_line : {A : Type 0} → Location → Words → (ℤ → A) → Result Value Found → Result A Fault
-alone_on_line directive words result (Ok v) =
-    option_map_or (λ word. Err (unwanted_word word)) (word_from_end v.left words) (Ok (result v.value))
-alone_on_line directive words result (Err found) = Err (placed_fault directive words found.kind found.left)
-
--- The same, by the evaluation of the line's expression.
-pub record IsAlone {A : Type 0} (directive : Location) (words : Words) (report : ℤ → A)
+-- What words give by the expression at their front: its first fault, or what `By` says of its value.
+pub record ByExpression {A : Type 0} (directive : Location) (words : Words) (By : Value → Result A Fault → Type 0)
     (result : Result A Fault) : Type 0 where
   pub evaluation : Result Value Found
   pub evaluated : Evaluates (line_of words) evaluation
-  pub is : result ≡ alone_on_line directive words report evaluation
+  pub is : MatchResult evaluation (λ v. By v result)
+      (λ found. result ≡ Err (placed_fault directive words found.kind found.left))
+
+-- what is reported of the value of an expression that is alone on its line; a word after it is a fault
+abbrev pub IsAlone : {A : Type 0} → Location → Words → (ℤ → A) → Result A Fault → Type 0
+IsAlone directive words report = ByExpression directive words (λ v result.
+    result ≡ option_map_or (λ word. Err (unwanted_word word)) (word_from_end v.left words) (Ok (report v.value)))
 
 -- The condition of an `#if` or `#elif`: it holds if its value isn't 0.
 pub record IsCondition (A : Answers) (directive : Location) (tokens : List Token) (definitions : Definitions)
     (result : Result Bool Fault) : Type 0 where
   pub words : Words
   pub read : LineWords Condition directive A (reading_of (map unpainted tokens) definitions []) words
-  pub evaluation : Result Value Found
-  pub evaluated : Evaluates (line_of words) evaluation
-  pub is : result ≡ alone_on_line directive words (λ value. not (is_zero value)) evaluation
+  pub value : IsAlone directive words (λ value. not (is_zero value)) result
 
 -- a line number has 32 bits
 abbrev pub as_line_number : ℤ → Option ℕ
@@ -108,31 +105,17 @@ as_line_number (negsuc n) = None
 abbrev pub words_after : ℕ → Words → Words
 words_after left words = record words { words = drop (length words.words - left) words.words }
 
--- The number that the words of a `#line` give, or their first fault. A second expression after the line number has no
--- effect unless it has a fault.
-pub data Numbers (directive : Location) (words : Words) : Result ℕ Fault → Type 0 where
-  faulty : (found : Found) (result : Result ℕ Fault)
-      → Evaluates (line_of words) (Err found)
-      → result ≡ Err (placed_fault directive words found.kind found.left)
-      → Numbers directive words result
-  out_of_range : (v : Value) (result : Result ℕ Fault)
-      → Evaluates (line_of words) (Ok v)
-      → as_line_number v.value ≡ None
-      → result ≡ Err (LineOverflow, directive)
-      → Numbers directive words result
-  alone : (v : Value) (n : ℕ) (result : Result ℕ Fault)
-      → Evaluates (line_of words) (Ok v)
-      → as_line_number v.value ≡ Some n
-      → v.left ≡ 0
-      → result ≡ Ok n
-      → Numbers directive words result
-  with_source : (v : Value) (n : ℕ) (result : Result ℕ Fault)
-      → Evaluates (line_of words) (Ok v)
-      → as_line_number v.value ≡ Some n
-      → v.left ≢ 0
-      → (second : Result Value Found) → Evaluates (line_of (words_after v.left words)) second
-      → result ≡ alone_on_line directive (words_after v.left words) (λ value. n) second
-      → Numbers directive words result
+-- What the line number `n` gives with `left` words after it: they are a second expression, which has no effect unless
+-- it has a fault.
+abbrev pub NumberBefore : Location → Words → ℕ → ℕ → Result ℕ Fault → Type 0
+NumberBefore directive words n zero result = result ≡ Ok n
+NumberBefore directive words n left result = IsAlone directive (words_after left words) (λ value. n) result
+
+-- the number that the words of a `#line` give, or their first fault
+abbrev pub Numbers : Location → Words → Result ℕ Fault → Type 0
+Numbers directive words = ByExpression directive words (λ v result.
+    MatchOption (as_line_number v.value) (result ≡ Err (LineOverflow, directive))
+    (λ n. NumberBefore directive words n v.left result))
 
 -- the number or the first fault of a `#line`, without the number that may be before the fault
 abbrev pub without_number : Result ℕ LineFault → Result ℕ Fault

@@ -1,6 +1,6 @@
 -- The words of an `#if`, `#elif` or `#line` line (GLSL ES 3.20, section 3.4, and docs/RULES.md, Expressions 1 to 3).
-use Rattle.std.specs.Prelude.{◌≡◌, pos, Bool, true, false, if◌then◌else◌, List, [], ◌∷◌, Option, Some, None, Result, Ok}
-use Rattle.std.specs.Prelude.{Err, is_some}
+use Rattle.std.specs.Prelude.{◌≡◌, pos, Bool, true, false, if◌then◌else◌, List, [], ◌∷◌, Option, Some, None, is_some}
+use Rattle.std.specs.Prelude.{MatchOption, Result, Ok, Err}
 use Rattle.pp_lexer.specs.declared.token.Location.{Location}
 use Rattle.pp_lexer.specs.declared.token.PreprocessorError.TheVariants.{UnexpectedToken, UnexpectedEndOfInput}
 use Rattle.pp_lexer.specs.declared.token.Token.{Token}
@@ -9,7 +9,7 @@ use Rattle.pp_lexer.specs.declared.token.TokenValue.TheVariants.{Ident, Integer}
 use Rattle.pp_model.specs.Names.{Name, is_same_name, defined_name}
 use Rattle.pp_model.specs.Reading.{Expander, Listed, line_reading}
 use Rattle.pp_model.specs.Taking.{Takes}
-use Rattle.pp_model.specs.Calls.{Fault, Answers, is_left_paren, is_right_paren}
+use Rattle.pp_model.specs.Calls.{Fault, Answers, is_right_paren, paren_at}
 use Rattle.pp_model.specs.Emitting.{Emits}
 use Rattle.pp_model.specs.declared.read.Read.{Read}
 use Rattle.pp_model.specs.declared.read.Taken.{Taken}
@@ -81,40 +81,22 @@ closed_by kind directive answer o =
 
 -- what the operand of a `defined` gives after its `(`: the name is taken and not looked up, and the `)` is read with
 -- expansion
-pub data InParentheses (kind : LineKind) (directive : Location) (A : Answers)
-    : Expander Listed → Result Bool Fault → Expander Listed → Type 0 where
-  no_name : (o : Taken) (e f : Expander Listed) (r : Result Bool Fault)
-      → Takes line_reading e o f
-      → name_in o ≡ None
-      → r ≡ Err (unwanted_part directive o)
-      → InParentheses kind directive A e r f
-  named : (o x : Taken) (n : Name) (e f g : Expander Listed) (r : Result Bool Fault)
-      → Takes line_reading e o f
-      → name_in o ≡ Some n
-      → Emits line_reading A f x g
-      → r ≡ closed_by kind directive (is_defined g n) x
-      → InParentheses kind directive A e r g
+abbrev pub InParentheses : LineKind → Location → Answers
+    → Expander Listed → Result Bool Fault → Expander Listed → Type 0
+InParentheses kind directive A e r g =
+    (o : Taken) × (f : Expander Listed) × Takes line_reading e o f
+    × MatchOption (name_in o) ((r ≡ Err (unwanted_part directive o)) × (g ≡ f))
+    (λ n. (x : Taken) × Emits line_reading A f x g × (r ≡ closed_by kind directive (is_defined g n) x))
 
 -- what the operand of a `defined` gives: it is a name, alone or in parentheses. The name or the `(` is taken and not
 -- looked up.
-pub data Operand (kind : LineKind) (directive : Location) (A : Answers)
-    : Expander Listed → Result Bool Fault → Expander Listed → Type 0 where
-  name : (o : Taken) (n : Name) (e f : Expander Listed) (r : Result Bool Fault)
-      → Takes line_reading e o f
-      → name_in o ≡ Some n
-      → r ≡ Ok (is_defined f n)
-      → Operand kind directive A e r f
-  in_parentheses : (o : Taken) (e f g : Expander Listed) (r : Result Bool Fault)
-      → Takes line_reading e o f
-      → has_value is_left_paren o ≡ true
-      → InParentheses kind directive A f r g
-      → Operand kind directive A e r g
-  neither : (o : Taken) (e f : Expander Listed) (r : Result Bool Fault)
-      → Takes line_reading e o f
-      → name_in o ≡ None
-      → has_value is_left_paren o ≡ false
-      → r ≡ Err (unwanted_part directive o)
-      → Operand kind directive A e r f
+abbrev pub Operand : LineKind → Location → Answers → Expander Listed → Result Bool Fault → Expander Listed → Type 0
+Operand kind directive A e r g =
+    (o : Taken) × (f : Expander Listed) × Takes line_reading e o f
+    × MatchOption (paren_at o)
+    (MatchOption (name_in o) ((r ≡ Err (unwanted_part directive o)) × (g ≡ f))
+    (λ n. (r ≡ Ok (is_defined f n)) × (g ≡ f)))
+    (λ paren. InParentheses kind directive A f r g)
 
 -- the words of a line, and the fault of reading that ends them, if one does
 pub record Words : Type 0 where

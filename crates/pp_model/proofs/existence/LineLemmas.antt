@@ -8,13 +8,14 @@ use Rattle.pp_model.specs.Reading.{Expander, Listed, line_reading}
 use Rattle.pp_model.specs.Taking.{Takes}
 use Rattle.pp_model.specs.Calls.{Fault, Answers, is_left_paren, is_right_paren}
 use Rattle.pp_model.specs.Emitting.{with_macro, Emits, itself, object, name_alone, call_refused, call}
-use Rattle.pp_model.specs.LineWords.{WordReading, operator, word, fault, reading, unwanted_part, name_in, has_value, is_defined, closed_by, InParentheses, no_name, named, Operand, name, in_parentheses, neither, Words, word_before, LineWords, ended, failed, refused, plain, answered, faulty}
+use Rattle.pp_model.specs.LineWords.{WordReading, operator, word, fault, reading, unwanted_part, name_in, has_value, is_defined, closed_by, InParentheses, Operand, Words, word_before, LineWords, ended, failed, refused, plain, answered, faulty}
 use Rattle.pp_model.specs.ExistenceLaws.{AnAnswer, AnOperand, ALine}
 use Rattle.pp_model.specs.declared.read.Read.{Read}
 use Rattle.pp_model.specs.declared.read.Taken.{Taken}
 use Rattle.pp_model.specs.declared.read.Taken.TheVariants as taken
 use Rattle.pp_model.specs.declared.word.LineKind.{LineKind}
 use Rattle.pp_model.specs.declared.word.Word.TheVariants.{Plain, Defined}
+use Rattle.pp_model.proofs.OperandCases.{no_name, named, name, in_parentheses, neither}
 use Rattle.pp_model.proofs.existence.Turns.{is_token, Leads, Turn}
 use Rattle.pp_model.proofs.existence.Turns as turn
 use Rattle.pp_model.proofs.existence.EveryExpander.{every}
@@ -90,7 +91,7 @@ module _ (kind : LineKind) (directive : Location) (A : Answers) where
   named_by e a None q = record {
     result = Err (unwanted_part directive a.given);
     after = a.after;
-    inside = no_name a.given e a.after (Err (unwanted_part directive a.given)) a.takes q refl;
+    inside = no_name kind directive A a.given e a.after (Err (unwanted_part directive a.given)) a.takes q refl;
     goes = λ k. cc;
   }
   named_by e a (Some n) q =
@@ -99,7 +100,7 @@ module _ (kind : LineKind) (directive : Location) (A : Answers) where
       record {
         result = result;
         after = c.after;
-        inside = named a.given c.given n e a.after c.after result a.takes q c.emits refl;
+        inside = named kind directive A a.given c.given n e a.after c.after result a.takes q c.emits refl;
         goes = λ k. c.goes (answered_closed (is_defined c.after n) c.given k);
       }
 
@@ -110,13 +111,13 @@ module _ (kind : LineKind) (directive : Location) (A : Answers) where
       record {
         result = inside.result;
         after = inside.after;
-        operand = in_parentheses a.given e a.after inside.after inside.result a.takes p inside.inside;
+        operand = in_parentheses kind directive A a.given e a.after inside.after inside.result a.takes p inside.inside;
         goes = inside.goes;
       }
   parenthesized e a q false p = record {
     result = Err (unwanted_part directive a.given);
     after = a.after;
-    operand = neither a.given e a.after (Err (unwanted_part directive a.given)) a.takes q p refl;
+    operand = neither kind directive A a.given e a.after (Err (unwanted_part directive a.given)) a.takes q p refl;
     goes = λ k. cc;
   }
 
@@ -124,7 +125,7 @@ module _ (kind : LineKind) (directive : Location) (A : Answers) where
   asked e a (Some n) q = record {
     result = Ok (is_defined a.after n);
     after = a.after;
-    operand = name a.given n e a.after (Ok (is_defined a.after n)) a.takes q refl;
+    operand = name kind directive A a.given n e a.after (Ok (is_defined a.after n)) a.takes q refl;
     goes = λ k. a.goes (name_is_token a.given n q);
   }
   asked e a None q = parenthesized e a q (has_value is_left_paren a.given) refl

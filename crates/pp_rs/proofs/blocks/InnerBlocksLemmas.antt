@@ -3,7 +3,7 @@ use Rattle.std.proofs.Common.{◌≡◌, ◌∙◌, ℕ, zero, suc, ◌+◌, ◌
 use Rattle.std.specs.Prelude.{◌==◌, Option, Some, None, option_map}
 use Rattle.std.specs.List.{cons_option}
 use Rattle.std.proofs.Math.Bool.{and_assoc}
-use Rattle.pp_model.specs.Blocks.{opens, parted_by, partings_of, Block, open_blocks}
+use Rattle.pp_model.specs.Blocks.{opens, closes, partings_of, Block, open_blocks}
 use Rattle.pp_model.specs.declared.block.BlockLine.{BlockLine}
 use Rattle.pp_model.specs.declared.block.Part.{Part}
 use Rattle.pp_model.specs.declared.block.Part.TheVariants as part
@@ -57,7 +57,9 @@ is_not_zero n = ne_eqb (suc n) 0 (λ e. absurd (omega (arith, e)))
 
 parted_with : (p : Part) (line : BlockLine) (inner : ℕ) (rest : ℕ → Option (List BlockLine)) (stays : Bool) (marks : List BlockLine)
     → rest (inner_after p inner) ≡ (if stays then Some marks else None)
-    → parted_by p line inner rest ≡ (if not (closes_block p inner) && stays then Some (if parts_block p inner then line ∷ marks else marks) else None)
+    → (if opens p then rest (inner + 1) else if closes p then (if inner == 0 then None else rest (inner - 1))
+    else if inner == 0 then option_map (λ lines. line ∷ lines) (rest 0) else rest inner)
+    ≡ (if not (closes_block p inner) && stays then Some (if parts_block p inner then line ∷ marks else marks) else None)
 parted_with part.Opens line inner rest stays marks h = h
 parted_with part.Closes line zero rest stays marks h = refl
 parted_with part.Closes line (suc inner) rest stays marks h = rw (is_not_zero inner) h
