@@ -7,6 +7,7 @@ VISIBLE = r'(pub(?:\([^)]*\))? )?'
 FUNCTION = re.compile(VISIBLE + r'(?:const |unsafe |final |extern "C" )*fn\s+(\w+)')
 IMPL = re.compile(r'(?:unsafe )?impl(?:<_*>)?\s+(?:(\S.*?)\s+for\s+)?(\S.*?)(?:\s+where\b.*|\s*\{.*)?$')
 CLAUSE = re.compile(r'\s*(requires|ensures|ghost)\b')
+GIVEN_ON = re.compile(r'^pub use ([\w:]+)::(\{(?![^}]*\bas\b)[\w\s,]*\}|\w+);', re.M)
 BEGIN = re.compile(VISIBLE + r'(?:const |unsafe |final |extern "C" )*(?:fn|impl|trait|struct|enum)\b')
 # these words anywhere on a line
 CLAUSE_WORD = re.compile(r'\b(requires|ensures|ghost)\b')
@@ -122,7 +123,7 @@ class Source:
         while number < len(self.lines):
             number = self.take(number) + 1
         whole = '\n'.join(self.lines)
-        self.given_on = re.findall(r'^pub use ([\w:]+)::(\{[^}]*\}|\w+);', whole, re.M)
+        self.given_on = GIVEN_ON.findall(whole)
         self.used = re.findall(r'^(?:pub )?use ([\w:]+)::(\{[^}]*\}|\w+(?: as \w+)?);', whole, re.M)
         self.public_modules = re.findall(r'^pub mod (\w+);', whole, re.M)
 
@@ -229,14 +230,16 @@ class Source:
         return self.end_outside_braces(start, lambda number: '}' in self.code(number) or self.code(number).endswith(';'))
 
     def unread(self):
-        """The lines that begin a function, a type or an impl, or hold a word of a clause, and were not read as that."""
+        """The lines that begin a function, a type, an impl or a `pub use`, or hold a word of a clause, and were not read as
+        that."""
         read = {g.lines[0] for g in self.ghosts}
         read = read.union(*(f.clause_lines() for f in self.functions), *(t.lines for t in self.types.values()))
         for number, line in enumerate(self.lines):
             is_lost_clause = (CLAUSE_WORD.search(self.code(number)) and number not in read
                 and not any(f.has_in_body(number) for f in self.functions))
             is_lost_begin = BEGIN.match(line.strip()) and number not in self.begun
-            if number not in self.passed and (is_lost_clause or is_lost_begin):
+            is_lost_use = line.strip().startswith('pub use ') and not GIVEN_ON.match('\n'.join(self.lines[number:]))
+            if number not in self.passed and (is_lost_clause or is_lost_begin or is_lost_use):
                 yield f'{self}:{number + 1} has what this script does not read: {line.strip()}'
 
     def text(self, lines):
