@@ -25,28 +25,32 @@ pub fn one_reading()
     ensures line { OneReads line_reading }
 {}
 
-/// At most one outcome is taken from an expander, and one state is after it.
+/// At most one outcome is taken from an expander, over a list of tokens and over a source, and one state is after it.
 pub fn one_taking()
     ensures argument { OneTaking argument_reading }
     ensures line { OneTaking line_reading }
+    ensures source { (level : ℕ) → OneTaking (source_reading (answers_at level)) }
 {}
 
 /// The search for the end of a call gathers at most one list of tokens, or finds one fault.
 pub fn one_gathering()
     ensures argument { OneGathering argument_reading }
     ensures line { OneGathering line_reading }
+    ensures source { (level : ℕ) → OneGathering (source_reading (answers_at level)) }
 {}
 
 /// The search for a call after the name of a function-like macro has at most one outcome.
 pub fn one_call()
     ensures argument { (level : ℕ) → OneCall argument_reading (answers_at level) }
     ensures line { (level : ℕ) → OneCall line_reading (answers_at level) }
+    ensures source { (level : ℕ) → OneCall (source_reading (answers_at level)) (answers_at level) }
 {}
 
-/// An expander has at most one next item.
+/// An expander has at most one next item, over a list of tokens and over a source.
 pub fn one_item()
     ensures argument { (level : ℕ) → OneItem argument_reading (answers_at level) }
     ensures line { (level : ℕ) → OneItem line_reading (answers_at level) }
+    ensures source { (level : ℕ) → OneItem (source_reading (answers_at level)) (answers_at level) }
 {}
 
 /// An argument that is read alone gives at most one list of tokens, or one fault.

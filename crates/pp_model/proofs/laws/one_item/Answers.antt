@@ -1,10 +1,14 @@
+use Rattle.pp_model.specs.Emitting.{answers_at}
 use Rattle.pp_model.specs.Reading.{argument_reading, line_reading}
+use Rattle.pp_model.specs.Reads.{source_reading}
 use Rattle.pp_model.proofs.TakingLemmas.{argument_reads_one, line_reads_one}
-use Rattle.pp_model.proofs.LevelLemmas.{one_item_at}
+use Rattle.pp_model.proofs.LevelLemmas.{one_answer, one_item_at}
+use Rattle.pp_model.proofs.ReadsLemmas.{source_reads_one}
 use Rattle.pp_model.proofs.laws.one_item.Goals as goal
 
 pub returns : goal.returns
 returns c = record {
   argument = one_item_at argument_reading argument_reads_one;
   line = one_item_at line_reading line_reads_one;
+  source = λ level. one_item_at (source_reading (answers_at level)) (source_reads_one (answers_at level) (one_answer level)) level;
 }
