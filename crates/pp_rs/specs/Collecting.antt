@@ -1,5 +1,6 @@
--- One call of `append_all` or `preprocess_all` (docs/RULES.md, "Calls").
+-- One call of `append_all`, `preprocess_all` or `drain` (docs/RULES.md, "Calls").
 use Rattle.std.specs.Prelude.{◌≡◌, true, false, List, [], ◌∷◌, ◌++◌, Option, Some, None, Ok, Err, MatchBool, All}
+use Rattle.pp_lexer.specs.PreprocessorError.{out_of_memory}
 use Rattle.pp_lexer.specs.declared.token.Token.{Token}
 use Rattle.pp_model.specs.declared.outcome.Outcome.{Outcome}
 use Rattle.pp_model.specs.declared.outcome.Outcome.TheVariants as outcome
@@ -9,6 +10,7 @@ use Rattle.pp_rs.specs.Kept.{Preprocessing, Stands, is_spent, most_items, errors
 use Rattle.pp_macros.specs.Held.{ItemHoldsOrdinary}
 use Rattle.pp_macros.specs.LexerErrors.{ErrorAt}
 use Rattle.pp_lexer.specs.declared.token.Location.{Location}
+use Rattle.pp_rs.specs.Preprocessing.{IsNextItem}
 
 -- the tokens before the first error item
 abbrev pub tokens_before_error : List Item → List Token
@@ -72,6 +74,33 @@ HaveComeFrom state items None new =
     (after : State) × Gives state (tokens_before_error items) after × (is_spent new ≡ false → Stands new after)
 HaveComeFrom state items (Some fault) new = IsRunFrom state (tokens_before_error items) (outcome.Fault fault)
 
+-- `next` was called for these items, one after another, and nothing else was.
+pub data AreNextItems : Preprocessing → List Item → Preprocessing → Type 0 where
+  nothing : (items : List Item) (old new : Preprocessing)
+      → items ≡ []
+      → new ≡ old
+      → AreNextItems old items new
+  one_more : (item : Item) (before items : List Item) (old now new : Preprocessing)
+      → AreNextItems old before now
+      → IsNextItem now (Some item) new
+      → items ≡ before ++ (item ∷ [])
+      → AreNextItems old items new
+
+-- `next` was called for these items, and then gave the end.
+pub record AreItemsToEnd (old : Preprocessing) (items : List Item) (new : Preprocessing) : Type 0 where
+  pub last : Preprocessing
+  pub given : AreNextItems old items last
+  pub ended : IsNextItem last None new
+
+-- `next` was called for these items, and then memory was refused: to the list, and to no item, or to the next item.
+pub data AreItemsToRefusal (old : Preprocessing) (items : List Item) (new : Preprocessing) : Type 0 where
+  of_list : AreNextItems old items new → is_spent new ≡ is_spent old → AreItemsToRefusal old items new
+  of_item : (last : Preprocessing)
+      → AreNextItems old items last
+      → is_spent last ≡ false
+      → IsNextItem last (Some (Err out_of_memory)) new
+      → AreItemsToRefusal old items new
+
 -- These items came, one after another. If memory had run out before, there are none. After them the preprocessor stands
 -- for the state that follows, unless an item was an error or memory ran out for the next one.
 pub record HaveCome (old : Preprocessing) (items : List Item) (new : Preprocessing) : Type 0 where
@@ -81,6 +110,7 @@ pub record HaveCome (old : Preprocessing) (items : List Item) (new : Preprocessi
       → HaveComeFrom state items (first_error items) new
   pub holds : All ItemHoldsOrdinary items
   pub reports : is_spent new ≡ false → AreReported old items new
+  pub by_next : AreItemsToRefusal old items new
 
 -- these items came and were appended to the list
 pub record AreAppended (old : Preprocessing) (before items : List Item) (new : Preprocessing) : Type 0 where
@@ -97,6 +127,7 @@ pub record AreAll (old : Preprocessing) (items : List Item) (new : Preprocessing
   pub spent : is_spent new ≡ is_spent old
   pub reports : AreReported old items new
   pub reports_all : is_spent old ≡ false → errors_left new ≡ []
+  pub by_next : AreItemsToEnd old items new
 
 -- all items that were left were appended to the list
 pub record AreAllAppended (old : Preprocessing) (before items : List Item) (new : Preprocessing) : Type 0 where
@@ -108,3 +139,10 @@ pub record AreAllAppended (old : Preprocessing) (before items : List Item) (new 
 pub record IsGivenUp (old new : Preprocessing) : Type 0 where
   pub items : List Item
   pub came : HaveCome old items new
+
+-- `next` was called to the end, and the items were dropped. If memory ran out for none of them, they are all items that
+-- were left.
+pub record IsDrained (old new : Preprocessing) : Type 0 where
+  pub items : List Item
+  pub by_next : AreItemsToEnd old items new
+  pub all : is_spent new ≡ is_spent old → AreAll old items new

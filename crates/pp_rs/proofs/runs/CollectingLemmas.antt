@@ -6,6 +6,7 @@ use Rattle.std.proofs.lemmas.List.Elements.{All-nil, All-push}
 use Rattle.pp_lexer.specs.declared.token.Token.{Token}
 use Rattle.pp_model.specs.declared.outcome.Outcome.TheVariants as outcome
 use Rattle.pp_rs.specs.Collecting.{tokens_before_error, first_error, error_or_end, AreItemsFrom, AreItemsOf, Reports, AreReported, HaveComeFrom, HaveCome, AreAll, AreAppended, AreAllAppended}
+use Rattle.pp_rs.specs.Collecting.{AreNextItems, nothing, one_more, AreItemsToEnd, of_list, of_item, IsDrained}
 use Rattle.pp_rs.specs.Comes.{State, IsRunFrom}
 use Rattle.pp_macros.specs.Held.{ItemHoldsOrdinary}
 use Rattle.pp_macros.specs.Item.{Fault, Item}
@@ -119,6 +120,7 @@ pub record Gathered (old : Preprocessing) (items : List Item) (now : Preprocessi
   pub come : HaveCome old items now
   pub reported : AreReported old items now
   pub same : is_spent old ≡ true → now ≡ old
+  pub by_next : AreNextItems old items now
 
 pub gathered_none : (old : Preprocessing) (items : List Item) → items ≡ [] → Gathered old items old
 gathered_none old items e = record {
@@ -128,9 +130,11 @@ gathered_none old items e = record {
     came = λ ready state stands. rw e (state, gives_nothing state, λ unspent. stands);
     holds = rw e (All-nil ItemHoldsOrdinary);
     reports = λ unspent. report.none items _ _ _ _ e refl refl;
+    by_next = of_list (nothing items old old e refl) refl;
   };
   reported = report.none items _ _ _ _ e refl refl;
   same = λ spent. refl;
+  by_next = nothing items old old e refl;
 }
 
 -- an item comes only where memory was not refused before
@@ -152,31 +156,37 @@ module _ (now new : Preprocessing) (item : Item) (next : IsNextItem now (Some it
       let given = given_by ready.1 reported in
       let fresh : is_spent old ≡ false = sym g.spent ∙ ready.0 in
       let all : AreReported old more new = rw e (reports_then items (item ∷ []) _ _ _ _ _ _ g.reported (reports_item now new item given.reports)) in
+      let chain : AreNextItems old more new = one_more item items more old now new g.by_next next e in
+      let unspent : is_spent new ≡ is_spent old = given.spent ∙ sym fresh in
       record {
-        spent = given.spent ∙ sym fresh;
+        spent = unspent;
         come = record {
           none = λ spent. let bad : true ≡ false = sym spent ∙ fresh in cc;
           came = λ start state stands. rw e (item_more state items now new item (first_error items) ready.0 refl (g.come.came start state stands) given);
           holds = rw e (All-push ItemHoldsOrdinary items item g.come.holds given.holds);
           reports = λ unspent. all;
+          by_next = of_list chain unspent;
         };
         reported = all;
         same = λ spent. let bad : true ≡ false = sym spent ∙ fresh in cc;
+        by_next = chain;
       }
 
-  spent_by : IsRefusedItem (Some item) new ⊎ IsGivenItem now (Some item) new → is_refusal (Some item) ≡ true → is_spent new ≡ true
-  spent_by (inl refused) reported = refused.spent
-  spent_by (inr given) reported = let bad : true ≡ false = sym reported ∙ given.no_refusal in cc
+  refused_by : IsRefusedItem (Some item) new ⊎ IsGivenItem now (Some item) new → is_refusal (Some item) ≡ true → IsRefusedItem (Some item) new
+  refused_by (inl refused) reported = refused
+  refused_by (inr given) reported = let bad : true ≡ false = sym reported ∙ given.no_refusal in cc
 
   -- memory for an item was refused: those before it came
   pub come_before_refusal : (old : Preprocessing) (items : List Item) → Gathered old items now → is_refusal (Some item) ≡ true → HaveCome old items new
   come_before_refusal old items g reported =
-      let spent : is_spent new ≡ true = spent_by ready.1 reported in
+      let refused = refused_by ready.1 reported in
+      let spent : is_spent new ≡ true = refused.spent in
       record {
         none = g.come.none;
         came = λ start state stands. item_refused state items now new (first_error items) spent (g.come.came start state stands);
         holds = g.come.holds;
         reports = λ unspent. let bad : true ≡ false = sym spent ∙ unspent in cc;
+        by_next = of_item now g.by_next ready.0 (subst (λ answer. IsNextItem now answer new) refused.item next);
       }
 
 module _ (old : Preprocessing) (items : List Item) (now new : Preprocessing) (g : Gathered old items now) (next : IsNextItem now None new) where
@@ -196,6 +206,9 @@ module _ (old : Preprocessing) (items : List Item) (now new : Preprocessing) (g 
   items_by false e (spent_before spent same) = let bad : true ≡ false = sym spent ∙ g.spent ∙ e in cc
   items_by false e (ended ready given) = λ state stands. items_end state items now new (first_error items) ready refl (g.come.came e state stands) given
 
+  to_end : AreItemsToEnd old items new
+  to_end = record { last = now; given = g.by_next; ended = next }
+
   all_by : Ends → AreAll old items new
   all_by (spent_before spent same) = record {
     items_of = items_by (is_spent old) refl (spent_before spent same);
@@ -204,6 +217,7 @@ module _ (old : Preprocessing) (items : List Item) (now new : Preprocessing) (g 
     spent = ap is_spent same ∙ g.spent;
     reports = rw same g.reported;
     reports_all = λ fresh. let bad : true ≡ false = sym spent ∙ g.spent ∙ fresh in cc;
+    by_next = to_end;
   }
   all_by (ended ready given) = record {
     items_of = items_by (is_spent old) refl (ended ready given);
@@ -212,6 +226,7 @@ module _ (old : Preprocessing) (items : List Item) (now new : Preprocessing) (g 
     spent = given.spent ∙ sym ready ∙ g.spent;
     reports = rw (given.reports.1 ∙ sym given.reports.0, given.reports.2) g.reported;
     reports_all = λ fresh. given.reports.1;
+    by_next = to_end;
   }
 
   -- all items were gathered
@@ -252,3 +267,52 @@ appended_before old before items now new item next a reported = record {
 pub appended_all : (old : Preprocessing) (before items : List Item) (now new : Preprocessing) → IsNextItem now None new
     → Appended old before items now → AreAllAppended old before items new
 appended_all old before items now new next a = record { more = a.more; are_last = a.are_last; all = gathered_all old a.more now new a.gathered next }
+
+-- Items that were dropped: each was given, or memory was refused to the last one.
+pub data Dropped (old now : Preprocessing) : Type 0 where
+  each : (items : List Item) → Gathered old items now → Dropped old now
+  last_refused : (items : List Item) → AreNextItems old items now → is_spent old ≡ false → is_spent now ≡ true → Dropped old now
+
+pub dropped_none : (old : Preprocessing) → Dropped old old
+dropped_none old = each [] (gathered_none old [] refl)
+
+module _ (old now new : Preprocessing) (item : Item) (next : IsNextItem now (Some item) new) where
+  dropped_by : (items : List Item) (refused : Bool) → is_refusal (Some item) ≡ refused → Gathered old items now → Dropped old new
+  dropped_by items false e g = each (items ++ (item ∷ [])) (gathered_more now new item next old items (items ++ (item ∷ [])) g e refl)
+  dropped_by items true e g =
+      let here = ready now new item next in
+      last_refused (items ++ (item ∷ [])) (one_more item items (items ++ (item ∷ [])) old now new g.by_next next refl)
+      (sym g.spent ∙ here.0) ((refused_by now new item next here.1 e).spent)
+
+  pub dropped_more : Dropped old now → Dropped old new
+  dropped_more (each items g) = dropped_by items (is_refusal (Some item)) refl g
+  dropped_more (last_refused items by_next fresh spent) = let bad : true ≡ false = sym spent ∙ (ready now new item next).0 in cc
+
+-- where memory ran out before, nothing changes
+same_after : (old new : Preprocessing) (spent : Bool) (A : Type 0) → spent ≡ true
+    → MatchBool spent (◌≡◌ {A = Option Item} None None × (new ≡ old)) A → new ≡ old
+same_after old new true A e h = h.1
+same_after old new false A e h = cc
+
+module _ (old now new : Preprocessing) (next : IsNextItem now None new) where
+  still_spent : is_spent now ≡ true → is_spent new ≡ true
+  still_spent spent = ap is_spent (same_after now new (is_spent now) (IsRefusedItem None new ⊎ IsGivenItem now None new) spent next.gives) ∙ spent
+
+  -- the end was given, and the items before it were dropped
+  pub drained : Dropped old now → IsDrained old new
+  drained (each items g) = record {
+    items = items;
+    by_next = record { last = now; given = g.by_next; ended = next };
+    all = λ same. gathered_all old items now new g next;
+  }
+  drained (last_refused items by_next fresh spent) = record {
+    items = items;
+    by_next = record { last = now; given = by_next; ended = next };
+    all = λ same. let bad : true ≡ false = sym (still_spent spent) ∙ same ∙ fresh in cc;
+  }
+
+  pub drained_reports : Dropped old now → is_spent new ≡ false → errors_left new ≡ []
+  drained_reports (each items g) unspent =
+      let all = gathered_all old items now new g next in
+      all.reports_all (sym all.spent ∙ unspent)
+  drained_reports (last_refused items by_next fresh spent) unspent = let bad : true ≡ false = sym (still_spent spent) ∙ unspent in cc

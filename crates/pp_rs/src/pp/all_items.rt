@@ -2,7 +2,8 @@
 
 ghost use Rattle.std.specs.Prelude.{◌≡◌, [], false, Some, IfOk, OnOk, IfErr, OnErr, All};
 ghost use Rattle.pp_lexer.specs.PreprocessorError.{out_of_memory};
-ghost use Rattle.pp_rs.specs.Collecting.{AreItemsOf, AreReported, AreAppended, AreAllAppended, IsGivenUp};
+ghost use Rattle.pp_rs.specs.Collecting.{AreItemsOf, AreReported, AreItemsToEnd, AreAppended, AreAllAppended};
+ghost use Rattle.pp_rs.specs.Collecting.{IsGivenUp, IsDrained};
 ghost use Rattle.pp_macros.specs.Held.{ItemHoldsOrdinary};
 ghost use Rattle.pp_rs.specs.Kept.{is_spent, most_items, errors_left};
 ghost use Rattle.pp_rs.specs.Preprocessing.{is_refusal};
@@ -72,6 +73,7 @@ pub fn preprocess_all(
     ensures spent { OnOk result (is_spent pp.new ≡ is_spent pp.old) }
     ensures reports { IfOk result (λ items. AreReported pp.old items.items pp.new) }
     ensures reports_all { OnOk result (is_spent pp.old ≡ false → errors_left pp.new ≡ []) }
+    ensures by_next { IfOk result (λ items. AreItemsToEnd pp.old items.items pp.new) }
     ensures refused { IfErr result (λ fault. fault ≡ out_of_memory) }
     ensures given_up { OnErr result (IsGivenUp pp.old pp.new) }
 {
@@ -83,9 +85,11 @@ pub fn preprocess_all(
 /// Calls `next` until it returns `None`, and drops the items. pp-rs 0.2.1 has no such function.
 ///
 /// It ends after any calls, also after errors and after a failed allocation, and allocates nothing of its own. From
-/// then on `next` returns `None`, whatever is added.
+/// then on `next` returns `None`, whatever is added. If memory runs out for an item, the items after it aren't read.
 pub fn drain(pp: &mut Preprocessor<'_>)
     ensures ended { most_items pp.new ≡ 0 }
+    ensures drained { IsDrained pp.old pp.new }
+    ensures reports_all { is_spent pp.new ≡ false → errors_left pp.new ≡ [] }
 {
     'items: loop {
         match pp.next() {

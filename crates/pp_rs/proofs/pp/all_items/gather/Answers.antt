@@ -1,5 +1,5 @@
-use Rattle.std.proofs.Common.{◌∷◌, ◌++◌, [], ◌∙◌, ap, sym}
-use Rattle.pp_rs.proofs.runs.CollectingLemmas.{appended_none, appended_more}
+use Rattle.std.proofs.Common.{◌∷◌, ◌++◌, [], ◌∙◌, ap, sym, subst}
+use Rattle.pp_rs.proofs.runs.CollectingLemmas.{Appended, appended_none, appended_more, appended_before}
 use Rattle.pp_rs.proofs.pp.all_items.gather.Goals as goal
 
 pub items-init : goal.items-init
@@ -10,3 +10,10 @@ items-preserved c =
     let pushed = (c.in_ok-push.ensures {u = tt}).items ∙ ap (λ items. items ++ c.in-Some.item ∷ []) (c.in_ok-reserve.ensures {u = tt}).items in
     appended_more c.args.pp.now c.args.items.now.items c.items.items.items c.push.new.self.items c.items.pp c.next.new.self c.in-Some.item
     c.in-Some.ensures.steps c.items.invariant (sym c.is_refusal.ensures ∙ c.if-is_refusal.false) pushed
+
+pub returns-then-is_refusal-clause-appended : goal.returns-then-is_refusal-clause-appended
+returns-then-is_refusal-clause-appended c =
+    let old = c.args.items.now.items in
+    let came = subst (λ items. Appended c.args.pp.now old items c.items.pp) (sym (c.in_ok-reserve.ensures {u = tt}).items) c.items.invariant in
+    appended_before c.args.pp.now old c.reserve.new.self.items c.items.pp c.next.new.self c.in-Some.item c.in-Some.ensures.steps came
+    (sym c.is_refusal.ensures ∙ c.if-is_refusal.true)
