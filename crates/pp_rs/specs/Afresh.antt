@@ -12,6 +12,10 @@ use Rattle.pp_model.specs.declared.call.Reply.{Reply}
 abbrev pub text_of : List Token → List ℕ
 text_of tokens = encode_utf8_all (spelled_text (values_of tokens))
 
+-- the text of the tokens is short enough for a source
+abbrev pub HasShortText : List Token → Type 0
+HasShortText tokens = length (text_of tokens) < 2 ^ 32 - 1
+
 -- a run of some source gives these tokens, and their text is short enough for a source
 pub record IsOutput (tokens : List Token) : Type 0 where
   pub source : List ℕ
@@ -21,7 +25,7 @@ pub record IsOutput (tokens : List Token) : Type 0 where
   pub contents : All HasText calls
   pub run : IsRun source calls replies
   pub given : given_tokens replies ≡ tokens
-  pub room : length (text_of tokens) < 2 ^ 32 - 1
+  pub room : HasShortText tokens
 
 -- the text of the tokens gives tokens of the same values, and then the end
 abbrev pub AreReadAfresh : List Token → Type 0

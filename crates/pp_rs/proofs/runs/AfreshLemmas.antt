@@ -114,15 +114,14 @@ abbrev AreOrdinary : List Token → Type 0
 AreOrdinary tokens = All (λ token. IsTrue (is_ordinary token.value)) tokens
 
 -- plain output is read afresh
-output_is_read : (tokens : List Token) → IsOutput tokens → AreOrdinary tokens → AreReadAfresh tokens
+pub output_is_read : (tokens : List Token) → IsOutput tokens → AreOrdinary tokens → AreReadAfresh tokens
 output_is_read tokens o plain =
     let given_plain = subst AreOrdinary (sym o.given) plain in
     subst AreReadAfresh o.given (runs_read_afresh expansion_limit o.source o.calls o.replies o.is_text o.contents o.run given_plain)
 
--- so the items of its text have its values
-pub items_of_output : (tokens : List Token) (items : List Item) → IsOutput tokens → AreOrdinary tokens
-    → AreItemsOfText (text_of tokens) items → HaveValues items (values_of tokens)
-items_of_output tokens items o plain from =
-    let read = output_is_read tokens o plain in
+-- if tokens are read afresh, the items of their text have their values
+pub items_of_read : (tokens : List Token) (items : List Item) → AreReadAfresh tokens → AreItemsOfText (text_of tokens) items
+    → HaveValues items (values_of tokens)
+items_of_read tokens items read from =
     let whole = items_are_whole read.tokens items _ read.run from in
     values_are items whole.ends ∙ ap (λ values. map Ok values) (ap values_of (sym whole.tokens) ∙ read.same)

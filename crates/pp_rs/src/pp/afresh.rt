@@ -5,7 +5,7 @@ ghost use Rattle.pp_lexer.specs.PreprocessorError.{out_of_memory};
 ghost use Rattle.pp_lexer.specs.Spelling.{values_of};
 ghost use Rattle.pp_lexer.specs.TokenValue.{is_ordinary};
 ghost use Rattle.pp_model.specs.Run.{items_of, start};
-ghost use Rattle.pp_rs.specs.Afresh.{AreReadAfresh, IsOutput};
+ghost use Rattle.pp_rs.specs.Afresh.{HasShortText, AreReadAfresh, IsOutput};
 ghost use Rattle.pp_rs.specs.Collecting.{AreItemsFrom};
 ghost use Rattle.pp_rs.specs.inner.ItemValues.{value_of_item};
 
@@ -56,13 +56,13 @@ fn items_of_text(
 /// same values. pp-rs 0.2.1 has no such function.
 ///
 /// True for every ordinary token list that a run of some source gives, if its text has fewer than 2^32 - 1 bytes. False
-/// for a longer text. The only error is `OutOfMemory`, if an allocation fails.
+/// if the text is longer, or gives anything else. The only error is `OutOfMemory`, if an allocation fails.
 pub fn are_read_afresh(
     alloc: Global,
     tokens: &[Token],
 ) -> Result<bool, (PreprocessorError, Location)>
     requires ordinary { All (λ t. IsTrue (is_ordinary t.value)) tokens.now }
-    ensures same { IfOk result (λ same. same ≡ true → AreReadAfresh tokens.now) }
+    ensures same { IfOk result (λ same. IsTrue same ↔ (HasShortText tokens.now × AreReadAfresh tokens.now)) }
     ensures output { IfOk result (λ same. IsOutput tokens.now → same ≡ true) }
     ensures refused { IfErr result (λ fault. fault ≡ out_of_memory) }
 {
