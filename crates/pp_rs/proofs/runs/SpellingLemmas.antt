@@ -1,13 +1,16 @@
 -- A text that grows token by token.
 use Rattle.std.proofs.Common.{◌≡◌, ℕ, ◌/◌, ◌%◌, map, lit≤, ◌^◌, ◌<◌, true, false, if◌then◌else◌, List, [], ◌∷◌, ◌++◌, Result, Ok, Err, OnOk, refl, sym, ◌∙◌, ap, append_assoc, length, drop, get_or, ◌+◌, ◌≤◌, arith, suc, subst, All, IsTrue}
-use Rattle.std.specs.Prelude.{is_ok}
+use Rattle.std.specs.Prelude.{is_ok, OnErr}
+use Rattle.std.proofs.Math.Nat.{le_refl}
 use Rattle.std.specs.Fmt.{decimal}
-use Rattle.std.specs.Str.{chars, IsUtf8}
-use Rattle.std.proofs.lemmas.List.{append-nil, map-append, at_drop_more, at_drop_all}
-use Rattle.std.proofs.lemmas.Fmt.{IsAscii-decimal, decimal-digits_of, decimal_digit}
+use Rattle.std.specs.Io.{StartsWith}
+use Rattle.std.specs.Str.{chars, IsUtf8, encode_utf8_all}
+use Rattle.std.specs.String.Boundary.{IsSplitPoint}
+use Rattle.std.proofs.lemmas.List.{append-nil, map-append, at_drop_more, at_drop_all, take_at, take_all, length-take}
+use Rattle.std.proofs.lemmas.Fmt.{IsAscii-decimal, decimal-digits_of}
 use Rattle.std.proofs.lemmas.Int.Digits.{digits_of_step}
 use Rattle.std.specs.Int.Digits.{digits_of}
-use Rattle.std.proofs.lemmas.Str.{chars-append, chars-IsAscii, chars-nil}
+use Rattle.std.proofs.lemmas.Str.{chars-append, chars-IsAscii, chars-nil, encodes-append, encodes-chars, IsCharBoundary-from_take}
 use Rattle.pp_lexer.specs.Punctuators.{punctuator}
 use Rattle.pp_lexer.specs.Spelling.{integer_literal, spelling, spelled_text, values_of}
 use Rattle.pp_lexer.specs.declared.token.Integer.{Integer}
@@ -20,6 +23,7 @@ use Rattle.pp_lexer.specs.declared.lexer.plain_item.PlainItem.{PlainItem}
 use Rattle.pp_directives.specs.WordTokens.{word_value, word_token}
 use Rattle.pp_lexer.specs.declared.token.Token.{Token}
 use Rattle.pp_lexer.specs.declared.token.TokenValue.{TokenValue}
+use Rattle.pp_lexer.specs.declared.token.TokenValue.TheVariants.{Ident, Integer as IntegerValue, Float, Punct as PunctValue}
 
 -- each punctuator is plain ASCII
 pub chars-punctuator : (p : Punct) → chars (punctuator p) ≡ punctuator p
@@ -49,6 +53,11 @@ pub chars-pushed : {E : Type 0} (r : Result (Unit {0}) E) (new old more : List �
     → OnOk r (chars new ≡ chars old ++ chars more)
 chars-pushed (Ok x) new old more u e = ap chars e ∙ chars-append old more u
 chars-pushed (Err x) new old more u e = tt
+
+-- or nothing, if there was no room
+pub not-pushed : {E : Type 0} (r : Result (Unit {0}) E) (new old more : List ℕ) → new ≡ (if is_ok r then old ++ more else old) → OnErr r (new ≡ old)
+not-pushed (Ok x) new old more e = tt
+not-pushed (Err x) new old more e = e
 
 -- the spellings after a first one, each after a space
 abbrev pub spaced_spellings : List TokenValue → List ℕ
@@ -114,3 +123,31 @@ decimal-last n more fits =
     decimal-digits_of n some fits ∙ ap (map (λ d. 48 + d)) (digits_of_step 10 n (lit≤ tt) some)
     ∙ map-append (λ d. 48 + d) (digits_of 10 (n / 10)) (n % 10 ∷ [])
     ∙ ap (λ t. t ++ (48 + n % 10) ∷ []) (sym (decimal-digits_of (n / 10) tenth less))
+
+-- A text to which something was added, in whole or in part.
+pub grown : (new old more : List ℕ) → new ≡ old ++ more → StartsWith new old
+grown new old more e = rw e (take_at old more (length old) refl)
+
+pub not_grown : (new old : List ℕ) → new ≡ old → StartsWith new old
+not_grown new old e = rw e (take_all (length old) old (le_refl (length old)))
+
+-- a directive has no spelling
+pub unspelled : (value : TokenValue) → is_ordinary value ≡ false → encode_utf8_all (spelling value) ≡ []
+unspelled (Ident _) e = cc
+unspelled (IntegerValue _) e = cc
+unspelled (Float _) e = cc
+unspelled (PunctValue _) e = cc
+unspelled _ e = refl
+
+-- it can be cut where it ended before
+pub cut_before : (new old : List ℕ) → IsUtf8 new → IsUtf8 old → StartsWith new old → IsSplitPoint new (length old)
+cut_before new old u v e =
+    let fits : length old ≤ length new = omega (arith, ap length e, length-take (length old) new) in
+    let place = IsCharBoundary-from_take new (length old) u fits (subst IsUtf8 (sym e) v) in
+    (place.0, λ some. place.1)
+
+-- the bytes that were added are those of the characters that were added
+pub bytes-pushed : (new old piece : List ℕ) → IsUtf8 new → IsUtf8 old → chars new ≡ chars old ++ piece → new ≡ old ++ encode_utf8_all piece
+bytes-pushed new old piece u v e =
+    sym (encodes-chars new u) ∙ ap encode_utf8_all e ∙ encodes-append (chars old) piece
+    ∙ ap (λ t. t ++ encode_utf8_all piece) (encodes-chars old v)

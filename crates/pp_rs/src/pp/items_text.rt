@@ -1,24 +1,74 @@
 //! Items as text.
 
-ghost use Rattle.std.specs.Prelude.{◌≡◌, ◌++◌, OnOk, IfOk, MatchResult, string_bytes};
-ghost use Rattle.std.specs.Str.{encode_utf8_all};
-ghost use Rattle.pp_lexer.specs.ItemText.{item_text};
+ghost use Rattle.std.specs.Prelude.{◌≡◌, ◌++◌, OnOk, OnErr, IfOk, MatchResult, string_bytes};
+ghost use Rattle.std.specs.Io.{StartsWith};
+ghost use Rattle.std.specs.Str.{chars, encode_utf8_all};
+ghost use Rattle.pp_lexer.specs.ItemText.{item_text, with_tokens};
+ghost use Rattle.pp_lexer.specs.Spelling.{spelling};
 ghost use Rattle.pp_lexer.specs.PreprocessorError.{out_of_memory};
 ghost use Rattle.pp_rs.specs.Output.{output};
 ghost use Rattle.pp_rs.specs.inner.ItemsText.{after_item, before_item, item_piece};
 
-use crate::token::{Location, PreprocessorError, Token, out_of_memory};
+use crate::pp::spelling::push_value;
+use crate::token::{Location, PreprocessorError, Token, TokenValue, Tokens, out_of_memory};
 use std::alloc::{AllocError, Global};
 
 /// Appends the text of an item: the spelling of an ordinary token, or a directive's word with each
 /// token of its line after a space. pp-rs 0.2.1 has no such function.
 ///
-/// Fails only if an allocation fails. A part of the text may have been appended then.
+/// Fails only if an allocation fails. Then nothing is appended.
 pub fn push_token(text: &mut String, token: &Token) -> Result<(), AllocError>
-    ensures { OnOk result (string_bytes text.new
+    ensures appended { OnOk result (string_bytes text.new
         ≡ string_bytes text.old ++ encode_utf8_all (item_text token.now.value)) }
+    ensures refused { OnErr result (string_bytes text.new ≡ string_bytes text.old) }
 {
-    write!(text, "{token}")
+    let length = text.len();
+    if let Err(refused) = push_item_text(text, token) {
+        text.truncate(length);
+        return Err(refused);
+    }
+    Ok(())
+}
+
+// Appends what `{}` writes of an item. If memory runs out, the front of it may be there.
+fn push_item_text(text: &mut String, token: &Token) -> Result<(), AllocError>
+    ensures appended { OnOk result (string_bytes text.new
+        ≡ string_bytes text.old ++ encode_utf8_all (item_text token.now.value)) }
+    ensures refused { OnErr result (StartsWith (string_bytes text.new) (string_bytes text.old)) }
+{
+    match &token.value {
+        TokenValue::Version(version) => push_directive(text, "#version", &version.tokens),
+        TokenValue::Extension(extension) => push_directive(text, "#extension", &extension.tokens),
+        TokenValue::Pragma(pragma) => push_directive(text, "#pragma", &pragma.tokens),
+        _ => push_spelling(text, token),
+    }
+}
+
+// Appends the word of a directive, and each token of its line after a space. If memory runs out, the front of it may be
+// there.
+fn push_directive(text: &mut String, word: &str, tokens: &Tokens) -> Result<(), AllocError>
+    ensures appended { OnOk result (string_bytes text.new
+        ≡ string_bytes text.old ++ encode_utf8_all (with_tokens (chars word.now) tokens.now)) }
+    ensures refused { OnErr result (StartsWith (string_bytes text.new) (string_bytes text.old)) }
+{
+    text.push_str(word)?;
+    for token in tokens.as_slice() {
+        text.push(' ')?;
+        push_spelling(text, token)?;
+    }
+    Ok(())
+}
+
+// Appends the spelling of an ordinary token, and nothing of a directive.
+fn push_spelling(text: &mut String, token: &Token) -> Result<(), AllocError>
+    ensures appended { OnOk result (string_bytes text.new
+        ≡ string_bytes text.old ++ encode_utf8_all (spelling token.now.value)) }
+    ensures refused { OnErr result (string_bytes text.new ≡ string_bytes text.old) }
+{
+    if token.is_ordinary() {
+        return push_value(text, &token.value);
+    }
+    Ok(())
 }
 
 /// Returns the items as lines. Each longest run of ordinary tokens is one line, with one space

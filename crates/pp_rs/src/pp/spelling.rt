@@ -1,7 +1,8 @@
 //! The text of tokens.
 
-ghost use Rattle.std.specs.Prelude.{◌≡◌, ◌++◌, IsTrue, All, OnOk, IfOk, MatchResult, string_bytes};
+ghost use Rattle.std.specs.Prelude.{◌≡◌, ◌++◌, IsTrue, All, OnOk, OnErr, IfOk, MatchResult, string_bytes};
 ghost use Rattle.std.specs.Fmt.{decimal};
+ghost use Rattle.std.specs.Io.{StartsWith};
 ghost use Rattle.std.specs.Str.{chars};
 ghost use Rattle.pp_directives.specs.WordTokens.{word_token};
 ghost use Rattle.pp_rs.specs.NextWord.{IsPlain};
@@ -53,11 +54,12 @@ fn join_spellings(alloc: Global, tokens: &[Token]) -> Result<String, AllocError>
 
 /// Appends the text of an ordinary token, as `spell_tokens` spells it.
 ///
-/// Fails only if an allocation fails. A part of the text may have been appended then.
+/// Fails only if an allocation fails. Then nothing is appended.
 pub fn push_value(text: &mut String, value: &TokenValue) -> Result<(), AllocError>
     requires { IsTrue (is_ordinary value.now) }
-    ensures { OnOk result (chars (string_bytes text.new)
+    ensures appended { OnOk result (chars (string_bytes text.new)
         ≡ chars (string_bytes text.old) ++ spelling value.now) }
+    ensures refused { OnErr result (string_bytes text.new ≡ string_bytes text.old) }
 {
     match value {
         TokenValue::Ident(name) => text.push_str(name.as_str()),
@@ -73,8 +75,9 @@ pub fn push_value(text: &mut String, value: &TokenValue) -> Result<(), AllocErro
 // Appends a punctuator. Most have one character, for which no text is copied.
 #[inline(always)]
 fn push_punct(text: &mut String, punct: Punct) -> Result<(), AllocError>
-    ensures { OnOk result (chars (string_bytes text.new)
+    ensures appended { OnOk result (chars (string_bytes text.new)
         ≡ chars (string_bytes text.old) ++ punctuator punct) }
+    ensures refused { OnErr result (string_bytes text.new ≡ string_bytes text.old) }
 {
     let spelling = punct.spelling();
     let bytes = spelling.as_bytes();
@@ -86,12 +89,13 @@ fn push_punct(text: &mut String, punct: Punct) -> Result<(), AllocError>
 
 /// Appends the text of a word of plain text, as `spell_tokens` spells its token. It is private to the repository.
 ///
-/// Fails only if an allocation fails. A part of the text may have been appended then.
+/// Fails only if an allocation fails. Then nothing is appended.
 #[inline(always)]
 pub fn push_word(text: &mut String, word: &PlainItem<'_>) -> Result<(), AllocError>
     requires { IsPlain word.now }
-    ensures { OnOk result (chars (string_bytes text.new)
+    ensures appended { OnOk result (chars (string_bytes text.new)
         ≡ chars (string_bytes text.old) ++ spelling (word_token word.now).value) }
+    ensures refused { OnErr result (string_bytes text.new ≡ string_bytes text.old) }
 {
     match word.form {
         Form::Identifier => text.push_str(word.spelling),
@@ -118,9 +122,11 @@ pub fn push_word(text: &mut String, word: &PlainItem<'_>) -> Result<(), AllocErr
     }
 }
 
-// Appends the decimal digits of a number, without a formatter: most numbers have one digit.
+// Appends the decimal digits of a number, without a formatter: most numbers have one digit. If memory runs out, the
+// first of them may be there.
 fn push_decimal(text: &mut String, value: u64) -> Result<(), AllocError>
-    ensures { OnOk result (string_bytes text.new ≡ string_bytes text.old ++ decimal value) }
+    ensures appended { OnOk result (string_bytes text.new ≡ string_bytes text.old ++ decimal value) }
+    ensures refused { OnErr result (StartsWith (string_bytes text.new) (string_bytes text.old)) }
 {
     if value >= 10 {
         push_decimal(text, value / 10)?;
@@ -129,13 +135,29 @@ fn push_decimal(text: &mut String, value: u64) -> Result<(), AllocError>
     Ok(())
 }
 
-fn push_integer(text: &mut String, integer: Integer) -> Result<(), AllocError>
-    ensures { OnOk result (chars (string_bytes text.new)
+// Appends the digits of an integer, and a `u` if it is unsigned. If memory runs out, the first of them may be there.
+fn push_digits(text: &mut String, integer: Integer) -> Result<(), AllocError>
+    ensures appended { OnOk result (chars (string_bytes text.new)
         ≡ chars (string_bytes text.old) ++ integer_literal integer) }
+    ensures refused { OnErr result (StartsWith (string_bytes text.new) (string_bytes text.old)) }
 {
     push_decimal(text, integer.value)?;
     if !integer.signed {
         text.push('u')?;
+    }
+    Ok(())
+}
+
+// Appends an integer. If memory runs out, what was appended is taken back.
+fn push_integer(text: &mut String, integer: Integer) -> Result<(), AllocError>
+    ensures appended { OnOk result (chars (string_bytes text.new)
+        ≡ chars (string_bytes text.old) ++ integer_literal integer) }
+    ensures refused { OnErr result (string_bytes text.new ≡ string_bytes text.old) }
+{
+    let length = text.len();
+    if let Err(refused) = push_digits(text, integer) {
+        text.truncate(length);
+        return Err(refused);
     }
     Ok(())
 }

@@ -7,6 +7,6 @@ use Rattle.glslpp_parts.proofs.words.spelled_word.Goals as goal
 
 pub returns : goal.returns
 returns c =
-    let pushed = c.in_ok-push_value.ensures {u = tt} in
+    let pushed = (c.in_ok-push_value.ensures {u = tt}).appended in
     spelled_read c.args.value.now _ (IsUtf8-string_bytes c.push_value.new.text)
     (pushed ∙ ap (λ t. t ++ spelling c.args.value.now) (ap chars c.new-word.ensures.bytes ∙ chars-nil))

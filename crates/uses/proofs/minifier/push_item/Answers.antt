@@ -13,7 +13,7 @@ returns-then-is_ordinary-clause-pushed c =
     let word = string_bytes c.push_token.new.text in
     let words = word_pushed before word c.separator.result.now (string_bytes c.push_str.new.self) (string_bytes c.push_str-2.new.self) c.args.token.now.value
     (IsUtf8-string_bytes c.args.text.now) (IsUtf8-string_bytes c.push_token.new.text) c.separator.utf8
-    (c.in_ok-push_token.ensures ∙ ap (λ b. b ++ encode_utf8_all (item_text c.args.token.now.value)) c.new-word.ensures.bytes)
+    (c.in_ok-push_token.ensures.appended ∙ ap (λ b. b ++ encode_utf8_all (item_text c.args.token.now.value)) c.new-word.ensures.bytes)
     (c.separator.ensures ∙ ap (λ t. separator (chars t) (chars c.as_str-2.result.now)) c.as_str.ensures.value ∙ ap (λ w. separator (chars before) (chars w)) c.as_str-2.ensures.value)
     c.in_ok-push_str.ensures.bytes (c.in_ok-push_str-2.ensures.bytes ∙ ap (λ w. string_bytes c.push_str.new.self ++ w) c.as_str-3.ensures.value) in
     item_pushed (chars before) _ c.args.token.now.value true (sym c.if-is_ordinary.true ∙ c.is_ordinary.ensures) (words ∙ sym (append-nil _))
@@ -24,7 +24,7 @@ returns-clause-pushed c =
     let word = string_bytes c.push_token.new.text in
     let words = word_pushed before word c.separator.result.now (string_bytes c.push_str.new.self) (string_bytes c.push_str-2.new.self) c.args.token.now.value
     (IsUtf8-string_bytes c.args.text.now) (IsUtf8-string_bytes c.push_token.new.text) c.separator.utf8
-    (c.in_ok-push_token.ensures ∙ ap (λ b. b ++ encode_utf8_all (item_text c.args.token.now.value)) c.new-word.ensures.bytes)
+    (c.in_ok-push_token.ensures.appended ∙ ap (λ b. b ++ encode_utf8_all (item_text c.args.token.now.value)) c.new-word.ensures.bytes)
     (c.separator.ensures ∙ ap (λ t. separator (chars t) (chars c.as_str-2.result.now)) c.as_str.ensures.value ∙ ap (λ w. separator (chars before) (chars w)) c.as_str-2.ensures.value)
     c.in_ok-push_str.ensures.bytes (c.in_ok-push_str-2.ensures.bytes ∙ ap (λ w. string_bytes c.push_str.new.self ++ w) c.as_str-3.ensures.value) in
     let end = ap chars c.in_ok-push.ensures.bytes ∙ chars-append (string_bytes c.push_str-2.new.self) _ (IsUtf8-string_bytes c.push_str-2.new.self)

@@ -10,7 +10,7 @@ returns-in_default c = let h = c.in_default.ensures {u = tt} in spelled_none _ c
 pub loop-token-init : goal.loop-token-init
 loop-token-init c =
     let h = c.in-Some.ensures in
-    let k = c.in_ok-push_value.ensures {u = tt} in
+    let k = (c.in_ok-push_value.ensures {u = tt}).appended in
     spelled_first _ _ _ _ _ h.cases.0 c.new-text.ensures.bytes k
 
 pub push_value-requires-in-loop-token : goal.push_value-requires-in-loop-token
@@ -21,7 +21,7 @@ push_value-requires-in-loop-token c =
 pub loop-token-preserved : goal.loop-token-preserved
 loop-token-preserved c =
     let p = c.in_ok-push.ensures {u = tt} in
-    let k = c.in_ok-push_value-2.ensures {u = tt} in
+    let k = (c.in_ok-push_value-2.ensures {u = tt}).appended in
     spelled_more _ _ c.in-Some.others.now c.loop-token.token-index c.loop-token.invariant _ _ _ (IsUtf8-string_bytes c.loop-token.text)
     (omega arith) c.token-item.is
     (p.bytes ∙ ap (λ t. string_bytes c.loop-token.text ++ t) (p.ascii (omega arith))) k
