@@ -45,6 +45,6 @@ def calls(function, name):
 
 def known_words(tree):
     """The words of the code, the definitions and the proofs, and the names of their files."""
-    files = [path for ending in ('rt', 'antt') for path in tree.root.glob(f'crates/*/*/**/*.{ending}')]
+    files = [path for folder in ('src/**/*.rt', 'specs/**/*.antt', 'proofs/**/*.antt') for path in tree.root.glob(f'crates/*/{folder}')]
     found = {*tree.crates, *(path.stem for path in files)}
     return found.union(*(re.findall(r'\w+', path.read_text()) for path in files))
