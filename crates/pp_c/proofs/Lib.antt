@@ -12,3 +12,4 @@ pub mod WrittenLemmas
 pub mod PreprocessedLemmas
 pub mod StatusLemmas
 pub mod LexLemmas
+pub mod RefusingLemmas

@@ -1,6 +1,6 @@
 -- The definitions that a caller in C passes, and the calls of the preprocessor that they stand for.
-use Rattle.std.specs.Prelude.{ℕ, ◌+◌, ◌-◌, min, max, List, [], ◌∷◌, ◌++◌}
-use Rattle.std.specs.Prelude.{replicate, slice_range, Result, Ok, Err}
+use Rattle.std.specs.Prelude.{ℕ, ◌+◌, ◌-◌, ◌^◌, ◌<◌, ◌≤◌, min, max, List, [], ◌∷◌, ◌++◌, length}
+use Rattle.std.specs.Prelude.{replicate, slice_range, IsCharBoundary, Result, Ok, Err}
 use Rattle.pp_model.specs.Calls.{Fault}
 use Rattle.pp_model.specs.Run.{Call, add_define, next, items_of, content_tokens}
 use Rattle.pp_rs.specs.Location.{nowhere}
@@ -18,6 +18,28 @@ name_in words definition = part_of words definition.name_start definition.name_l
 
 abbrev pub content_in : List ℕ → Definition → List ℕ
 content_in words definition = part_of words definition.content_start definition.content_length
+
+-- `count` bytes from a start lie in the words, and cut no character of theirs
+abbrev pub LiesIn : List ℕ → ℕ → ℕ → Type 0
+LiesIn words start count = IsCharBoundary words start × IsCharBoundary words (start + count)
+
+-- the name and the content lie in the words
+pub record IsInWords (words : List ℕ) (definition : Definition) : Type 0 where
+  pub name : LiesIn words definition.name_start definition.name_length
+  pub content : LiesIn words definition.content_start definition.content_length
+
+-- a name or a content doesn't
+abbrev pub LiesOutside : List ℕ → Definition → Type 0
+LiesOutside words definition = ¬ (IsInWords words definition)
+
+-- the content has 2^32 - 1 bytes or more
+abbrev pub HasLongContent : List ℕ → Definition → Type 0
+HasLongContent words definition = 2 ^ 32 - 1 ≤ length (content_in words definition)
+
+-- a definition that can be handed to the preprocessor
+pub record Fits (words : List ℕ) (definition : Definition) : Type 0 where
+  pub lies : IsInWords words definition
+  pub short : length (content_in words definition) < 2 ^ 32 - 1
 
 -- the call that adds the definition
 abbrev pub adding : List ℕ → Definition → Call

@@ -3,3 +3,4 @@ pub mod Kinds
 pub mod Taking
 pub mod Making
 pub mod Lexes
+pub mod Refusing

@@ -1,8 +1,9 @@
 //! Definitions that a caller in C passes.
 
-ghost use Rattle.std.specs.Prelude.{◌≡◌, IfOk, OnOk};
-ghost use Rattle.pp_c.specs.Calls.{part_of, with_answer};
+ghost use Rattle.std.specs.Prelude.{◌≡◌, IfOk, IfErr, OnOk};
+ghost use Rattle.pp_c.specs.Calls.{part_of, with_answer, LiesIn, Fits, HasLongContent, LiesOutside};
 ghost use Rattle.pp_c.specs.inner.Making.{AddsOne};
+ghost use Rattle.pp_c.specs.inner.Refusing.{IsAddingRefusal};
 
 use crate::faults::number_of;
 use crate::items::Definition;
@@ -16,15 +17,19 @@ pub(crate) const LIMIT: usize = 4294967295;
 
 // The part of the words with this start and length, if it lies in them.
 fn part(words: &str, start: u64, length: u64) -> Result<&str, Refusal>
-    ensures { IfOk result (λ part. part.now ≡ part_of words.now start length) }
+    ensures part { IfOk result (λ part. part.now ≡ part_of words.now start length) }
+    ensures lies { OnOk result (LiesIn words.now start length) }
+    ensures outside { IfErr result (λ refusal. (refusal ≡ Refusal.BadDefinition)
+        × ¬ (LiesIn words.now start length)) }
 {
     let Some(end) = start.checked_add(length) else {
         return Err(Refusal::BadDefinition);
     };
-    match words.get(start as usize..end as usize) {
-        Some(part) => Ok(part),
-        None => Err(Refusal::BadDefinition),
+    let (start, end) = (start as usize, end as usize);
+    if !words.is_char_boundary(start) || !words.is_char_boundary(end) {
+        return Err(Refusal::BadDefinition);
     }
+    Ok(&words[start..end])
 }
 
 // Writes an error and its place in the content into a definition.
@@ -43,7 +48,10 @@ pub(crate) fn add(
     words: &str,
     definition: &mut Definition,
 ) -> Result<(), Refusal>
-    ensures { OnOk result (AddsOne words.now definition.old definition.new pp.old pp.new) }
+    ensures added { OnOk result (AddsOne words.now definition.old definition.new pp.old pp.new) }
+    ensures fits { OnOk result (Fits words.now definition.old) }
+    ensures err { IfErr result (λ refusal. IsAddingRefusal refusal
+        (HasLongContent words.now definition.old) (LiesOutside words.now definition.old)) }
 {
     let name = part(words, definition.name_start, definition.name_length)?;
     let content = part(words, definition.content_start, definition.content_length)?;

@@ -1,6 +1,6 @@
 //! The items of the lexer.
 
-ghost use Rattle.std.specs.Prelude.{◌≡◌, ◌≢◌, ◌≤◌, ◌-◌, ◌^◌, ◌∷◌, [], length, IsOk, OnOk, IsUtf8};
+ghost use Rattle.std.specs.Prelude.{◌≡◌, ◌≢◌, ◌↔◌, ◌<◌, ◌≤◌, ◌-◌, ◌^◌, ◌∷◌, [], length, IsOk, OnOk, IsUtf8};
 ghost use Rattle.pp_rs.specs.PreprocessorError.{out_of_memory};
 ghost use Rattle.pp_c.specs.Lexing.{lexer_flags, lexer_entry, lexeme_entries, lexer_entries};
 ghost use Rattle.pp_c.specs.inner.Taking.{Takes};
@@ -13,14 +13,17 @@ use crate::words::{give_error, give_float, give_integer, give_name, give_punctua
 use pp_macros::step::is_out_of_memory;
 use pp_rs::lexer::{Lexer, LexerItem, Token, TokenValue};
 use pp_rs::token::Location;
-use std::alloc::Global;
+use std::alloc::{AllocError, Global};
 use std::str;
 
 /// Gives the items of the lexer of a source.
 pub(crate) fn lex(alloc: Global, source: &[u8], output: &mut Output<'_>) -> Result<(), Refusal>
     ensures given { OnOk result (Takes output.old (lexer_entries source.now) output.new) }
     ensures text { IsOk result → IsUtf8 source.now }
-    ensures too_long { 2 ^ 32 - 1 ≤ length source.now → result ≡ Err Refusal.TooLong }
+    ensures not_utf8 { (result ≡ Err Refusal.NotUtf8)
+        ↔ ((length source.now < 2 ^ 32 - 1) × ¬ (IsUtf8 source.now)) }
+    ensures too_long { (result ≡ Err Refusal.TooLong) ↔ (2 ^ 32 - 1 ≤ length source.now) }
+    ensures no_definition { result ≢ Err Refusal.BadDefinition }
 {
     if source.len() >= LIMIT {
         return Err(Refusal::TooLong);
@@ -42,7 +45,7 @@ fn give_item(
     place: Location,
     spelling: &mut String,
     output: &mut Output<'_>,
-) -> Result<(), Refusal>
+) -> Result<(), AllocError>
     ensures given { OnOk result (Takes output.old (lexeme_entries item place) output.new) }
     ensures reported { OnOk result (item ≢ Err out_of_memory) }
 {
@@ -50,7 +53,7 @@ fn give_item(
         Ok(token) => give_token(&token, spelling, output),
         Err((error, location)) => {
             if is_out_of_memory(&error) {
-                return Err(Refusal::OutOfMemory);
+                return Err(AllocError);
             }
             give_error(&error, location, place, 0, output);
             Ok(())
@@ -59,7 +62,11 @@ fn give_item(
 }
 
 // Gives a token of the lexer.
-fn give_token(token: &Token, spelling: &mut String, output: &mut Output<'_>) -> Result<(), Refusal>
+fn give_token(
+    token: &Token,
+    spelling: &mut String,
+    output: &mut Output<'_>,
+) -> Result<(), AllocError>
     ensures { OnOk result (Takes output.old
         (lexer_entry token.now.location (lexer_flags token.now) token.now.value ∷ []) output.new) }
 {

@@ -2,8 +2,8 @@
 //! declares the functions and types here, and says what a caller in C has to uphold.
 #![tactic(auto)]
 
-ghost use Rattle.std.specs.Prelude.{◌≡◌, ◌<◌, ◌≤◌, ◌-◌, ◌^◌, map, length, IsUtf8};
-ghost use Rattle.pp_c.specs.Calls.{answered};
+ghost use Rattle.std.specs.Prelude.{◌≡◌, ◌≢◌, ◌↔◌, ◌⊎◌, ◌<◌, ◌≤◌, ◌-◌, ◌^◌, map, length, IsUtf8, All, Any};
+ghost use Rattle.pp_c.specs.Calls.{answered, Fits, HasLongContent, LiesOutside};
 ghost use Rattle.pp_c.specs.Ends.{HasRoom};
 ghost use Rattle.pp_c.specs.Lexing.{lexer_entries};
 ghost use Rattle.pp_c.specs.Preprocessed.{AreWritten, Preprocesses};
@@ -63,7 +63,13 @@ pub extern "C" fn pp_preprocess(
     ensures done { result ≡ 0 → HasRoom (length items.old) (length texts.old) sizes.new }
     ensures too_small { result ≡ 1 → ¬ (HasRoom (length items.old) (length texts.old) sizes.new) }
     ensures text { result < 2 → IsUtf8 source.now × IsUtf8 words.now }
-    ensures too_long { 2 ^ 32 - 1 ≤ length source.now → result ≡ 3 }
+    ensures fit { result < 2 → All (Fits words.now) definitions.old }
+    ensures not_utf8 { (result ≡ 2)
+        ↔ ((length source.now < 2 ^ 32 - 1) × ¬ (IsUtf8 source.now × IsUtf8 words.now)) }
+    ensures long_source { 2 ^ 32 - 1 ≤ length source.now → result ≡ 3 }
+    ensures too_long { result ≡ 3
+        → (2 ^ 32 - 1 ≤ length source.now) ⊎ Any (HasLongContent words.now) definitions.old }
+    ensures bad_definition { result ≡ 4 → Any (LiesOutside words.now) definitions.old }
 {
     let room = room_of(items, texts);
     let mut output = Output::new(items, texts);
@@ -89,7 +95,9 @@ pub extern "C" fn pp_lex(
     ensures done { result ≡ 0 → HasRoom (length items.old) (length texts.old) sizes.new }
     ensures too_small { result ≡ 1 → ¬ (HasRoom (length items.old) (length texts.old) sizes.new) }
     ensures text { result < 2 → IsUtf8 source.now }
-    ensures too_long { 2 ^ 32 - 1 ≤ length source.now → result ≡ 3 }
+    ensures not_utf8 { (result ≡ 2) ↔ ((length source.now < 2 ^ 32 - 1) × ¬ (IsUtf8 source.now)) }
+    ensures too_long { (result ≡ 3) ↔ (2 ^ 32 - 1 ≤ length source.now) }
+    ensures no_definition { result ≢ 4 }
 {
     let room = room_of(items, texts);
     let mut output = Output::new(items, texts);

@@ -1,15 +1,16 @@
 //! The items of a preprocessed source.
 
-ghost use Rattle.std.specs.Prelude.{◌≡◌, ◌<◌, ◌≤◌, ◌-◌, ◌^◌, ◌∷◌, [], true, false, map, length};
-ghost use Rattle.std.specs.Prelude.{IsOk, OnOk, IfOk, IsTrue, IsUtf8};
+ghost use Rattle.std.specs.Prelude.{◌≡◌, ◌↔◌, ◌⊎◌, ◌<◌, ◌≤◌, ◌-◌, ◌^◌, ◌∷◌, [], true, false, map, length};
+ghost use Rattle.std.specs.Prelude.{IsOk, OnOk, IfOk, IfErr, IsTrue, IsUtf8, All, Any};
 ghost use Rattle.pp_macros.specs.Item.{is_out_of_memory};
 ghost use Rattle.pp_rs.specs.Preorder.{preorder, inner, leaf_of};
 ghost use Rattle.pp_rs.specs.TokenValue.{is_ordinary};
 ghost use Rattle.pp_rs.specs.Kept.{is_spent, most_items};
-ghost use Rattle.pp_c.specs.Calls.{answered};
+ghost use Rattle.pp_c.specs.Calls.{answered, Fits, HasLongContent, LiesOutside};
 ghost use Rattle.pp_c.specs.Entries.{in_32_bits};
 ghost use Rattle.pp_c.specs.Tokens.{item_at, leaf_entry, token_entries, error_entries};
 ghost use Rattle.pp_c.specs.inner.Kinds.{kind_number};
+ghost use Rattle.pp_c.specs.inner.Refusing.{IsAddingRefusal};
 ghost use Rattle.pp_c.specs.inner.Making.{NextIsWritten, IsUntil, GoesOn, HasRest, HasAll, Gives};
 ghost use Rattle.pp_c.specs.inner.Taking.{Takes};
 
@@ -22,7 +23,7 @@ use crate::status::Refusal;
 use crate::words::{give_error, give_float, give_integer, give_name, give_punctuator, item_at};
 use pp_rs::pp::Preprocessor;
 use pp_rs::token::{Location, PreprocessorError, Token, TokenValue};
-use std::alloc::Global;
+use std::alloc::{AllocError, Global};
 use std::str;
 
 /// Gives the items of a source, with the definitions added at their numbers.
@@ -36,7 +37,14 @@ pub(crate) fn preprocess(
     ensures given { OnOk result (Gives source.now words.now definitions.old output.old output.new) }
     ensures answered { OnOk result (definitions.new ≡ map (answered words.now) definitions.old) }
     ensures text { IsOk result → IsUtf8 source.now × IsUtf8 words.now }
-    ensures too_long { 2 ^ 32 - 1 ≤ length source.now → result ≡ Err Refusal.TooLong }
+    ensures fit { IsOk result → All (Fits words.now) definitions.old }
+    ensures not_utf8 { (result ≡ Err Refusal.NotUtf8)
+        ↔ ((length source.now < 2 ^ 32 - 1) × ¬ (IsUtf8 source.now × IsUtf8 words.now)) }
+    ensures long_source { 2 ^ 32 - 1 ≤ length source.now → result ≡ Err Refusal.TooLong }
+    ensures too_long { result ≡ Err Refusal.TooLong
+        → (2 ^ 32 - 1 ≤ length source.now) ⊎ Any (HasLongContent words.now) definitions.old }
+    ensures bad_definition { result ≡ Err Refusal.BadDefinition
+        → Any (LiesOutside words.now) definitions.old }
 {
     if source.len() >= LIMIT {
         return Err(Refusal::TooLong);
@@ -68,6 +76,9 @@ fn give_all(
     requires { is_spent pp.old ≡ false }
     ensures given { OnOk result (HasAll pp.old output.old words.now definitions.old pp.new output.new) }
     ensures answered { OnOk result (definitions.new ≡ map (answered words.now) definitions.old) }
+    ensures fit { OnOk result (All (Fits words.now) definitions.old) }
+    ensures err { IfErr result (λ refusal. IsAddingRefusal refusal
+        (Any (HasLongContent words.now) definitions.old) (Any (LiesOutside words.now) definitions.old)) }
 {
     let mut spelling = String::new(alloc);
     let mut progress = Progress {
@@ -79,7 +90,8 @@ fn give_all(
         give_until(pp, after, &mut progress, &mut spelling, output)?;
         add(pp, words, &mut definitions[i])?;
     }
-    give_rest(pp, progress, &mut spelling, output)
+    give_rest(pp, progress, &mut spelling, output)?;
+    Ok(())
 }
 
 // Gives items until `count` items were given, or to the end.
@@ -89,7 +101,7 @@ fn give_until(
     progress: &mut Progress,
     spelling: &mut String,
     output: &mut Output<'_>,
-) -> Result<(), Refusal>
+) -> Result<(), AllocError>
     requires { is_spent pp.old ≡ false }
     ensures unspent { OnOk result (is_spent pp.new ≡ false) }
     ensures until { OnOk result (IsUntil count progress.old progress.new) }
@@ -111,7 +123,7 @@ fn give_rest(
     progress: Progress,
     spelling: &mut String,
     output: &mut Output<'_>,
-) -> Result<(), Refusal>
+) -> Result<(), AllocError>
     requires { is_spent pp.old ≡ false }
     ensures { OnOk result (HasRest progress pp.old output.old pp.new output.new) }
 {
@@ -130,7 +142,7 @@ fn give_next(
     pp: &mut Preprocessor<'_>,
     spelling: &mut String,
     output: &mut Output<'_>,
-) -> Result<bool, Refusal>
+) -> Result<bool, AllocError>
     requires { is_spent pp.old ≡ false }
     ensures given { IfOk result (λ more. NextIsWritten pp.old pp.new output.old output.new more) }
     ensures less { IfOk result (λ more. more ≡ true → most_items pp.new < most_items pp.old) }
@@ -155,12 +167,12 @@ fn give_fault(
     place: Location,
     spelling: &mut String,
     output: &mut Output<'_>,
-) -> Result<(), Refusal>
+) -> Result<(), AllocError>
     ensures given { OnOk result (Takes output.old (error_entries error.now location place) output.new) }
     ensures reported { OnOk result (is_out_of_memory error.now ≡ false) }
 {
     match error {
-        PreprocessorError::OutOfMemory => Err(Refusal::OutOfMemory),
+        PreprocessorError::OutOfMemory => Err(AllocError),
         PreprocessorError::UnexpectedToken(value) => {
             let held = count(tokens_of(value).len());
             give_error(error, location, place, held.saturating_add(1), output);
@@ -179,7 +191,7 @@ fn give_value(
     value: &TokenValue,
     spelling: &mut String,
     output: &mut Output<'_>,
-) -> Result<(), Refusal>
+) -> Result<(), AllocError>
     ensures { OnOk result (Takes output.old (token_entries place value.now) output.new) }
 {
     let line = tokens_of(value);
@@ -217,7 +229,7 @@ fn give_word(
     children: u32,
     spelling: &mut String,
     output: &mut Output<'_>,
-) -> Result<(), Refusal>
+) -> Result<(), AllocError>
     requires { IsTrue (is_ordinary value.now) → children ≡ 0 }
     ensures { OnOk result (Takes output.old (leaf_entry place 0 children (leaf_of value.now) ∷ []) output.new) }
 {

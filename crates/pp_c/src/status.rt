@@ -1,6 +1,6 @@
 //! How a call ends.
 
-ghost use Rattle.std.specs.Prelude.{◌≡◌, ◌⊎◌, IsOk};
+ghost use Rattle.std.specs.Prelude.{◌≡◌, ◌⊎◌, ◌↔◌, IsOk};
 ghost use Rattle.pp_c.specs.Ends.{HasRoom};
 
 use crate::items::Sizes;
@@ -46,7 +46,9 @@ impl From<AllocError> for Refusal {
 /// The status of a call, from how its items ended, how much room they take and how much there is.
 pub(crate) fn status_after(end: Result<(), Refusal>, sizes: Sizes, room: Sizes) -> Status
     ensures given { (result ≡ Status.Done) ⊎ (result ≡ Status.TooSmall) → IsOk end }
-    ensures too_long { end ≡ Err Refusal.TooLong → result ≡ Status.TooLong }
+    ensures not_utf8 { (result ≡ Status.NotUtf8) ↔ (end ≡ Err Refusal.NotUtf8) }
+    ensures too_long { (result ≡ Status.TooLong) ↔ (end ≡ Err Refusal.TooLong) }
+    ensures bad_definition { (result ≡ Status.BadDefinition) ↔ (end ≡ Err Refusal.BadDefinition) }
     ensures done { result ≡ Status.Done → HasRoom room.items room.texts sizes }
     ensures too_small { result ≡ Status.TooSmall → ¬ (HasRoom room.items room.texts sizes) }
 {

@@ -12,9 +12,9 @@ ghost use Rattle.pp_c.specs.inner.Taking.{Takes};
 use crate::faults::number_of;
 use crate::items::{FIRST_PUNCTUATOR, Item, Kind, SIGNED, bit_if};
 use crate::output::Output;
-use crate::status::Refusal;
 use pp_rs::pp::push_value;
 use pp_rs::token::{Float, Integer, Location, PreprocessorError, Punct, Text, TokenValue};
+use std::alloc::AllocError;
 
 // An item that has no text, no number and no items that belong to it.
 fn numbered_item_at(place: Location, kind: u16, flags: u32) -> Item
@@ -81,7 +81,7 @@ pub(crate) fn give_punctuator(
     punct: Punct,
     spelling: &mut String,
     output: &mut Output<'_>,
-) -> Result<(), Refusal>
+) -> Result<(), AllocError>
     ensures { OnOk result (Takes output.old (leaf_entry place flags 0 (punct_leaf punct) ∷ []) output.new) }
 {
     spelling.clear();
