@@ -1,7 +1,8 @@
 -- What is known of a reader's bytes after several reads
-use Rattle.std.proofs.Common.{◌≡◌, ℕ, ◌≤◌, List, ◌++◌, drop, length, Option, None, Some, IfSome, arith, ap, sym, ◌∙◌, append_assoc, append-nil, take-append-drop, length-append}
+use Rattle.std.proofs.Common.{◌≡◌, ℕ, ◌+◌, ◌≤◌, List, [], ◌++◌, drop, length, Option, None, Some, IfSome, arith, ap, sym, ◌∙◌, append_assoc, append-nil, take-append-drop, length-append}
 use Rattle.std.specs.Io.{StartsWith, appended_bytes}
 use Rattle.std.specs.Io.KnownBytes.{Consumes, IsAtEnd}
+use Rattle.pp_print.specs.Runs.{TakesAtMost}
 
 -- what was read before and what a further read appended were read together
 pub consumes_more : (a b c : Option (List ℕ)) (old new : List ℕ) → Consumes a b old → StartsWith new old → Consumes b c (appended_bytes old new)
@@ -25,3 +26,15 @@ pub consumes_within : (a b : Option (List ℕ)) (read : List ℕ) (n : ℕ) → 
 consumes_within None b read n h within = tt
 consumes_within (Some xs) None read n h within = absurd h
 consumes_within (Some xs) (Some ys) read n h within = omega (arith, ap length h, length-append read ys)
+
+-- what was read before and what a further call took were taken together
+pub takes_more : (a b c : Option (List ℕ)) (read : List ℕ) (n most : ℕ) → Consumes a b read → TakesAtMost n b c → length read + n ≤ most
+    → TakesAtMost most a c
+takes_more None b c read n most first second within = record { taken = []; few = omega arith; left = tt }
+takes_more (Some xs) None c read n most first second within = absurd first
+takes_more (Some xs) (Some ys) None read n most first second within = absurd second.left
+takes_more (Some xs) (Some ys) (Some zs) read n most first second within = record {
+  taken = read ++ second.taken;
+  few = omega (arith, second.few, within, length-append read second.taken);
+  left = first ∙ ap (λ w. read ++ w) second.left ∙ sym (append_assoc read second.taken zs);
+}

@@ -1,7 +1,7 @@
 -- What the end of a run says about the run's source and output
 use Rattle.std.specs.Prelude.{◌≡◌, ◌≢◌, ℕ, ◌-◌, ◌^◌, ◌<◌, ◌≤◌, ◌⊎◌, List, ◌++◌, length, Option, Result, Ok, Err, IsOk}
 use Rattle.std.specs.Prelude.{IsErr, IsUtf8, ⊤}
-use Rattle.std.specs.Io.KnownBytes.{Appends}
+use Rattle.std.specs.Io.KnownBytes.{Appends, Consumes}
 use Rattle.pp_rs.specs.declared.token.PreprocessorError.TheVariants.{OutOfMemory as WantOfMemory}
 use Rattle.pp_rs.specs.declared.token.Token.{Token}
 use Rattle.pp_rs.specs.Output.{output_lines, written_lines, output}
@@ -37,6 +37,12 @@ FitsSource (Err NotUtf8) bytes = (length bytes < 2 ^ 32 - 1) × ¬ (IsUtf8 bytes
 FitsSource (Err BadWord) bytes = IsSource bytes
 FitsSource (Err WriteFailed) bytes = IsSource bytes
 FitsSource (Err OutOfMemory) bytes = ⊤
+
+-- of the known bytes no more than a number were taken, from the front
+pub record TakesAtMost (most : ℕ) (old new : Option (List ℕ)) : Type 0 where
+  pub taken : List ℕ
+  pub few : length taken ≤ most
+  pub left : Consumes old new taken
 
 -- the faults that come before anything is written
 abbrev pub IsBeforeOutput : RunFault → Type 0

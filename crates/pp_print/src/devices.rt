@@ -1,6 +1,6 @@
 //! The source's device and the output's device.
 
-ghost use Rattle.std.specs.Prelude.{◌≡◌, ◌<◌, ℕ, List, Option, Bool, true, false, length, OnOk, OnErr, IfOk};
+ghost use Rattle.std.specs.Prelude.{◌≡◌, ◌<◌, ℕ, List, Option, None, Bool, true, false, length, OnOk, OnErr, IfOk};
 ghost use Rattle.std.specs.Io.{ReadsAtMost, WritesAtMost};
 ghost use Rattle.std.specs.Io.KnownBytes.{ReadConsumes, WriteAppends};
 
@@ -12,8 +12,8 @@ pub struct DeviceFailed;
 
 /// What a source is read from.
 pub trait Source {
-    // The bytes that reads will return from here on, if they are known.
-    ghost remaining: { Self → Option (List ℕ) };
+    // The bytes that reads will return from here on, if they are known. An `impl` may leave this out.
+    ghost remaining: { Self → Option (List ℕ) } = { λ _. None };
 
     // Whether a read has failed so far.
     ghost failed: { Self → Bool };
@@ -33,8 +33,8 @@ pub trait Source {
 
 /// What the output is written to.
 pub trait Sink {
-    // The bytes that were written, if they are known.
-    ghost contents: { Self → Option (List ℕ) };
+    // The bytes that were written, if they are known. An `impl` may leave this out.
+    ghost contents: { Self → Option (List ℕ) } = { λ _. None };
 
     // Whether a write has failed so far.
     ghost failed: { Self → Bool };

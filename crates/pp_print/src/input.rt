@@ -3,6 +3,7 @@
 ghost use Rattle.std.specs.Prelude.{◌≡◌, ◌+◌, ◌-◌, ◌^◌, ◌<◌, ◌≤◌, false, length, vec_len, string_bytes, string_len, OnOk, IfOk, IfErr, IfSome};
 ghost use Rattle.std.specs.Io.{StartsWith, appended_bytes};
 ghost use Rattle.std.specs.Io.KnownBytes.{Consumes, IsAtEnd};
+ghost use Rattle.pp_print.specs.Runs.{TakesAtMost};
 ghost use Rattle.pp_print.specs.inner.Input.{IsReadFault, IsDeviceFault};
 
 use super::devices::Source;
@@ -23,6 +24,7 @@ pub fn read_source<R: Source>(alloc: Global, reader: &mut R) -> Result<String, R
     ensures ok { OnOk result (R.failed reader.new ≡ false) }
     ensures err { IfErr result (λ fault. IsReadFault fault (R.failed reader.new)
         (R.remaining reader.old)) }
+    ensures taken { TakesAtMost (2 ^ 32 - 1) (R.remaining reader.old) (R.remaining reader.new) }
 {
     let bytes = read_bytes(alloc, reader)?;
     match String::from_utf8(bytes) {
@@ -40,6 +42,7 @@ fn read_bytes<R: Source>(alloc: Global, reader: &mut R) -> Result<Vec<u8>, RunFa
     ensures ok { OnOk result (R.failed reader.new ≡ false) }
     ensures err { IfErr result (λ fault. IsReadFault fault (R.failed reader.new)
         (R.remaining reader.old)) }
+    ensures taken { TakesAtMost (2 ^ 32 - 1) (R.remaining reader.old) (R.remaining reader.new) }
 {
     let mut bytes = Vec::new(alloc);
     let mut chunk = [0u8; CHUNK];
@@ -69,6 +72,7 @@ fn read_some<R: Source>(
     ensures ok { OnOk result (R.failed reader.new ≡ false) }
     ensures err { IfErr result (λ fault. IsDeviceFault RunFault.ReadFailed fault
         (R.failed reader.new)) }
+    ensures taken { TakesAtMost (length buffer.old) (R.remaining reader.old) (R.remaining reader.new) }
 {
     match reader.read(buffer) {
         Ok(count) => {

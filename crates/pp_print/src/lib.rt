@@ -1,8 +1,9 @@
 //! The program `pp_print` without its `main`: preprocesses a source and prints the result.
 #![tactic(auto)]
 
-ghost use Rattle.std.specs.Prelude.{◌≡◌, ◌↔◌, ◌⊎◌, true, false, All, Any, OnOk, IfOk, IfErr, IfSome, IsErrOf};
+ghost use Rattle.std.specs.Prelude.{◌≡◌, ◌↔◌, ◌⊎◌, ◌-◌, ◌^◌, true, false, All, Any, OnOk, IfOk, IfErr, IfSome, IsErrOf};
 ghost use Rattle.pp_print.specs.Runs.{FitsSource, IsAccepted, IsRefused, IsBeforeOutput, IsStoppedBySource, IsPrinted, IsBegun};
+ghost use Rattle.pp_print.specs.Runs.{TakesAtMost};
 ghost use Rattle.pp_print.specs.SourceRuns.{AreFirstOf, IsRunOf};
 
 use pp_rs::pp::Preprocessor;
@@ -44,6 +45,9 @@ pub fn run<R: Source, W: Sink>(
     ensures defined { OnOk result (All IsAccepted defs.now) }
     ensures defined_first { IsErrOf result RunFault.WriteFailed → All IsAccepted defs.now }
     ensures bad_word { IsErrOf result RunFault.BadWord → Any IsRefused defs.now }
+
+    // No more is read than shows that a source is too long.
+    ensures read { TakesAtMost (2 ^ 32 - 1) (R.remaining reader.old) (R.remaining reader.new) }
 
     // The devices fail if the run says so, and before the output nothing is written.
     ensures read_failed { IsErrOf result RunFault.ReadFailed ↔ (R.failed reader.new ≡ true) }
