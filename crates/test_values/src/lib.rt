@@ -8,6 +8,8 @@ mod devices;
 #[cfg(test)]
 mod expressions;
 #[cfg(test)]
+mod failing;
+#[cfg(test)]
 mod program;
 #[cfg(test)]
 mod tokens;
