@@ -7,3 +7,4 @@ pub mod PredefinedLemmas
 pub mod ReportsLemmas
 pub mod SpelledLemmas
 pub mod VersionLemmas
+pub mod ItemsLemmas

@@ -1,5 +1,5 @@
 -- Parts of a report, one after another.
-use Rattle.std.proofs.Common.{◌≡◌, ◌∙◌, ◌++◌, ◌∷◌, [], ℕ, List, ap, sym, refl, inl, inr, append_assoc, codes}
+use Rattle.std.proofs.Common.{◌≡◌, ◌∙◌, ◌++◌, ◌∷◌, [], ℕ, List, ap, sym, refl, inl, inr, append_assoc, append-nil, codes}
 use Rattle.std.specs.Fmt.{decimal}
 use Rattle.glslpp_parts.specs.declared.diagnostics.Style.{Style}
 use Rattle.glslpp_parts.specs.declared.diagnostics.Kind.{Kind}
@@ -17,15 +17,16 @@ placed_at file old new line column e = record {
 
 module _ (style : Style) (file : List ℕ) (kind : Kind) (message : List ℕ) where
   -- the parts of a report, from what was there to the whole
-  pub reported : (old bolded placed kinded new more : List ℕ) → bolded ≡ old ++ bold style → IsPlaced file bolded placed
-      → kinded ≡ placed ++ kind_text style kind → new ≡ kinded ++ (message ++ more) → IsReported style file kind message old new
-  reported old bolded placed kinded new more e at f g = record {
+  pub reported : (old bolded placed kinded new after : List ℕ) → bolded ≡ old ++ bold style → IsPlaced file bolded placed
+      → kinded ≡ placed ++ kind_text style kind → new ≡ kinded ++ (message ++ 10 ∷ after) → IsReported style file kind message old new
+  reported old bolded placed kinded new after e at f g = record {
     place = at.place;
-    more = more;
+    more = [];
+    after = after;
     is = at.is;
-    text = g ∙ ap (λ (t : List ℕ). t ++ (message ++ more))
+    text = g ∙ ap (λ (t : List ℕ). t ++ (message ++ 10 ∷ after))
         (f ∙ ap (λ (t : List ℕ). t ++ kind_text style kind) (at.text ∙ ap (λ (t : List ℕ). t ++ at.place) e))
-        ∙ sym (append_assoc _ message more);
+        ∙ simp (append_assoc, append-nil);
   }
 
   -- with more after the report
@@ -33,15 +34,16 @@ module _ (style : Style) (file : List ℕ) (kind : Kind) (message : List ℕ) wh
       → IsReported style file kind message old new
   reported_on old mid new report longer = record {
     place = report.place;
-    more = report.more ++ longer.more;
+    more = report.more;
+    after = report.after ++ longer.more;
     is = report.is;
-    text = longer.text ∙ ap (λ (t : List ℕ). t ++ longer.more) report.text ∙ append_assoc _ report.more longer.more;
+    text = longer.text ∙ ap (λ (t : List ℕ). t ++ longer.more) report.text ∙ append_assoc _ (10 ∷ report.after) longer.more;
   }
 
   -- a report stands after what was there
   pub longer_by : (old new : List ℕ) → IsReported style file kind message old new → IsLonger old new
   longer_by old new report = record {
-    more = bold style ++ (report.place ++ (kind_text style kind ++ (message ++ report.more)));
+    more = bold style ++ (report.place ++ (kind_text style kind ++ (message ++ (report.more ++ 10 ∷ report.after))));
     text = report.text ∙ simp append_assoc;
   }
 
@@ -51,7 +53,9 @@ module _ (style : Style) (file : List ℕ) (kind : Kind) (message : List ℕ) wh
   reported_by sentence rest old new e report = record {
     place = report.place;
     more = rest ++ report.more;
+    after = report.after;
     is = report.is;
-    text = report.text ∙ ap (λ (t : List ℕ). old ++ bold style ++ report.place ++ kind_text style kind ++ t ++ report.more) e
+    text = report.text
+        ∙ ap (λ (t : List ℕ). old ++ bold style ++ report.place ++ kind_text style kind ++ t ++ report.more ++ 10 ∷ report.after) e
         ∙ simp append_assoc;
   }

@@ -35,9 +35,10 @@ IsPlace file place = (place ≡ codes "<command line>: ") ⊎ ((place ≡ file +
     ⊎ ((line : ℕ) × ((column : ℕ)
     × (place ≡ file ++ codes ":" ++ decimal line ++ codes ":" ++ decimal column ++ codes ": "))))
 
--- with a report at the end, which begins with a place, the kind, as `error: `, and the message
+-- with a report at the end, which begins with a place, the kind, as `error: `, and the message, on a line that ends
 pub record IsReported (style : Style) (file : List ℕ) (kind : Kind) (message old new : List ℕ) : Type 0 where
   pub place : List ℕ
   pub more : List ℕ
+  pub after : List ℕ
   pub is : IsPlace file place
-  pub text : new ≡ old ++ bold style ++ place ++ kind_text style kind ++ message ++ more
+  pub text : new ≡ old ++ bold style ++ place ++ kind_text style kind ++ message ++ more ++ 10 ∷ after

@@ -1,5 +1,10 @@
 //! Items as JSON, one a line.
 
+ghost use Rattle.std.specs.Prelude.{OnOk, string_bytes};
+ghost use Rattle.pp_rs.specs.PreprocessorError.{name_of};
+ghost use Rattle.glslpp_parts.specs.Output.{IsItem, IsErrorItem};
+ghost use Rattle.glslpp_parts.specs.inner.Adding.{IsLonger};
+
 use crate::columns::Columns;
 use crate::diagnostics::COMMAND_LINE;
 use crate::place::first_byte;
@@ -17,22 +22,40 @@ pub(crate) fn push_token(
     location: Location,
     call_line: Option<u32>,
     text: &str,
-) -> Result<(), AllocError> {
+) -> Result<(), AllocError>
+    ensures { OnOk result (IsItem (string_bytes output.old) (string_bytes output.new)) }
+{
     let kind = kind_of(value);
     write!(output, "{{\"kind\":\"{kind}\",\"text\":")?;
     push_string(output, text)?;
     push_place(output, columns, spot, location)?;
-    if let Some(line) = call_line {
-        write!(output, ",\"call\":{line}")?;
-    }
-    if let TokenValue::Integer(integer) = value {
-        let (value, signed, width) = (integer.value, integer.signed, integer.width);
-        write!(
-            output,
-            ",\"value\":{value},\"signed\":{signed},\"width\":{width}"
-        )?;
-    }
+    push_call(output, call_line)?;
+    push_number(output, value)?;
     output.push_str("}\n")
+}
+
+// Appends the line of the macro's call, if a macro gave the token.
+fn push_call(output: &mut String, call_line: Option<u32>) -> Result<(), AllocError>
+    ensures { OnOk result (IsLonger (string_bytes output.old) (string_bytes output.new)) }
+{
+    match call_line {
+        Some(line) => write!(output, ",\"call\":{line}"),
+        None => Ok(()),
+    }
+}
+
+// Appends the number of an integer.
+fn push_number(output: &mut String, value: &TokenValue) -> Result<(), AllocError>
+    ensures { OnOk result (IsLonger (string_bytes output.old) (string_bytes output.new)) }
+{
+    let TokenValue::Integer(integer) = value else {
+        return Ok(());
+    };
+    let (value, signed, width) = (integer.value, integer.signed, integer.width);
+    write!(
+        output,
+        ",\"value\":{value},\"signed\":{signed},\"width\":{width}"
+    )
 }
 
 /// Appends an error: its name, its message and its place.
@@ -43,7 +66,9 @@ pub(crate) fn push_error(
     spot: Option<Spot<'_>>,
     location: Location,
     message: &str,
-) -> Result<(), AllocError> {
+) -> Result<(), AllocError>
+    ensures { OnOk result (IsErrorItem (name_of error.now) (string_bytes output.old) (string_bytes output.new)) }
+{
     let name = error.name();
     write!(
         output,
@@ -55,7 +80,9 @@ pub(crate) fn push_error(
 }
 
 // Appends a text in quotes, with the escapes of JSON (RFC 8259, section 7).
-fn push_string(output: &mut String, text: &str) -> Result<(), AllocError> {
+fn push_string(output: &mut String, text: &str) -> Result<(), AllocError>
+    ensures { OnOk result (IsLonger (string_bytes output.old) (string_bytes output.new)) }
+{
     output.push('"')?;
     for c in text.chars() {
         push_escaped(output, c)?;
@@ -63,7 +90,9 @@ fn push_string(output: &mut String, text: &str) -> Result<(), AllocError> {
     output.push('"')
 }
 
-fn push_escaped(output: &mut String, c: char) -> Result<(), AllocError> {
+fn push_escaped(output: &mut String, c: char) -> Result<(), AllocError>
+    ensures { OnOk result (IsLonger (string_bytes output.old) (string_bytes output.new)) }
+{
     match c {
         '"' => output.push_str("\\\""),
         '\\' => output.push_str("\\\\"),
@@ -78,7 +107,9 @@ fn push_place(
     columns: &mut Columns<'_>,
     spot: Option<Spot<'_>>,
     location: Location,
-) -> Result<(), AllocError> {
+) -> Result<(), AllocError>
+    ensures { OnOk result (IsLonger (string_bytes output.old) (string_bytes output.new)) }
+{
     let Some(spot) = spot else {
         return Ok(());
     };

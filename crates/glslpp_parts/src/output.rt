@@ -1,9 +1,10 @@
 //! The output of a source, in each form.
 
 ghost use Rattle.std.specs.Prelude.{◌≡◌, ◌≢◌, [], false, None, IsTrue, OnOk, IfOk, string_bytes, unwrap_or};
+ghost use Rattle.pp_rs.specs.PreprocessorError.{name_of};
 ghost use Rattle.pp_rs.specs.TokenValue.{is_ordinary};
 ghost use Rattle.glslpp_parts.specs.Layout.{finished};
-ghost use Rattle.glslpp_parts.specs.Output.{PutsWord, PutsDirective, Puts};
+ghost use Rattle.glslpp_parts.specs.Output.{PutsWord, PutsDirective, Puts, PutsError, IsItem};
 
 use crate::arguments::Form;
 use crate::columns::Columns;
@@ -30,11 +31,12 @@ pub struct Output<'a> {
 }
 
 impl<'a> Model for Output<'a> {
+    ghost use Rattle.std.specs.Prelude.{string_bytes};
     ghost use Rattle.glslpp_parts.specs.Output.{Printed};
 
     ghost Value = { Printed };
 
-    ghost view = { λ o. record { form = o.form; laid = o.layout; end = o.end } };
+    ghost view = { λ o. record { form = o.form; laid = o.layout; end = o.end; items = string_bytes o.lines } };
 }
 
 impl<'a> Output<'a> {
@@ -44,6 +46,7 @@ impl<'a> Output<'a> {
           form = form;
           laid = record { text = []; line = 1; is_line_begun = false };
           end = None;
+          items = [];
         } }
     {
         Output {
@@ -136,6 +139,7 @@ impl<'a> Output<'a> {
         requires { IsTrue (is_ordinary token.now.value) }
         ensures form { self.new.form ≡ self.old.form }
         ensures same { self.new.laid ≡ self.old.laid }
+        ensures item { OnOk result (IsItem self.old.items self.new.items) }
     {
         let spot = texts.spot(token.location);
         if let Some(word) = written_word(self.alloc, &token.value, spot)? {
@@ -154,6 +158,7 @@ impl<'a> Output<'a> {
     ) -> Result<(), AllocError>
         ensures form { self.new.form ≡ self.old.form }
         ensures same { self.new.laid ≡ self.old.laid }
+        ensures item { OnOk result (IsItem self.old.items self.new.items) }
     {
         json::push_token(
             &mut self.lines,
@@ -197,7 +202,8 @@ impl<'a> Output<'a> {
         location: Location,
         message: &str,
     ) -> Result<(), AllocError>
-        ensures { self.new ≡ self.old }
+        ensures same { self.new ≡ record self.old { items = self.new.items } }
+        ensures puts { OnOk result (PutsError self.old.form (name_of error.now) self.old.items self.new.items) }
     {
         if self.form != Form::Tokens {
             return Ok(());
@@ -215,8 +221,10 @@ impl<'a> Output<'a> {
 
     /// Returns the output as text.
     pub fn finish(self) -> Result<String, AllocError>
-        ensures { IfOk result (λ text. self.entry.form ≢ Form.Tokens
+        ensures text { IfOk result (λ text. self.entry.form ≢ Form.Tokens
             → string_bytes text ≡ finished self.entry.laid) }
+        ensures items { IfOk result (λ text. self.entry.form ≡ Form.Tokens
+            → string_bytes text ≡ self.entry.items) }
     {
         let lines = self.lines;
         if self.form == Form::Tokens {

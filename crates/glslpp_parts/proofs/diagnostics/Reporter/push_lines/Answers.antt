@@ -1,4 +1,4 @@
-use Rattle.std.proofs.Common.{◌∷◌, [], string_bytes}
+use Rattle.std.proofs.Common.{[], string_bytes}
 use Rattle.std.proofs.lemmas.Result.{on_ok_weaker}
 use Rattle.glslpp_parts.proofs.ReportsLemmas.{reported, reported_on}
 use Rattle.glslpp_parts.proofs.diagnostics.Reporter.push_lines.Goals as goal
@@ -10,5 +10,5 @@ returns c =
     (string_bytes c.writeln.new.self) (string_bytes c.push_excerpt.new.text)
     (reported c.args.self.now.style c.args.self.now.file.now c.args.kind c.args.message.now (string_bytes c.args.text.now)
     (string_bytes c.push_bold.new.text) (string_bytes c.push_place.new.text) (string_bytes c.push_kind.new.text)
-    (string_bytes c.writeln.new.self) (10 ∷ []) (c.in_ok-push_bold.ensures {u = tt}) (c.in_ok-push_place.ensures {u = tt})
+    (string_bytes c.writeln.new.self) [] (c.in_ok-push_bold.ensures {u = tt}) (c.in_ok-push_place.ensures {u = tt})
     (c.in_ok-push_kind.ensures {u = tt}) c.in_ok-writeln.ensures.bytes)) c.push_excerpt.ensures
