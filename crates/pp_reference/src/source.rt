@@ -1,13 +1,12 @@
 //! A source as a reader after an expander.
 
 ghost use Rattle.std.specs.Prelude.{◌≡◌, ◌≤◌, ◌+◌, Some, length, IfOk};
-ghost use Rattle.pp_model.specs.inner.Acts.{after_line};
+ghost use Rattle.pp_reference.specs.inner.Acting.{Deciding, Renumbering};
 ghost use Rattle.pp_reference.specs.inner.Changes.{meaning_of};
 ghost use Rattle.pp_model.specs.Emitting.{answers_at, expansion_limit};
 ghost use Rattle.pp_reference.specs.inner.ReaderState.{reader_of};
-ghost use Rattle.pp_model.specs.Reads.{Defines, Does, Steps};
+ghost use Rattle.pp_model.specs.Reads.{Defines, Steps};
 ghost use Rattle.pp_model.specs.declared.outcome.Outcome.TheVariants as outcome;
-ghost use Rattle.pp_model.specs.declared.step.Step.TheVariants as step;
 
 use crate::condition::{condition, line_number};
 use crate::definitions::Definitions;
@@ -66,9 +65,8 @@ impl<'a> Source<'a> {
         budget: &mut Budget,
     ) -> Result<Option<Outcome>, Stop>
         requires { self.old.reader.position + 2 ≤ length self.old.reader.items }
-        ensures decides { IfOk result (λ o. Does (answers_at expansion_limit)
-            (reader_of self.old.reader) (step.Condition word tokens)
-            (after_line (reader_of self.old.reader)) o (reader_of self.new.reader)) }
+        ensures decides { IfOk result (λ o. Deciding (answers_at expansion_limit) word tokens
+            (reader_of self.old.reader) o (reader_of self.new.reader)) }
         ensures budget { budget.new.steps ≤ budget.old.steps }
     {
         let definitions = &self.reader.definitions;
@@ -97,9 +95,9 @@ impl<'a> Source<'a> {
         budget: &mut Budget,
     ) -> Result<Option<Outcome>, Stop>
         requires { self.old.reader.position + 2 ≤ length self.old.reader.items }
-        ensures renumbers { IfOk result (λ o. Does (answers_at expansion_limit)
-            (reader_of self.old.reader) (step.LineNumber word tokens)
-            (after_line (reader_of self.old.reader)) o (reader_of self.new.reader)) }
+        ensures renumbers { IfOk result
+            (λ o. Renumbering (answers_at expansion_limit) word tokens
+            (reader_of self.old.reader) o (reader_of self.new.reader)) }
         ensures budget { budget.new.steps ≤ budget.old.steps }
     {
         let definitions = &self.reader.definitions;

@@ -1,9 +1,16 @@
 -- What the plain program gives for a step: what the definitions say, or a stop.
-use Rattle.std.specs.Prelude.{◌≡◌, ◌+◌, ◌≤◌, length, Result, Ok, Err, ⊤}
+use Rattle.std.specs.Prelude.{◌≡◌, ◌+◌, ◌≤◌, length, ℕ, Bool, List, Option, Result, Ok, Err, ⊤}
+use Rattle.pp_lexer.specs.declared.token.Location.{Location}
+use Rattle.pp_lexer.specs.declared.token.Token.{Token}
+use Rattle.pp_model.specs.Calls.{Fault, Answers}
+use Rattle.pp_model.specs.LineValues.{IsCondition, IsLineNumber}
 use Rattle.pp_model.specs.SourceReader.{SourceReader}
 use Rattle.pp_reference.specs.inner.ReaderState.{ReaderState}
 use Rattle.pp_model.specs.Acts.{Acted}
-use Rattle.pp_model.specs.inner.Acts.{fault_at, after_line}
+use Rattle.pp_model.specs.Reads.{Evaluated}
+use Rattle.pp_model.specs.inner.Acts.{fault_at, after_line, after_condition}
+use Rattle.pp_model.specs.inner.Reads.{after_line_number}
+use Rattle.pp_model.specs.declared.outcome.Outcome.{Outcome}
 use Rattle.pp_model.specs.declared.step.Step.{Step}
 use Rattle.pp_model.specs.declared.step.Step.TheVariants as step
 use Rattle.pp_reference.specs.declared.stop.Halt.{Halt}
@@ -30,3 +37,17 @@ HasLine _ old new = ⊤
 abbrev pub HasLineIfOk : Result Step Halt → ReaderState → ReaderState → Type 0
 HasLineIfOk (Ok step) old new = HasLine step old new
 HasLineIfOk (Err h) old new = ⊤
+
+-- what the line of a condition gives
+pub record Deciding (A : Answers) (word : Location) (tokens : List Token) (r : SourceReader) (o : Option Outcome)
+    (t : SourceReader) : Type 0 where
+  pub result : Result Bool Fault
+  pub is : IsCondition A word tokens r.definitions result
+  pub comes : Evaluated result (after_condition r) r o t
+
+-- what a `#line` gives
+pub record Renumbering (A : Answers) (word : Location) (tokens : List Token) (r : SourceReader) (o : Option Outcome)
+    (t : SourceReader) : Type 0 where
+  pub result : Result ℕ Fault
+  pub is : IsLineNumber A word tokens r.definitions result
+  pub comes : Evaluated result (after_line_number r word) r o t

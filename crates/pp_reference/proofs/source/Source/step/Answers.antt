@@ -1,13 +1,11 @@
-use Rattle.std.proofs.Common.{◌∙◌, ap, subst, refl}
+use Rattle.std.proofs.Common.{◌∙◌, ap, refl}
 use Rattle.pp_model.specs.Emitting.{answers_at, expansion_limit}
-use Rattle.pp_model.specs.inner.Acts.{after_line}
-use Rattle.pp_model.specs.Reads.{Does}
 use Rattle.pp_reference.specs.inner.Acting.{arrived}
-use Rattle.pp_reference.specs.inner.ReaderState.{ReaderState, reader_of}
+use Rattle.pp_reference.specs.inner.ReaderState.{reader_of}
 use Rattle.pp_model.specs.declared.step.Step.{Step}
 use Rattle.pp_model.specs.declared.step.Step.TheVariants as step
 use Rattle.pp_model.proofs.ReadsLemmas.{act_does}
-use Rattle.pp_reference.proofs.SourceStepLemmas.{comes, step_defines, ok_more}
+use Rattle.pp_reference.proofs.SourceStepLemmas.{comes, step_defines, step_decides, step_renumbers, ok_more}
 use Rattle.pp_reference.proofs.source.Source.step.Goals as goal
 
 pub returns-in-Passed-clause-steps : goal.returns-in-Passed-clause-steps
@@ -33,21 +31,17 @@ returns-in-Defines-clause-steps c =
 pub returns-in-Condition-clause-steps : goal.returns-in-Condition-clause-steps
 returns-in-Condition-clause-steps c =
     let after = reader_of c.act.new.self in
-    let did = step.Condition c.in-Condition.word c.in-Condition.tokens in
     ok_more _ _ c.decide.result
-    (λ o by. act_does (answers_at expansion_limit) did (after_line after) (reader_of c.args.self.now.reader) o _
+    (λ o by. step_decides (answers_at expansion_limit) (reader_of c.args.self.now.reader) after c.in-Condition.word c.in-Condition.tokens o _
     ((c.in_ok-act.ensures {u = tt}).acts ∙ ap (λ (s : Step). comes s (arrived s after)) c.in-Condition.is)
-    (subst (λ (r : ReaderState). Does (answers_at expansion_limit) (reader_of r) did (after_line after) o _)
-    (rw c.in-Condition.is at (c.in_ok-act.ensures {u = tt}).line).0 by))
+    (ap reader_of (rw c.in-Condition.is at (c.in_ok-act.ensures {u = tt}).line).0) by)
     c.decide.ensures.decides
 
 pub returns-in-LineNumber-clause-steps : goal.returns-in-LineNumber-clause-steps
 returns-in-LineNumber-clause-steps c =
     let after = reader_of c.act.new.self in
-    let did = step.LineNumber c.in-LineNumber.word c.in-LineNumber.tokens in
     ok_more _ _ c.renumber.result
-    (λ o by. act_does (answers_at expansion_limit) did (after_line after) (reader_of c.args.self.now.reader) o _
+    (λ o by. step_renumbers (answers_at expansion_limit) (reader_of c.args.self.now.reader) after c.in-LineNumber.word c.in-LineNumber.tokens o _
     ((c.in_ok-act.ensures {u = tt}).acts ∙ ap (λ (s : Step). comes s (arrived s after)) c.in-LineNumber.is)
-    (subst (λ (r : ReaderState). Does (answers_at expansion_limit) (reader_of r) did (after_line after) o _)
-    (rw c.in-LineNumber.is at (c.in_ok-act.ensures {u = tt}).line).0 by))
+    (ap reader_of (rw c.in-LineNumber.is at (c.in_ok-act.ensures {u = tt}).line).0) by)
     c.renumber.ensures.renumbers
