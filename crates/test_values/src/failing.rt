@@ -172,7 +172,7 @@ fn ends_so(
 // Whether a row's run ends as it should, with each read and each write failing in turn, and with none.
 fn is_right(alloc: Global, row: &Row, pace: Pace) -> bool {
     // The last read finds the end.
-    let reads = pace.calls(row.source.len()) + 1;
+    let reads = pace.calls(row.source.len()).saturating_add(1);
     for calls in 0..reads {
         let failed = Err(RunFault::ReadFailed);
         if !ends_so(alloc, row, pace, (calls, 0), (&failed, b"")) {
