@@ -1,20 +1,21 @@
 //! Preprocesses GLSL files, and reports their errors as compilers do.
 #![tactic(auto)]
 
+mod files;
+mod foreign;
 mod preprocess;
 
 use clap::ArgMatches;
-use glslpp_parts::arguments::{Arguments, Form, STANDARD_INPUT, command};
+use foreign::refusal_of;
+use glslpp_parts::arguments::{Arguments, Colours, Form, STANDARD_INPUT, command};
 use glslpp_parts::definitions::check_changes;
-use glslpp_parts::diagnostics::{Reporter, Style};
 use glslpp_parts::failure::{Failure, failure_of};
+use glslpp_parts::report::{Reporter, Style};
+use glslpp_parts::source::Source;
 use preprocess::{Found, preprocess};
-use std::io::{ErrorKind, IsTerminal, Read, Write};
+use std::io::IsTerminal;
 use std::process::ExitCode;
-use std::{env, fs, io};
-
-// The name of the standard input in messages.
-const STANDARD_INPUT_NAME: &str = "<stdin>";
+use std::{env, io};
 
 // The least number of bytes that is too many for a source.
 const LIMIT: usize = 4294967295;
@@ -45,9 +46,9 @@ fn work(rt: &HostRuntime) -> Result<u8, Failure> {
     let alloc = rt.alloc();
     let words: Vec<String> = match env::args(rt) {
         Ok(words) => words.collect(alloc)?,
-        Err(error) => return Err(failure_of(alloc, "the command line", error)),
+        Err(error) => return Err(files::unread_words(rt, error)),
     };
-    refuse_include(rt, words.as_slice())?;
+    refuse_foreign(rt, words.as_slice())?;
     let Ok(command) = command(alloc) else {
         return Err(Failure::OutOfMemory);
     };
@@ -60,27 +61,24 @@ fn work(rt: &HostRuntime) -> Result<u8, Failure> {
     }
 }
 
-// Refuses the argument `-include`, which would otherwise be read as single-letter options.
-fn refuse_include(rt: &HostRuntime, words: &[String]) -> Result<(), Failure> {
+// Refuses options of other preprocessors, each by a sentence of its own.
+fn refuse_foreign(rt: &HostRuntime, words: &[String]) -> Result<(), Failure> {
     for word in words {
-        match word.as_str() {
-            "--" => return Ok(()),
-            "-include" => return Err(failure_of(rt.alloc(), "-include", NO_INCLUDE)),
-            _ => {}
+        if word.as_str() == "--" {
+            return Ok(());
+        }
+        if let Some(refusal) = refusal_of(word.as_str()) {
+            return Err(failure_of(rt.alloc(), word.as_str(), refusal));
         }
     }
     Ok(())
 }
 
-const NO_INCLUDE: &str = "glslpp has no #include";
-
 // Preprocesses the files, and writes the output unless one has an error.
 fn preprocess_files(rt: &HostRuntime, matches: &ArgMatches<'_>) -> Result<u8, Failure> {
     let arguments = Arguments::from_matches(rt.alloc(), matches)?;
-    if arguments.is_including {
-        return Err(failure_of(rt.alloc(), "-I", NO_INCLUDE));
-    }
     check_changes(rt.alloc(), arguments.changes.as_slice())?;
+    check_output(rt, &arguments)?;
     let mut found = Found::new(rt.alloc());
     for file in arguments.files.as_slice() {
         preprocess_file(rt, &arguments, file, &mut found)?;
@@ -91,6 +89,19 @@ fn preprocess_files(rt: &HostRuntime, matches: &ArgMatches<'_>) -> Result<u8, Fa
     Ok(if found.errors == 0 { 0 } else { 1 })
 }
 
+// Fails if the output is one of the sources.
+fn check_output(rt: &HostRuntime, arguments: &Arguments<'_>) -> Result<(), Failure> {
+    let Some(output) = arguments.output else {
+        return Ok(());
+    };
+    for file in arguments.files.as_slice() {
+        if *file != STANDARD_INPUT && files::is_same(rt, file, output) {
+            return Err(failure_of(rt.alloc(), output, "the output is also a source"));
+        }
+    }
+    Ok(())
+}
+
 // Preprocesses one file, and reports its errors.
 fn preprocess_file(
     rt: &HostRuntime,
@@ -99,67 +110,59 @@ fn preprocess_file(
     found: &mut Found,
 ) -> Result<(), Failure> {
     let name = if file == STANDARD_INPUT {
-        STANDARD_INPUT_NAME
+        arguments.standard_input_name
     } else {
         file
     };
     let source = read_source(rt, file, name)?;
-    let text = source.as_str();
-    let text = text.strip_prefix('\u{feff}').unwrap_or(text);
+    let text = source.text();
     if text.len() >= LIMIT {
         return Err(failure_of(rt.alloc(), name, "the source is too long"));
     }
     let reporter = Reporter {
-        alloc: rt.alloc(),
-        style: style_of(rt),
+        style: style_of(rt, arguments),
         file: name,
     };
-    let reports = preprocess(reporter, arguments, text, found)?;
+    let replaced = source.replaced.as_slice();
+    let reports = preprocess(rt.alloc(), reporter, arguments, text, replaced, found)?;
     let _ = rt.eprint(reports.as_str());
     Ok(())
 }
 
 // Reads a file, or the standard input, as text.
-fn read_source(rt: &HostRuntime, file: &str, name: &str) -> Result<String, Failure> {
-    let bytes = match read_bytes(rt, file) {
-        Ok(bytes) => bytes,
-        Err(error) => return Err(failure_of(rt.alloc(), name, error)),
-    };
-    match String::from_utf8(bytes) {
-        Ok(text) => Ok(text),
-        Err(error) => {
-            let place = error.utf8_error().valid_up_to();
-            Err(failure_of(rt.alloc(), name, format_args!("not UTF-8 at byte {place}")))
+fn read_source(rt: &HostRuntime, file: &str, name: &str) -> Result<Source, Failure> {
+    match files::read(rt, file) {
+        Ok(bytes) => {
+            let source = Source::from_bytes(rt.alloc(), bytes)?;
+            Ok(source)
         }
+        Err(error) => Err(failure_of(rt.alloc(), name, error)),
     }
 }
 
-fn read_bytes(rt: &HostRuntime, file: &str) -> io::Result<Vec<u8>> {
-    if file != STANDARD_INPUT {
-        return fs::read(rt, file);
-    }
-    let mut bytes = Vec::new(rt.alloc());
-    rt.stdin().read_to_end(&mut bytes)?;
-    Ok(bytes)
-}
-
-// Writes the file, or prints. A reader that closes the output early is no failure.
+// Writes the file, or prints.
 fn write_output(rt: &HostRuntime, file: Option<&str>, output: &str) -> Result<(), Failure> {
     let (name, end) = match file {
-        Some(file) => (file, fs::write(rt, file, output)),
-        None => ("<stdout>", rt.stdout().write_all(output.as_bytes())),
+        Some(file) => (file, files::write(rt, file, output)),
+        None => ("<stdout>", files::print(rt, output)),
     };
     match end {
-        Err(error) if error.kind() != ErrorKind::BrokenPipe => {
-            Err(failure_of(rt.alloc(), name, error))
-        }
-        _ => Ok(()),
+        Ok(()) => Ok(()),
+        Err(error) => Err(failure_of(rt.alloc(), name, error)),
     }
 }
 
-// Coloured if the standard error is a terminal and `NO_COLOR` isn't set, and otherwise plain.
-fn style_of(rt: &HostRuntime) -> Style {
-    if rt.stderr().is_terminal() && env::var(rt, "NO_COLOR").is_err() {
+// How messages are written, as the command line, the terminal and the variable `NO_COLOR` say.
+fn style_of(rt: &HostRuntime, arguments: &Arguments<'_>) -> Style {
+    if arguments.has_json_errors {
+        return Style::Json;
+    }
+    let is_coloured = match arguments.colours {
+        Colours::Always => true,
+        Colours::Never => false,
+        Colours::Auto => rt.stderr().is_terminal() && env::var(rt, "NO_COLOR").is_err(),
+    };
+    if is_coloured {
         Style::Coloured
     } else {
         Style::Plain

@@ -1,14 +1,15 @@
-//! One source: its output and its errors.
+//! One source: its output and the messages on its errors.
 
 ghost use Rattle.std.specs.Prelude.{◌≡◌, ℕ, ◌-◌, ◌^◌, ◌<◌, ◌≤◌, List, [], ◌++◌, OnOk, length, string_bytes};
 
 use glslpp_parts::arguments::Arguments;
 use glslpp_parts::changes::kept_definitions;
 use glslpp_parts::definitions::add_definitions;
-use glslpp_parts::diagnostics::Reporter;
+use glslpp_parts::diagnostic::{Diagnostic, Severity, Site};
+use glslpp_parts::explainer::Explainer;
 use glslpp_parts::failure::Failure;
 use glslpp_parts::output::Output;
-use glslpp_parts::place::{Place, is_on_if_line};
+use glslpp_parts::report::Reporter;
 use glslpp_parts::texts::Texts;
 use glslpp_parts::version::declared_version;
 use pp_rs::pp::Preprocessor;
@@ -37,11 +38,14 @@ impl Found {
     }
 }
 
-/// Preprocesses a source, and returns the report on its errors.
+/// Preprocesses a source, in which the characters at some byte offsets stand for bytes that aren't UTF-8, and returns
+/// the messages on its errors.
 pub fn preprocess(
+    alloc: Global,
     reporter: Reporter<'_>,
     arguments: &Arguments<'_>,
     source: &str,
+    replaced: &[usize],
     found: &mut Found,
 ) -> Result<String, Failure>
     requires { length source.now < 2 ^ 32 - 1 }
@@ -49,19 +53,20 @@ pub fn preprocess(
         × (string_bytes found.new.output ≡ string_bytes found.old.output ++ more)) }
     ensures errors { OnOk result (found.old.errors ≤ found.new.errors) }
 {
-    let mut texts = Texts::new(reporter.alloc, source);
-    let mut items = Preprocessor::new(reporter.alloc, source);
-    let mut run = Run::new(reporter, arguments, source);
-    let end = define_and_read(arguments, source, &mut items, &mut texts, &mut run);
-    drop(items);
-    end?;
+    let mut texts = Texts::new(alloc, source);
+    let mut items = Preprocessor::new(alloc, source);
+    define(alloc, arguments, source, &mut items, &mut texts)?;
+    let explainer = Explainer::new(alloc, source, &texts, replaced);
+    let mut run = Run::new(alloc, reporter, arguments, &texts, explainer);
+    run.read(&mut items)?;
+    run.push_rest()?;
     let output = run.output.finish()?;
     found.output.push_str(output.as_str())?;
     found.errors = found.errors.saturating_add(run.errors);
     Ok(run.reports)
 }
 
-// The line of the last error that was reported.
+// The line of the last error.
 #[derive(Clone, Copy, PartialEq, Eq, Debug)]
 struct FaultLine {
     is_in_source: bool,
@@ -71,42 +76,54 @@ struct FaultLine {
 // A run over one source.
 #[derive(Drop)]
 struct Run<'a> {
+    alloc: Global,
+    texts: &'a Texts<'a>,
+    explainer: Explainer<'a>,
     reporter: Reporter<'a>,
     is_first_error_alone: bool,
+    // How many errors are reported at most.
+    most_reports: usize,
     output: Output<'a>,
     reports: String,
     errors: usize,
     fault_line: Option<FaultLine>,
-    // The number of blocks that an error in their `#if` line kept from opening, and that haven't ended yet.
-    unopened: usize,
 }
 
 impl<'a> Run<'a> {
-    fn new(reporter: Reporter<'a>, arguments: &Arguments<'_>, source: &'a str) -> Run<'a> {
+    fn new(
+        alloc: Global,
+        reporter: Reporter<'a>,
+        arguments: &Arguments<'_>,
+        texts: &'a Texts<'a>,
+        explainer: Explainer<'a>,
+    ) -> Run<'a> {
         Run {
+            alloc,
+            texts,
+            explainer,
             reporter,
             is_first_error_alone: arguments.is_first_error_alone,
-            output: Output::new(reporter.alloc, arguments.form, source),
-            reports: String::new(reporter.alloc),
+            most_reports: arguments.most_errors,
+            output: Output::new(alloc, arguments.form, texts.source),
+            reports: String::new(alloc),
             errors: 0,
             fault_line: None,
-            unopened: 0,
         }
     }
 
     // Takes all items, or those up to the first error.
-    fn read(&mut self, items: &mut Preprocessor<'_>, texts: &Texts<'_>) -> Result<(), Failure> {
+    fn read(&mut self, items: &mut Preprocessor<'_>) -> Result<(), Failure> {
         'items: while let Some(item) = items.next() {
             match item {
                 Ok(token) => {
                     let call_line = items.call_line();
-                    self.take_token(texts, token, call_line)?;
+                    self.take_token(token, call_line)?;
                 }
                 Err((PreprocessorError::OutOfMemory, _)) => return Err(Failure::OutOfMemory),
                 Err((error, _)) => {
                     let place = items.place();
-                    self.take_error(texts, error, place)?;
-                    if self.is_first_error_alone {
+                    self.take_error(error, place)?;
+                    if self.is_first_error_alone && self.errors > 0 {
                         break 'items;
                     }
                 }
@@ -116,12 +133,7 @@ impl<'a> Run<'a> {
     }
 
     // Takes a token, unless it is on the line of the last error.
-    fn take_token(
-        &mut self,
-        texts: &Texts<'_>,
-        token: Token,
-        call_line: Option<u32>,
-    ) -> Result<(), AllocError> {
+    fn take_token(&mut self, token: Token, call_line: Option<u32>) -> Result<(), AllocError> {
         let line = call_line.unwrap_or(token.location.line);
         let here = FaultLine {
             is_in_source: true,
@@ -130,63 +142,49 @@ impl<'a> Run<'a> {
         if self.fault_line == Some(here) {
             return Ok(());
         }
-        self.output.push_token(texts, &token, call_line)
+        self.output.push_token(self.texts, &token, call_line)
     }
 
-    // Whether the error only follows from an error in the `#if` line of a block.
-    fn is_of_unopened(&mut self, error: &PreprocessorError) -> bool {
-        match error {
-            PreprocessorError::ElifOutsideOfBlock | PreprocessorError::ElseOutsideOfBlock => {
-                self.unopened > 0
-            }
-            PreprocessorError::EndifOutsideOfBlock if self.unopened > 0 => {
-                self.unopened = self.unopened.saturating_sub(1);
-                true
-            }
-            _ => false,
-        }
-    }
-
-    // Reports an error, unless it is on the line of the last error or only follows from an error in an `#if` line.
+    // Takes an error, unless it is on the line of the last one or only follows from another.
     fn take_error(
         &mut self,
-        texts: &Texts<'_>,
         error: PreprocessorError,
         location: Location,
     ) -> Result<(), AllocError> {
         let here = FaultLine {
-            is_in_source: is_in_source(texts, location),
+            is_in_source: is_in_source(self.texts, location),
             line: location.line,
         };
         if self.fault_line == Some(here) {
             return Ok(());
         }
         self.fault_line = Some(here);
-        if self.is_of_unopened(&error) {
+        let Some(diagnostic) = self.explainer.explain(&error, location)? else {
+            return Ok(());
+        };
+        self.errors = self.errors.saturating_add(1);
+        self.output
+            .push_error(self.texts, &error, location, diagnostic.message.as_str())?;
+        if self.errors <= self.most_reports {
+            self.reporter.push(&mut self.reports, &diagnostic)?;
+        }
+        Ok(())
+    }
+
+    // Says how many errors are not reported, if there are any.
+    fn push_rest(&mut self) -> Result<(), AllocError> {
+        let rest = self.errors.saturating_sub(self.most_reports);
+        if rest == 0 {
             return Ok(());
         }
-        if is_at_if(texts, location) {
-            self.unopened = self.unopened.saturating_add(1);
-        }
-        self.errors = self.errors.saturating_add(1);
-        let message = self.reporter.message(texts, &error, location)?;
-        self.output
-            .push_error(texts, &error, location, message.as_str())?;
-        self.reporter
-            .push_error(&mut self.reports, texts, &error, location)
-    }
-}
-
-// Whether an error at the place kept a block from opening. An error in a definition of the command line always does:
-// its content is only read on such lines.
-fn is_at_if(texts: &Texts<'_>, location: Location) -> bool {
-    match texts.spot(location) {
-        Some(spot) if spot.is_in_source => match Place::find(spot) {
-            Some(place) => is_on_if_line(place),
-            None => false,
-        },
-        Some(_) => true,
-        None => false,
+        let plural = if rest == 1 { "" } else { "s" };
+        let diagnostic = Diagnostic {
+            severity: Severity::Note,
+            message: format!(in self.alloc; "{rest} more error{plural}: `--max-errors 0` reports all")?,
+            site: Site::InFile,
+            note: None,
+        };
+        self.reporter.push(&mut self.reports, &diagnostic)
     }
 }
 
@@ -195,20 +193,6 @@ fn is_in_source(texts: &Texts<'_>, location: Location) -> bool {
         Some(spot) => spot.is_in_source,
         None => true,
     }
-}
-
-// Adds the definitions before a source, and takes its items.
-fn define_and_read(
-    arguments: &Arguments<'_>,
-    source: &str,
-    items: &mut Preprocessor<'_>,
-    texts: &mut Texts<'_>,
-    run: &mut Run<'_>,
-) -> Result<(), Failure>
-    requires { length source.now < 2 ^ 32 - 1 }
-{
-    define(run.reporter.alloc, arguments, source, items, texts)?;
-    run.read(items, texts)
 }
 
 // Adds the definitions of GLSL and of the command line, without those that a later `-U` undoes.

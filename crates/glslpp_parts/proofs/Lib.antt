@@ -1,7 +1,6 @@
 pub mod ColumnsLemmas
 pub mod DecimalLemmas
 pub mod DefinitionsLemmas
-pub mod IfLinesLemmas
 pub mod OptionsLemmas
 pub mod PredefinedLemmas
 pub mod ReportsLemmas

@@ -13,3 +13,10 @@ pub three_added : (old one two three : List Known) (a b c x y z : Known) → one
 three_added old one two three a b c x y z e f g p q r =
     g ∙ ap (λ (ks : List Known). ks ++ z ∷ []) (two_added old one two a b x y e f p q) ∙ append_assoc old (a ∷ b ∷ []) (z ∷ [])
     ∙ ap (λ (k : Known). old ++ (a ∷ b ∷ k ∷ [])) r
+
+pub four_added : (old one two three four : List Known) (a b c d x y z w : Known) → one ≡ old ++ x ∷ [] → two ≡ one ++ y ∷ []
+    → three ≡ two ++ z ∷ [] → four ≡ three ++ w ∷ [] → x ≡ a → y ≡ b → z ≡ c → w ≡ d → four ≡ old ++ (a ∷ b ∷ c ∷ d ∷ [])
+four_added old one two three four a b c d x y z w e f g h p q r s =
+    h ∙ ap (λ (ks : List Known). ks ++ w ∷ []) (three_added old one two three a b c x y z e f g p q r)
+    ∙ append_assoc old (a ∷ b ∷ c ∷ []) (w ∷ [])
+    ∙ ap (λ (k : Known). old ++ (a ∷ b ∷ c ∷ k ∷ [])) s

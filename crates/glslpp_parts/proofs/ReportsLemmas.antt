@@ -1,9 +1,9 @@
 -- Parts of a report, one after another.
 use Rattle.std.proofs.Common.{◌≡◌, ◌∙◌, ◌++◌, ◌∷◌, [], ℕ, List, ap, sym, refl, inl, inr, append_assoc, append-nil, codes}
 use Rattle.std.specs.Fmt.{decimal}
-use Rattle.glslpp_parts.specs.declared.diagnostics.Style.{Style}
-use Rattle.glslpp_parts.specs.declared.diagnostics.Kind.{Kind}
-use Rattle.glslpp_parts.specs.Reports.{bold, kind_text, IsReported}
+use Rattle.glslpp_parts.specs.declared.report.Style.{Style}
+use Rattle.glslpp_parts.specs.declared.diagnostic.Severity.{Severity}
+use Rattle.glslpp_parts.specs.Reports.{bold, severity_text, IsReported}
 use Rattle.glslpp_parts.specs.inner.Adding.{IsLonger, IsPlaced}
 
 pub placed_at : (file old new : List ℕ) (line column : ℕ)
@@ -15,23 +15,23 @@ placed_at file old new line column e = record {
   text = e ∙ simp append_assoc;
 }
 
-module _ (style : Style) (file : List ℕ) (kind : Kind) (message : List ℕ) where
+module _ (style : Style) (file : List ℕ) (severity : Severity) (message : List ℕ) where
   -- the parts of a report, from what was there to the whole
   pub reported : (old bolded placed kinded new after : List ℕ) → bolded ≡ old ++ bold style → IsPlaced file bolded placed
-      → kinded ≡ placed ++ kind_text style kind → new ≡ kinded ++ (message ++ 10 ∷ after) → IsReported style file kind message old new
+      → kinded ≡ placed ++ severity_text style severity → new ≡ kinded ++ (message ++ 10 ∷ after) → IsReported style file severity message old new
   reported old bolded placed kinded new after e at f g = record {
     place = at.place;
     more = [];
     after = after;
     is = at.is;
     text = g ∙ ap (λ (t : List ℕ). t ++ (message ++ 10 ∷ after))
-        (f ∙ ap (λ (t : List ℕ). t ++ kind_text style kind) (at.text ∙ ap (λ (t : List ℕ). t ++ at.place) e))
+        (f ∙ ap (λ (t : List ℕ). t ++ severity_text style severity) (at.text ∙ ap (λ (t : List ℕ). t ++ at.place) e))
         ∙ simp (append_assoc, append-nil);
   }
 
   -- with more after the report
-  pub reported_on : (old mid new : List ℕ) → IsReported style file kind message old mid → IsLonger mid new
-      → IsReported style file kind message old new
+  pub reported_on : (old mid new : List ℕ) → IsReported style file severity message old mid → IsLonger mid new
+      → IsReported style file severity message old new
   reported_on old mid new report longer = record {
     place = report.place;
     more = report.more;
@@ -41,21 +41,21 @@ module _ (style : Style) (file : List ℕ) (kind : Kind) (message : List ℕ) wh
   }
 
   -- a report stands after what was there
-  pub longer_by : (old new : List ℕ) → IsReported style file kind message old new → IsLonger old new
+  pub longer_by : (old new : List ℕ) → IsReported style file severity message old new → IsLonger old new
   longer_by old new report = record {
-    more = bold style ++ (report.place ++ (kind_text style kind ++ (message ++ (report.more ++ 10 ∷ report.after))));
+    more = bold style ++ (report.place ++ (severity_text style severity ++ (message ++ (report.more ++ 10 ∷ report.after))));
     text = report.text ∙ simp append_assoc;
   }
 
   -- a report of a message that begins with a sentence
-  pub reported_by : (sentence rest old new : List ℕ) → message ≡ sentence ++ rest → IsReported style file kind message old new
-      → IsReported style file kind sentence old new
+  pub reported_by : (sentence rest old new : List ℕ) → message ≡ sentence ++ rest → IsReported style file severity message old new
+      → IsReported style file severity sentence old new
   reported_by sentence rest old new e report = record {
     place = report.place;
     more = rest ++ report.more;
     after = report.after;
     is = report.is;
     text = report.text
-        ∙ ap (λ (t : List ℕ). old ++ bold style ++ report.place ++ kind_text style kind ++ t ++ report.more ++ 10 ∷ report.after) e
+        ∙ ap (λ (t : List ℕ). old ++ bold style ++ report.place ++ severity_text style severity ++ t ++ report.more ++ 10 ∷ report.after) e
         ∙ simp append_assoc;
   }

@@ -3,6 +3,9 @@ use Rattle.std.specs.Prelude.{◌≡◌, ℕ, Bool, true, false, None, Some, Lis
 use Rattle.std.specs.Option.{option_map_or}
 use Rattle.clap.specs.Matches.{matched_of, one_text, raw_values}
 use Rattle.clap.specs.declared.parser.matches.Found.{Found}
+use Rattle.clap.specs.Words.{first_value}
+use Rattle.glslpp_parts.specs.declared.arguments.Colours.{Colours}
+use Rattle.glslpp_parts.specs.declared.arguments.Colours.TheVariants.{Auto, Always, Never}
 use Rattle.glslpp_parts.specs.declared.arguments.Form.{Form}
 use Rattle.glslpp_parts.specs.declared.arguments.Form.TheVariants.{Lines, Compact, Tokens, Directives}
 
@@ -30,6 +33,21 @@ pub record IsForm (found : Found) (form : Form) : Type 0 where
   pub are_directives : IsFlag found (codes "directives") directives
   pub is_compact : IsFlag found (codes "compact") compact
   pub is : form ≡ form_of tokens directives compact
+
+-- whether an option's value is this one
+pub record IsAsked (found : Found) (id value : List ℕ) (is : Bool) : Type 0 where
+  pub given : first_value found id ≡ Some value → is ≡ true
+  pub other : is ≡ true → first_value found id ≡ Some value
+
+-- the most errors that are reported: 20, if no number is given
+pub record IsLimit (found : Found) (most : ℕ) : Type 0 where
+  pub none : one_text found (codes "max-errors") ≡ None → most ≡ 20
+
+-- whether messages have colours, as the value of `--color` says
+pub record AreColours (found : Found) (colours : Colours) : Type 0 where
+  pub always : first_value found (codes "color") ≡ Some (codes "always") → colours ≡ Always
+  pub never : first_value found (codes "color") ≡ Some (codes "never") → colours ≡ Never
+  pub none : first_value found (codes "color") ≡ None → colours ≡ Auto
 
 -- the files, or `-` for the standard input if none is named
 abbrev pub files_or_input : List (List ℕ) → List (List ℕ)

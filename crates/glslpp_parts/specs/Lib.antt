@@ -3,7 +3,6 @@ pub mod Changes
 pub mod Columns
 pub mod Definitions
 pub mod Failures
-pub mod IfLines
 pub mod Layout
 pub mod Options
 pub mod Output

@@ -27,6 +27,10 @@ lettered id letter action = record { id = id; letter = Some letter; long = None;
 abbrev pub named : List ℕ → Known
 named id = record { id = id; letter = None; long = Some id; action = Some SetTrue }
 
+-- an option with a value and a long name, which is its id too
+abbrev pub long_valued : List ℕ → Known
+long_valued id = record { id = id; letter = None; long = Some id; action = Some Set }
+
 abbrev pub nameless : List ℕ → ArgAction → Known
 nameless id action = record { id = id; letter = None; long = None; action = Some action }
 
@@ -43,11 +47,15 @@ forms = lettered (codes "compact") 80 SetTrue ∷ named (codes "tokens") ∷ nam
 abbrev pub flags : List Known
 flags = named (codes "first-error") ∷ named (codes "undef") ∷ []
 
--- those of other preprocessors: `-E`, `-S` and `-I`
+-- `--max-errors`, `--error-format`, `--color` and `--stdin-name`
+abbrev pub message_options : List Known
+message_options = long_valued (codes "max-errors") ∷ long_valued (codes "error-format")
+    ∷ long_valued (codes "color") ∷ long_valued (codes "stdin-name") ∷ []
+
+-- those of other preprocessors: `-E` and `-S`
 abbrev pub foreign : List Known
-foreign = lettered (codes "only") 69 SetTrue ∷ lettered (codes "stage") 83 Append
-    ∷ lettered (codes "include") 73 Append ∷ []
+foreign = lettered (codes "only") 69 SetTrue ∷ lettered (codes "stage") 83 Append ∷ []
 
 -- all of them, and the files
 abbrev pub options : List Known
-options = value_options ++ forms ++ flags ++ foreign ++ nameless (codes "files") Append ∷ []
+options = value_options ++ forms ++ flags ++ message_options ++ foreign ++ nameless (codes "files") Append ∷ []

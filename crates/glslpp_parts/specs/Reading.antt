@@ -5,6 +5,8 @@ use Rattle.pp_lexer.specs.declared.lexer.item.TokenValue.TheVariants.{NewLine}
 use Rattle.pp_lexer.specs.declared.token.PreprocessorError.{PreprocessorError}
 use Rattle.pp_lexer.specs.declared.token.TokenValue.{TokenValue}
 use Rattle.pp_lexer.specs.declared.token.TokenValue.TheVariants.{Integer}
+use Rattle.std.specs.Str.{encode_utf8_all}
+use Rattle.pp_lexer.specs.ItemText.{item_text}
 use Rattle.pp_lexer.specs.Lexed.{Lexed}
 use Rattle.pp_lexer.specs.Respelling.{IsSpellable, item_value, lexer_value, read_values}
 
@@ -25,3 +27,8 @@ as_signed value = value
 -- `int`.
 abbrev pub IsTextOf : TokenValue → List ℕ → Type 0
 IsTextOf value text = IsSpellable value → (IsReadAs value text ⊎ IsReadAs (as_signed value) text)
+
+-- the text of a directive: its word and its tokens with single spaces, or another one that is read as the same tokens
+abbrev pub IsDirectiveText : TokenValue → List ℕ → Type 0
+IsDirectiveText value text = (text ≡ encode_utf8_all (item_text value))
+    ⊎ (read_values text ≡ read_values (encode_utf8_all (item_text value)))

@@ -1,32 +1,37 @@
 -- Errors as compilers print them.
-use Rattle.std.specs.Prelude.{◌≡◌, ◌⊎◌, ℕ, List, [], ◌∷◌, ◌++◌, codes}
+use Rattle.std.specs.Prelude.{◌≡◌, ◌⊎◌, ℕ, List, [], ◌∷◌, ◌++◌, codes, string_bytes}
 use Rattle.std.specs.Fmt.{decimal}
-use Rattle.glslpp_parts.specs.declared.diagnostics.Style.{Style}
-use Rattle.glslpp_parts.specs.declared.diagnostics.Style.TheVariants.{Plain, Coloured}
-use Rattle.glslpp_parts.specs.declared.diagnostics.Kind.{Kind}
-use Rattle.glslpp_parts.specs.declared.diagnostics.Kind.TheVariants.{Error, Note}
+use Rattle.glslpp_parts.specs.declared.report.Style.{Style}
+use Rattle.glslpp_parts.specs.declared.report.Style.TheVariants.{Plain, Coloured, Json}
+use Rattle.glslpp_parts.specs.declared.diagnostic.Diagnostic.{Diagnostic}
+use Rattle.glslpp_parts.specs.declared.diagnostic.Severity.{Severity}
+use Rattle.glslpp_parts.specs.declared.diagnostic.Severity.TheVariants.{Error, Note}
+use Rattle.glslpp_parts.specs.Output.{IsItem}
 
 -- a terminal reads ESC, byte 27, and `[` with a code as a colour
 abbrev pub bold : Style → List ℕ
 bold Plain = []
+bold Json = []
 bold Coloured = 27 ∷ codes "[1m"
 
-abbrev pub colour : Style → Kind → List ℕ
-colour Plain kind = []
+abbrev pub colour : Style → Severity → List ℕ
+colour Plain severity = []
+colour Json severity = []
 colour Coloured Error = 27 ∷ codes "[1;31m"
 colour Coloured Note = 27 ∷ codes "[1;36m"
 
 abbrev pub ended : Style → List ℕ
 ended Plain = []
+ended Json = []
 ended Coloured = 27 ∷ codes "[0m"
 
-abbrev pub name_of : Kind → List ℕ
+abbrev pub name_of : Severity → List ℕ
 name_of Error = codes "error"
 name_of Note = codes "note"
 
 -- `error: ` or `note: `, in its colour
-abbrev pub kind_text : Style → Kind → List ℕ
-kind_text style kind = colour style kind ++ name_of kind ++ codes ": " ++ ended style
+abbrev pub severity_text : Style → Severity → List ℕ
+severity_text style severity = colour style severity ++ name_of severity ++ codes ": " ++ ended style
 
 -- how a place of a file is named: `<command line>: ` in a definition of the command line, and otherwise `FILE: ` or
 -- `FILE:LINE:COLUMN: `
@@ -35,10 +40,23 @@ IsPlace file place = (place ≡ codes "<command line>: ") ⊎ ((place ≡ file +
     ⊎ ((line : ℕ) × ((column : ℕ)
     × (place ≡ file ++ codes ":" ++ decimal line ++ codes ":" ++ decimal column ++ codes ": "))))
 
--- with a report at the end, which begins with a place, the kind, as `error: `, and the message, on a line that ends
-pub record IsReported (style : Style) (file : List ℕ) (kind : Kind) (message old new : List ℕ) : Type 0 where
+-- with a report at the end, which begins with a place, how grave it is, as `error: `, and the message, on a line that
+-- ends
+pub record IsReported (style : Style) (file : List ℕ) (severity : Severity) (message old new : List ℕ) : Type 0 where
   pub place : List ℕ
   pub more : List ℕ
   pub after : List ℕ
   pub is : IsPlace file place
-  pub text : new ≡ old ++ bold style ++ place ++ kind_text style kind ++ message ++ more ++ 10 ∷ after
+  pub text : new ≡ old ++ bold style ++ place ++ severity_text style severity ++ message ++ more ++ 10 ∷ after
+
+-- with a message at the end: a report as text, or an object of JSON on a line of its own
+abbrev pub IsSaid : Style → List ℕ → Severity → List ℕ → List ℕ → List ℕ → Type 0
+IsSaid Plain file severity message old new = IsReported Plain file severity message old new
+IsSaid Coloured file severity message old new = IsReported Coloured file severity message old new
+IsSaid Json file severity message old new = IsItem old new
+
+-- the message for an error of the library: an error, whose text begins with this sentence
+pub record IsErrorMessage (sentence : List ℕ) (diagnostic : Diagnostic) : Type 0 where
+  pub more : List ℕ
+  pub begins : string_bytes diagnostic.message ≡ sentence ++ more
+  pub severity : diagnostic.severity ≡ Error

@@ -1,19 +1,26 @@
 //! The command line.
 
-ghost use Rattle.std.specs.Prelude.{◌≡◌, ◌≤◌, ◌++◌, ◌∷◌, [], false, IfOk, codes, is_some, length, map, not, option_map};
-ghost use Rattle.clap.specs.Words.{first_value, found_of, matched_of, rule_of};
+ghost use Rattle.std.specs.Prelude.{◌≡◌, ◌≤◌, ◌++◌, ◌∷◌, [], false, IfOk, codes, length, map, not, option_map, unwrap_or};
+ghost use Rattle.clap.specs.Words.{first_value, found_of, rule_of};
 ghost use Rattle.clap.specs.declared.builder.action.ArgAction.TheVariants.{Append, Set, SetTrue};
-ghost use Rattle.glslpp_parts.specs.Asked.{IsFlag, IsForm, files_or_input, words_of};
+ghost use Rattle.glslpp_parts.specs.Asked.{AreColours, IsAsked, IsFlag, IsForm, IsLimit, files_or_input, words_of};
 ghost use Rattle.glslpp_parts.specs.Options.{options, options_of, value_options, forms, flags, foreign, known_of};
-ghost use Rattle.glslpp_parts.specs.Options.{lettered, named, nameless};
+ghost use Rattle.glslpp_parts.specs.Options.{lettered, long_valued, message_options, named, nameless};
 ghost use Rattle.glslpp_parts.specs.inner.Adding.{IsOption};
 
 use crate::changes::Change;
+use clap::builder::ValueParser;
 use clap::{Arg, ArgAction, ArgMatches, Command};
 use std::alloc::{AllocError, Global};
 
 /// The argument that names the standard input.
 pub const STANDARD_INPUT: &str = "-";
+
+// The name of the standard input in messages, if no other is given.
+const STANDARD_INPUT_NAME: &str = "<stdin>";
+
+// How many errors of a source are reported, if no number is given.
+const MOST_ERRORS: usize = 20;
 
 /// How the preprocessed source is printed.
 #[derive(Clone, Copy, PartialEq, Eq)]
@@ -26,6 +33,17 @@ pub enum Form {
     Tokens,
     /// Only its directive items.
     Directives,
+}
+
+/// Whether messages have colours.
+#[derive(Clone, Copy, PartialEq, Eq)]
+pub enum Colours {
+    /// If the standard error is a terminal and `NO_COLOR` isn't set.
+    Auto,
+    /// Always.
+    Always,
+    /// Never.
+    Never,
 }
 
 /// What the command line asks for.
@@ -41,8 +59,14 @@ pub struct Arguments<'a> {
     pub is_predefining: bool,
     /// Whether reading ends at the first error.
     pub is_first_error_alone: bool,
-    /// Whether an option names a folder for `#include`.
-    pub is_including: bool,
+    /// How many errors of a source are reported at most.
+    pub most_errors: usize,
+    /// Whether messages on a source are JSON.
+    pub has_json_errors: bool,
+    /// Whether messages have colours.
+    pub colours: Colours,
+    /// The name of the standard input in messages.
+    pub standard_input_name: &'a str,
     /// The files to read: [`STANDARD_INPUT`] if none is named.
     pub files: Vec<&'a str>,
 }
@@ -54,7 +78,8 @@ pub fn command<'a>(alloc: Global) -> Result<Command<'a>, clap::Error>
     let with_values = with_value_options(alloc, bare_command(alloc))?;
     let with_forms = with_forms(alloc, with_values)?;
     let with_flags = with_flags(alloc, with_forms)?;
-    let with_foreign = with_foreign_options(alloc, with_flags)?;
+    let with_messages = with_message_options(alloc, with_flags)?;
+    let with_foreign = with_foreign_options(alloc, with_messages)?;
     let whole = with_option(with_foreign, files_argument(alloc))?;
     Ok(whole)
 }
@@ -160,29 +185,79 @@ fn with_flags<'a>(alloc: Global, command: Command<'a>) -> Result<Command<'a>, Al
     Ok(second)
 }
 
-// Options of other preprocessors: `-E` and `-S STAGE` do nothing, and `-I` is refused.
+// Adds the options for messages.
+fn with_message_options<'a>(alloc: Global, command: Command<'a>) -> Result<Command<'a>, AllocError>
+    ensures { IfOk result (λ new. options_of new ≡ options_of command.entry ++ message_options) }
+{
+    let most = most_errors_option(alloc);
+    let format = error_format_option(alloc);
+    let colour = colour_option(alloc);
+    let name = long_option(alloc, "stdin-name", "NAME", NAME_HELP);
+    let first = with_option(command, most)?;
+    let second = with_option(first, format)?;
+    let third = with_option(second, colour)?;
+    let fourth = with_option(third, name)?;
+    Ok(fourth)
+}
+
+fn most_errors_option<'a>(alloc: Global) -> Arg<'a>
+    ensures { IsOption result (long_valued (codes "max-errors")) }
+{
+    let parser = ValueParser::unsigned(0, u64::MAX);
+    long_option(alloc, "max-errors", "N", MOST_HELP).value_parser(parser)
+}
+
+fn error_format_option<'a>(alloc: Global) -> Arg<'a>
+    ensures { IsOption result (long_valued (codes "error-format")) }
+{
+    let parser = ValueParser::Names(&FORMATS);
+    long_option(alloc, "error-format", "FORMAT", FORMAT_HELP).value_parser(parser)
+}
+
+fn colour_option<'a>(alloc: Global) -> Arg<'a>
+    ensures { IsOption result (long_valued (codes "color")) }
+{
+    let parser = ValueParser::Names(&COLOURS);
+    long_option(alloc, "color", "WHEN", COLOUR_HELP).value_parser(parser)
+}
+
+const MOST_HELP: &str = "Report at most N errors of a source, 0 for all, 20 if it isn't given";
+
+const FORMATS: [&str; 2] = ["text", "json"];
+
+const FORMAT_HELP: &str = "Write messages on a source as text, or as JSON, one a line";
+
+const COLOURS: [&str; 3] = ["auto", "always", "never"];
+
+const COLOUR_HELP: &str = "Use colours in messages";
+
+const NAME_HELP: &str = "Call the standard input so in messages";
+
+// An option with a long name, which is its id too, and a value.
+fn long_option<'a>(alloc: Global, id: &'a str, value: &'a str, help: &'a str) -> Arg<'a>
+    ensures { IsOption result (long_valued id.now) }
+{
+    Arg::new(alloc, id)
+        .long(id)
+        .value_name(value)
+        .action(ArgAction::Set)
+        .help(help)
+}
+
+// Options of other preprocessors: `-E` and `-S STAGE` do nothing.
 fn with_foreign_options<'a>(alloc: Global, command: Command<'a>) -> Result<Command<'a>, AllocError>
     ensures { IfOk result (λ new. options_of new ≡ options_of command.entry ++ foreign) }
 {
     let only = short_flag(alloc, "only", 'E', ONLY_HELP);
     let stage = definition_option(alloc, "stage", 'S', "STAGE", STAGE_HELP);
-    let include = include_option(alloc);
     let first = with_option(command, only)?;
     let second = with_option(first, stage)?;
-    let third = with_option(second, include)?;
-    Ok(third)
+    Ok(second)
 }
 
 const ONLY_HELP: &str = "Do nothing, as -E of a compiler is what this is";
 
 const STAGE_HELP: &str = "Do nothing, since no stage is told apart";
-
-// `-I`, which help doesn't list.
-fn include_option<'a>(alloc: Global) -> Arg<'a>
-    ensures { IsOption result (lettered (codes "include") 73 Append) }
-{
-    definition_option(alloc, "include", 'I', "FOLDER", "").hide(true)
-}
 
 // An option that may be repeated.
 fn definition_option<'a>(
@@ -254,8 +329,12 @@ impl<'a> Arguments<'a> {
             (not asked.is_predefining)) }
         ensures first_error_alone { IfOk result (λ asked. IsFlag (found_of matches.now)
             (codes "first-error") asked.is_first_error_alone) }
-        ensures including { IfOk result (λ asked. asked.is_including
-            ≡ is_some (matched_of (found_of matches.now) (codes "include"))) }
+        ensures most_errors { IfOk result (λ asked. IsLimit (found_of matches.now) asked.most_errors) }
+        ensures json_errors { IfOk result (λ asked. IsAsked (found_of matches.now)
+            (codes "error-format") (codes "json") asked.has_json_errors) }
+        ensures colours { IfOk result (λ asked. AreColours (found_of matches.now) asked.colours) }
+        ensures standard_input_name { IfOk result (λ asked. asked.standard_input_name.now
+            ≡ unwrap_or (first_value (found_of matches.now) (codes "stdin-name")) (codes "<stdin>")) }
         ensures files { IfOk result (λ asked. map (λ file. file.now) asked.files.items
             ≡ files_or_input (words_of (found_of matches.now) (codes "files"))) }
     {
@@ -265,9 +344,33 @@ impl<'a> Arguments<'a> {
             form: form_of(matches),
             is_predefining: !is_given(matches, "undef"),
             is_first_error_alone: is_given(matches, "first-error"),
-            is_including: matches.contains_id("include"),
+            most_errors: most_errors_of(matches),
+            has_json_errors: matches.get_str("error-format") == Some("json"),
+            colours: colours_of(matches),
+            standard_input_name: matches.get_str("stdin-name").unwrap_or(STANDARD_INPUT_NAME),
             files: files_of(alloc, matches)?,
         })
+    }
+}
+
+// The number of errors, all of them if it is 0.
+fn most_errors_of(matches: &ArgMatches<'_>) -> usize
+    ensures { IsLimit (found_of matches.now) result }
+{
+    match matches.get_one::<usize>("max-errors") {
+        Some(0) => usize::MAX,
+        Some(most) => most,
+        None => MOST_ERRORS,
+    }
+}
+
+fn colours_of(matches: &ArgMatches<'_>) -> Colours
+    ensures { AreColours (found_of matches.now) result }
+{
+    match matches.get_str("color") {
+        Some("always") => Colours::Always,
+        Some("never") => Colours::Never,
+        _ => Colours::Auto,
     }
 }
 

@@ -6,8 +6,9 @@ ghost use Rattle.glslpp_parts.specs.Output.{IsItem, IsErrorItem};
 ghost use Rattle.glslpp_parts.specs.inner.Adding.{IsLonger};
 
 use crate::columns::Columns;
-use crate::diagnostics::COMMAND_LINE;
+use crate::diagnostic::{Diagnostic, Note, Site};
 use crate::place::first_byte;
+use crate::report::COMMAND_LINE;
 use crate::texts::Spot;
 use pp_rs::token::{Location, PreprocessorError, TokenValue};
 use std::alloc::AllocError;
@@ -77,6 +78,63 @@ pub(crate) fn push_error(
     push_string(output, message)?;
     push_place(output, columns, spot, location)?;
     output.push_str("}\n")
+}
+
+/// Appends a message: how grave it is, its place, its text and its notes.
+pub(crate) fn push_diagnostic(
+    output: &mut String,
+    file: &str,
+    diagnostic: &Diagnostic<'_>,
+) -> Result<(), AllocError>
+    ensures { OnOk result (IsItem (string_bytes output.old) (string_bytes output.new)) }
+{
+    let severity = diagnostic.severity.name();
+    write!(output, "{{\"severity\":\"{severity}\",")?;
+    push_site(output, file, diagnostic.site)?;
+    push_message(output, diagnostic.message.as_str())?;
+    push_notes(output, file, diagnostic.note)?;
+    output.push_str("}\n")
+}
+
+fn push_message(output: &mut String, message: &str) -> Result<(), AllocError>
+    ensures { OnOk result (IsLonger (string_bytes output.old) (string_bytes output.new)) }
+{
+    output.push_str("\"message\":")?;
+    push_string(output, message)
+}
+
+fn push_notes(
+    output: &mut String,
+    file: &str,
+    note: Option<Note<'_>>,
+) -> Result<(), AllocError>
+    ensures { OnOk result (IsLonger (string_bytes output.old) (string_bytes output.new)) }
+{
+    output.push_str(",\"notes\":[")?;
+    if let Some(note) = note {
+        output.push('{')?;
+        push_site(output, file, note.site)?;
+        push_message(output, note.message)?;
+        output.push('}')?;
+    }
+    output.push(']')
+}
+
+// Appends the file of a place, its line and column, and the number of characters at it, each with a comma.
+fn push_site(output: &mut String, file: &str, site: Site<'_>) -> Result<(), AllocError>
+    ensures { OnOk result (IsLonger (string_bytes output.old) (string_bytes output.new)) }
+{
+    output.push_str("\"file\":")?;
+    let name = match site {
+        Site::OnCommandLine(_) => COMMAND_LINE,
+        Site::InSource(..) | Site::InFile => file,
+    };
+    push_string(output, name)?;
+    if let Site::InSource(line, column, place) = site {
+        let length = place.here.chars().count();
+        write!(output, ",\"line\":{line},\"column\":{column},\"length\":{length}")?;
+    }
+    output.push(',')
 }
 
 // Appends a text in quotes, with the escapes of JSON (RFC 8259, section 7).

@@ -1,18 +1,19 @@
 //! The output of a source, in each form.
 
-ghost use Rattle.std.specs.Prelude.{◌≡◌, ◌≢◌, [], false, None, IsTrue, OnOk, IfOk, string_bytes, unwrap_or};
+ghost use Rattle.std.specs.Prelude.{◌≡◌, ◌≢◌, ◌⊎◌, [], false, None, IsTrue, OnOk, IfOk, string_bytes, unwrap_or};
 ghost use Rattle.pp_rs.specs.PreprocessorError.{name_of};
 ghost use Rattle.pp_rs.specs.TokenValue.{is_ordinary};
 ghost use Rattle.glslpp_parts.specs.Layout.{finished};
-ghost use Rattle.glslpp_parts.specs.Output.{PutsWord, PutsDirective, Puts, PutsError, IsItem};
+ghost use Rattle.glslpp_parts.specs.Output.{is_closing, PutsWord, PutsDirective, Puts, PutsError, IsItem};
 
 use crate::arguments::Form;
 use crate::columns::Columns;
+use crate::directive_text::directive_text;
 use crate::json;
 use crate::layout::{Gap, Layout};
 use crate::texts::{Spot, Texts};
 use crate::words::{compact_word, made_word, written_word};
-use pp_rs::token::{Location, PreprocessorError, Token, TokenValue};
+use pp_rs::token::{Location, PreprocessorError, Punct, Token, TokenValue};
 use std::alloc::{AllocError, Global};
 use std::marker::Model;
 
@@ -97,7 +98,7 @@ impl<'a> Output<'a> {
         let line = call_line.unwrap_or(place.line);
         let spot = texts.spot(place);
         if let Some(word) = written_word(self.alloc, &token.value, spot)? {
-            let gap = self.gap_before(place);
+            let gap = self.gap_before(texts, token);
             self.layout.push_word(line, gap, word)?;
             self.end = Some(place.end);
             return Ok(());
@@ -107,11 +108,14 @@ impl<'a> Output<'a> {
         self.layout.push_word(line, Gap::Space, word.as_str())
     }
 
-    // No gap before a word that directly follows the last word in the source, and otherwise a space.
-    fn gap_before(&self, place: Location) -> Gap
-        ensures { result ≡ Gap.Nothing → self.now.end ≡ Some place.start }
+    // No gap before a word that directly follows the last word in the source, nor before a closing punctuator that
+    // directly follows something there, such as a macro's name; and otherwise a space.
+    fn gap_before(&self, texts: &Texts<'_>, token: &Token) -> Gap
+        ensures { result ≡ Gap.Nothing → (self.now.end ≡ Some token.now.location.start)
+            ⊎ IsTrue (is_closing token.now.value) }
     {
-        if self.end == Some(place.start) {
+        let start = token.location.start;
+        if self.end == Some(start) || is_closing(&token.value) && !texts.is_after_blank(start) {
             Gap::Nothing
         } else {
             Gap::Space
@@ -171,13 +175,18 @@ impl<'a> Output<'a> {
         )
     }
 
-    // Appends a directive: its word and its tokens, separated by spaces.
+    // Appends a directive.
     fn push_directive(&mut self, texts: &Texts<'_>, token: &Token) -> Result<(), AllocError>
         requires { is_ordinary token.now.value ≡ false }
         ensures form { self.new.form ≡ self.old.form }
         ensures puts { OnOk result (Puts self.old.form false self.old token.now None self.new) }
     {
-        let line = format!(in self.alloc; "{}", token.value)?;
+        let line = match self.form {
+            Form::Compact => format!(in self.alloc; "{}", token.value)?,
+            Form::Lines | Form::Tokens | Form::Directives => {
+                directive_text(self.alloc, &token.value, texts.spot(token.location))?
+            }
+        };
         self.end = None;
         match self.form {
             Form::Lines => self
@@ -231,5 +240,17 @@ impl<'a> Output<'a> {
             return Ok(lines);
         }
         self.layout.finish()
+    }
+}
+
+// Whether it is a punctuator that ends what comes before it, and is no part of a longer one.
+fn is_closing(value: &TokenValue) -> bool
+    ensures { result ≡ is_closing value.now }
+{
+    match value {
+        TokenValue::Punct(
+            Punct::Semicolon | Punct::Comma | Punct::RightParen | Punct::RightBracket,
+        ) => true,
+        _ => false,
     }
 }

@@ -1,9 +1,8 @@
 //! Places of a text as compilers print them.
 
-ghost use Rattle.std.specs.Prelude.{◌≡◌, IfSome, option_map};
+ghost use Rattle.std.specs.Prelude.{◌≡◌, IfSome};
 ghost use Rattle.pp_lexer.specs.Lines.{is_line_break};
 ghost use Rattle.glslpp_parts.specs.Columns.{column_at};
-ghost use Rattle.glslpp_parts.specs.IfLines.{begins_with_if, behind_sign, first_word, is_on_if_line};
 
 use crate::columns::column_at;
 use crate::texts::Spot;
@@ -91,41 +90,6 @@ fn first_char_end(text: &str, start: usize) -> usize {
         Some(c) if !is_line_end(c) => start.saturating_add(c.len_utf8()),
         _ => start,
     }
-}
-
-/// Returns whether the place is on the line of an `#if`, `#ifdef` or `#ifndef`, so that an error there keeps its block
-/// from opening.
-pub fn is_on_if_line(place: Place<'_>) -> bool
-    ensures { result ≡ is_on_if_line place.entry }
-{
-    match behind_sign(place.before.trim_start()) {
-        Some(before) => begins_with_if(first_word(before, place.here)),
-        None => false,
-    }
-}
-
-// What comes after the `#` that a text begins with, without the white space behind the `#`.
-fn behind_sign(text: &str) -> Option<&str>
-    ensures { option_map (λ rest. rest.now) result ≡ behind_sign text.now }
-{
-    match text.strip_prefix('#') {
-        Some(rest) => Some(rest.trim_start()),
-        None => None,
-    }
-}
-
-// The first word of a directive: before a place, or at it if nothing but the `#` is before it.
-fn first_word<'a>(before: &'a str, here: &'a str) -> &'a str
-    ensures { result.now ≡ first_word before.now here.now }
-{
-    if before.is_empty() { here } else { before }
-}
-
-// Whether the text begins with `if`, as `if`, `ifdef` and `ifndef` do.
-fn begins_with_if(text: &str) -> bool
-    ensures { result ≡ begins_with_if text.now }
-{
-    text.starts_with("if")
 }
 
 /// The text without the continuations that it begins with.

@@ -79,6 +79,14 @@ impl<'a> Texts<'a> {
         Ok(padded)
     }
 
+    // Whether a blank, a line end or a comment is before this byte offset of the source, or nothing.
+    pub(crate) fn is_after_blank(&self, start: u32) -> bool {
+        match self.source.as_bytes().get(..start as usize) {
+            Some([.., last]) => *last == b'/' || last.is_ascii_whitespace(),
+            _ => true,
+        }
+    }
+
     /// Returns the spot of an item's place, or `None` if the place is `NOWHERE`.
     pub fn spot(&self, location: Location) -> Option<Spot<'_>>
         ensures none { IsNone result ↔ (location ≡ nowhere) }

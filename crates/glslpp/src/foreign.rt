@@ -1,0 +1,48 @@
+//! Options of other preprocessors that `glslpp` doesn't have.
+
+const NO_INCLUDE: &str = "glslpp has no #include";
+
+const NO_DEPENDENCIES: &str = "glslpp writes no dependencies, since it has no #include";
+
+const NO_VERSION: &str = "the version is that of the source's #version";
+
+const NO_WARNINGS: &str = "glslpp has no warnings";
+
+const NO_COMMENTS: &str = "glslpp keeps no comments";
+
+const NO_LIST: &str = "glslpp lists no definitions";
+
+const NO_COMPILER: &str = "glslpp only preprocesses";
+
+// The beginnings of options, and why they are refused.
+const REFUSALS: [(&str, &str); 19] = [
+    ("-I", NO_INCLUDE),
+    ("-include", NO_INCLUDE),
+    ("-imacros", NO_INCLUDE),
+    ("-iquote", NO_INCLUDE),
+    ("-isystem", NO_INCLUDE),
+    ("-idirafter", NO_INCLUDE),
+    ("-M", NO_DEPENDENCIES),
+    ("-std=", NO_VERSION),
+    ("--glsl-version", NO_VERSION),
+    ("-W", NO_WARNINGS),
+    ("-C", NO_COMMENTS),
+    ("-d", NO_LIST),
+    ("-c", NO_COMPILER),
+    ("-f", NO_COMPILER),
+    ("-g", NO_COMPILER),
+    ("-O", NO_COMPILER),
+    ("-x", NO_COMPILER),
+    ("--target-env", NO_COMPILER),
+    ("--target-spv", NO_COMPILER),
+];
+
+/// Returns why a word of the command line is refused, if it is an option of another preprocessor.
+pub fn refusal_of(word: &str) -> Option<&'static str> {
+    for (start, refusal) in REFUSALS {
+        if word.starts_with(start) {
+            return Some(refusal);
+        }
+    }
+    None
+}

@@ -1,0 +1,94 @@
+//! What is said of a source: messages with their places.
+
+ghost use Rattle.std.specs.Prelude.{◌≡◌};
+ghost use Rattle.glslpp_parts.specs.Reports.{name_of};
+
+use crate::outline::Define;
+use crate::place::Place;
+use crate::texts::Texts;
+use pp_rs::token::Location;
+
+/// How grave a message is.
+#[derive(Clone, Copy, PartialEq, Eq)]
+pub enum Severity {
+    /// The source isn't printed.
+    Error,
+    /// It belongs to the message before it.
+    Note,
+}
+
+impl Severity {
+    /// Its name in reports.
+    pub(crate) fn name(self) -> &'static str
+        ensures { result.now ≡ name_of self }
+    {
+        match self {
+            Severity::Error => "error",
+            Severity::Note => "note",
+        }
+    }
+}
+
+/// Where a message points.
+#[derive(Clone, Copy)]
+pub enum Site<'a> {
+    /// A place of the source, on this 1-based line, at this column in characters from 1.
+    InSource(u32, usize, Place<'a>),
+    /// A place of a definition of the command line, if it is known.
+    OnCommandLine(Option<Place<'a>>),
+    /// The whole file.
+    InFile,
+}
+
+impl<'a> Site<'a> {
+    /// The site of an item's place. It is looked up on its line alone.
+    pub(crate) fn of(texts: &'a Texts<'_>, location: Location) -> Site<'a> {
+        let Some(spot) = texts.spot(location) else {
+            return Site::InFile;
+        };
+        match Place::find(spot) {
+            found if !spot.is_in_source => Site::OnCommandLine(found),
+            Some(place) => Site::InSource(location.line, place.column(), place),
+            None => Site::InFile,
+        }
+    }
+
+    /// The site of the name of a definition in the source.
+    pub(crate) fn of_define(texts: &'a Texts<'_>, define: Define) -> Site<'a> {
+        match texts.spot(define.location).and_then(Place::find) {
+            Some(place) => Site::InSource(define.location.line, define.column, place),
+            None => Site::InFile,
+        }
+    }
+
+    /// The text that it points to, with its line.
+    pub(crate) fn place(self) -> Option<Place<'a>> {
+        match self {
+            Site::InSource(_, _, place) => Some(place),
+            Site::OnCommandLine(place) => place,
+            Site::InFile => None,
+        }
+    }
+}
+
+/// A message with its place, and what else is said of it.
+#[derive(Drop)]
+pub struct Diagnostic<'a> {
+    /// How grave it is.
+    pub severity: Severity,
+    /// What is said.
+    pub message: String,
+    /// Where it points.
+    pub site: Site<'a>,
+    /// What is said beside it.
+    pub note: Option<Note<'a>>,
+}
+
+/// What is said beside a message, with its place.
+#[derive(Clone, Copy)]
+pub struct Note<'a> {
+    /// What is said.
+    pub message: &'static str,
+    /// Where it points.
+    pub site: Site<'a>,
+}

@@ -1,0 +1,307 @@
+//! From errors to messages: the library's sentences, and what the source adds to them.
+
+ghost use Rattle.std.specs.Prelude.{◌-◌, ◌^◌, ◌<◌, IfOk, IfSome, length};
+ghost use Rattle.pp_rs.specs.Sentences.{sentence_of};
+ghost use Rattle.glslpp_parts.specs.Reports.{IsErrorMessage};
+
+use crate::diagnostic::{Diagnostic, Note, Severity, Site};
+use crate::outline::Outline;
+use crate::place::Place;
+use crate::quoting::{is_typographic_quote, push_char};
+use crate::search::{count_arguments, last_name};
+use crate::texts::Texts;
+use pp_rs::SOURCE_LIMIT;
+use pp_rs::token::{Location, PreprocessorError};
+use std::alloc::{AllocError, Global};
+
+/// The messages for the errors of one source. What it reads of the whole source it reads once, when it is first needed.
+#[derive(Drop)]
+pub struct Explainer<'a> {
+    alloc: Global,
+    source: &'a str,
+    texts: &'a Texts<'a>,
+    // The byte offsets in the source of characters that stand for bytes that aren't UTF-8.
+    replaced: &'a [usize],
+    outline: Option<Outline>,
+    ghost is_short: { length source.now < 2 ^ 32 - 1 },
+}
+
+impl<'a> Explainer<'a> {
+    /// The messages for the errors of a source, in which the characters at these byte offsets stand for bytes that
+    /// aren't UTF-8. `texts` has the same source.
+    pub fn new(
+        alloc: Global,
+        source: &'a str,
+        texts: &'a Texts<'a>,
+        replaced: &'a [usize],
+    ) -> Explainer<'a>
+        requires { length source.now < 2 ^ 32 - 1 }
+    {
+        Explainer {
+            alloc,
+            source,
+            texts,
+            replaced,
+            outline: None,
+        }
+    }
+
+    /// Returns the message for an error: the library's sentence, and what the source adds to it. It returns `None` if
+    /// the error only follows from another one: an `#elif`, `#else` or `#endif` without `#if`, before which an `#if`
+    /// with an error stands.
+    pub fn explain(
+        &mut self,
+        error: &PreprocessorError,
+        location: Location,
+    ) -> Result<Option<Diagnostic<'a>>, AllocError>
+        ensures { IfOk result (λ found. IfSome found (λ diagnostic.
+            IsErrorMessage (sentence_of error.now) diagnostic)) }
+    {
+        if self.is_consequence(error, location)? {
+            return Ok(None);
+        }
+        let site = Site::of(self.texts, cause_of(error, location));
+        let more = self.more(error, location, site)?;
+        let note = self.note_on(error, location, site)?;
+        let mut message = format!(in self.alloc; "{error}")?;
+        message.push_str(more.as_str())?;
+        Ok(Some(Diagnostic {
+            severity: Severity::Error,
+            message,
+            site,
+            note,
+        }))
+    }
+
+    // What the directives of the source say. They are read the first time.
+    fn outline(&mut self) -> Result<&Outline, AllocError> {
+        let outline = match self.outline.take() {
+            Some(outline) => outline,
+            None => Outline::of(self.alloc, self.source)?,
+        };
+        Ok(self.outline.insert(outline))
+    }
+
+    // Whether the error says that a block isn't open, and one is: its `#if` line has an error.
+    fn is_consequence(
+        &mut self,
+        error: &PreprocessorError,
+        location: Location,
+    ) -> Result<bool, AllocError> {
+        match error {
+            PreprocessorError::ElifOutsideOfBlock
+            | PreprocessorError::ElseOutsideOfBlock
+            | PreprocessorError::EndifOutsideOfBlock => {
+                Ok(!self.outline()?.is_stray(location.start))
+            }
+            _ => Ok(false),
+        }
+    }
+
+    // What follows the library's sentence: the text at its place, and what the author may have meant.
+    fn more(
+        &mut self,
+        error: &PreprocessorError,
+        location: Location,
+        site: Site<'_>,
+    ) -> Result<String, AllocError> {
+        let mut text = String::new(self.alloc);
+        let Some(place) = site.place() else {
+            return Ok(text);
+        };
+        match error {
+            PreprocessorError::ErrorDirective => push_reason(&mut text, place.behind.trim())?,
+            PreprocessorError::UnknownDirective => push_directive_name(&mut text, place.here)?,
+            PreprocessorError::UnexpectedHash if is_in_define(place.before) => {
+                text.push_str(": GLSL ES has no operators `#` and `##`")?;
+            }
+            PreprocessorError::UnexpectedCharacter if self.is_replaced(site) => {
+                text.push_str(": this byte isn't UTF-8")?;
+            }
+            PreprocessorError::UnexpectedCharacter => push_character(&mut text, place.here)?,
+            PreprocessorError::TooFewDefineArguments | PreprocessorError::TooManyDefineArguments => {
+                self.push_argument_counts(&mut text, location, place, error)?;
+            }
+            _ => {}
+        }
+        Ok(text)
+    }
+
+    // Whether a place is that of a byte that isn't UTF-8.
+    fn is_replaced(&self, site: Site<'_>) -> bool {
+        match site {
+            Site::InSource(_, _, place) => self.replaced.binary_search(&place.start).is_ok(),
+            Site::OnCommandLine(_) | Site::InFile => false,
+        }
+    }
+
+    // What is said beside an error: where the macro that is redefined has its other definition.
+    fn note_on(
+        &mut self,
+        error: &PreprocessorError,
+        location: Location,
+        site: Site<'_>,
+    ) -> Result<Option<Note<'a>>, AllocError> {
+        let (PreprocessorError::DefineRedefined, Some(place)) = (error, site.place()) else {
+            return Ok(None);
+        };
+        let site = match self.outline()?.last_define(place.here, location.start) {
+            Some(define) => Site::of_define(self.texts, define),
+            None => Site::OnCommandLine(None),
+        };
+        let message = "the previous definition is here";
+        Ok(Some(Note { message, site }))
+    }
+
+    // Appends the numbers of arguments and parameters of a call in which they differ, if the source shows them.
+    fn push_argument_counts(
+        &mut self,
+        text: &mut String,
+        location: Location,
+        place: Place<'_>,
+        error: &PreprocessorError,
+    ) -> Result<(), AllocError> {
+        let name = last_name(place.before);
+        let is_too_few = matches!(error, PreprocessorError::TooFewDefineArguments);
+        match self.argument_counts(location, name)? {
+            Some((wanted, given)) if wanted != given && (given < wanted) == is_too_few => {
+                let plural = if wanted == 1 { "" } else { "s" };
+                write!(
+                    text,
+                    ": `{name}` has {wanted} parameter{plural}, and the call gives {given}"
+                )
+            }
+            _ => Ok(()),
+        }
+    }
+
+    // How many parameters the macro has, and how many arguments the call has.
+    fn argument_counts(
+        &mut self,
+        location: Location,
+        name: &str,
+    ) -> Result<Option<(usize, usize)>, AllocError> {
+        let Some(define) = self.outline()?.last_define(name, location.start) else {
+            return Ok(None);
+        };
+        let Some(wanted) = define.parameters else {
+            return Ok(None);
+        };
+        let Some(call) = self.source.get(location.start as usize..) else {
+            return Ok(None);
+        };
+        if call.len() >= SOURCE_LIMIT {
+            return Ok(None);
+        }
+        Ok(match count_arguments(self.alloc, call) {
+            Some(given) => Some((wanted, given)),
+            None => None,
+        })
+    }
+}
+
+// The place of an error's cause: of a character that GLSL doesn't have that character alone, without what the lexer
+// took with it.
+fn cause_of(error: &PreprocessorError, location: Location) -> Location {
+    match error {
+        PreprocessorError::UnexpectedCharacter => Location {
+            end: location.start,
+            ..location
+        },
+        _ => location,
+    }
+}
+
+fn push_reason(text: &mut String, reason: &str) -> Result<(), AllocError> {
+    if reason.is_empty() {
+        return Ok(());
+    }
+    write!(text, ": {reason}")
+}
+
+// Whether a line begins like a `#define`.
+fn is_in_define(before: &str) -> bool {
+    match before.trim_start().strip_prefix('#') {
+        Some(rest) => rest.trim_start().starts_with("define"),
+        None => false,
+    }
+}
+
+fn push_character(text: &mut String, here: &str) -> Result<(), AllocError> {
+    let Some(c) = here.chars().next() else {
+        return Ok(());
+    };
+    text.push(' ')?;
+    push_char(text, c)?;
+    if c == '"' {
+        text.push_str(": GLSL has no strings")
+    } else if is_typographic_quote(c) {
+        text.push_str(", a typographic quote, which GLSL doesn't have")
+    } else {
+        Ok(())
+    }
+}
+
+// The names of the directives.
+const DIRECTIVES: [&str; 13] = [
+    "define",
+    "undef",
+    "ifdef",
+    "ifndef",
+    "elif",
+    "else",
+    "endif",
+    "error",
+    "pragma",
+    "extension",
+    "version",
+    "line",
+    "if",
+];
+
+fn push_directive_name(text: &mut String, name: &str) -> Result<(), AllocError> {
+    write!(text, " `#{name}`")?;
+    if name == "include" {
+        return text.push_str(", which glslpp doesn't have");
+    }
+    match near_directive(name) {
+        Some(near) => write!(text, ", did you mean `#{near}`?"),
+        None => Ok(()),
+    }
+}
+
+// The directive whose name differs from this one by a typing error.
+fn near_directive(name: &str) -> Option<&'static str> {
+    for directive in DIRECTIVES {
+        if is_near(name.as_bytes(), directive.as_bytes()) {
+            return Some(directive);
+        }
+    }
+    None
+}
+
+// Whether one character is too many, missing or different, or two neighbours are swapped.
+fn is_near(a: &[u8], b: &[u8]) -> bool {
+    let same = same_start(a, b);
+    let (Some(a), Some(b)) = (a.get(same..), b.get(same..)) else {
+        return false;
+    };
+    match (a, b) {
+        ([_, a @ ..], [_, b @ ..]) if a == b => true,
+        ([x, y, a @ ..], [v, w, b @ ..]) if x == w && y == v && a == b => true,
+        ([_, a @ ..], _) if a == b => true,
+        (_, [_, b @ ..]) if a == b => true,
+        _ => false,
+    }
+}
+
+// The number of equal bytes at the start of two texts.
+fn same_start(a: &[u8], b: &[u8]) -> usize {
+    let shorter = a.len().min(b.len());
+    for index in 0..shorter {
+        if a[index] != b[index] {
+            return index;
+        }
+    }
+    shorter
+}

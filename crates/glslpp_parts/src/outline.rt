@@ -1,0 +1,169 @@
+//! The directives of a source, in live and dead text, for messages.
+
+ghost use Rattle.std.specs.Prelude.{◌-◌, ◌^◌, ◌<◌, length};
+
+use crate::columns::Columns;
+use pp_rs::lexer::{Lexer, Token, TokenValue};
+use pp_rs::token::{Location, PreprocessorError, Punct};
+use std::alloc::{AllocError, Global};
+use std::collections::BTreeMap;
+
+/// A `#define` of a source.
+#[derive(Clone, Copy)]
+pub(crate) struct Define {
+    /// The place of its name.
+    pub location: Location,
+    /// The column of its name, in characters from 1.
+    pub column: usize,
+    /// How many parameters it has, or `None` if it has no `(`.
+    pub parameters: Option<usize>,
+}
+
+/// The directives of a source.
+#[derive(Drop)]
+pub(crate) struct Outline {
+    // In the order of the source.
+    defines: Vec<Define>,
+    // For each name the indices of its definitions, rising.
+    by_name: BTreeMap<String, Vec<usize>>,
+    // The byte offsets of the words `elif`, `else` and `endif` of the lines before which no block is open.
+    strays: Vec<u32>,
+}
+
+impl Outline {
+    /// The directives of this source.
+    pub(crate) fn of(alloc: Global, source: &str) -> Result<Outline, AllocError>
+        requires { length source.now < 2 ^ 32 - 1 }
+    {
+        let mut lexer = Lexer::new(alloc, source);
+        let mut reader = Reader::new(alloc, source);
+        'tokens: while let Some(item) = lexer.next() {
+            match item {
+                Ok(token) => reader.take(&token)?,
+                Err((PreprocessorError::OutOfMemory, _)) => return Err(AllocError),
+                Err((_error, _)) => {}
+            }
+        }
+        Ok(reader.outline)
+    }
+
+    /// The last definition of a name before this byte offset.
+    pub(crate) fn last_define(&self, name: &str, before: u32) -> Option<Define> {
+        let indices = self.by_name.get(name)?;
+        let defines = self.defines.as_slice();
+        let count = indices
+            .as_slice()
+            .partition_point(|index| match defines.get(*index) {
+                Some(define) => define.location.start < before,
+                None => false,
+            });
+        let last = indices.as_slice().get(count.checked_sub(1)?)?;
+        defines.get(*last).copied()
+    }
+
+    /// Whether no block is open before the `#elif`, `#else` or `#endif` whose word begins at this byte offset.
+    pub(crate) fn is_stray(&self, start: u32) -> bool {
+        self.strays.as_slice().binary_search(&start).is_ok()
+    }
+}
+
+/// How far a line was read.
+#[derive(Clone, Copy)]
+enum Stage {
+    /// Its directive, if it has one, is none that counts here, or was read whole.
+    Text,
+    /// Up to the `#`.
+    Hash,
+    /// Up to the word `define`.
+    Define,
+    /// Up to the name of a definition.
+    Name,
+    /// Into the parameters of a definition.
+    Parameters,
+}
+
+/// The outline of what was read of a source.
+#[derive(Drop)]
+struct Reader<'a> {
+    alloc: Global,
+    columns: Columns<'a>,
+    stage: Stage,
+    // How many blocks are open.
+    open: usize,
+    outline: Outline,
+}
+
+impl<'a> Reader<'a> {
+    fn new(alloc: Global, source: &'a str) -> Reader<'a> {
+        Reader {
+            alloc,
+            columns: Columns::new(source),
+            stage: Stage::Text,
+            open: 0,
+            outline: Outline {
+                defines: Vec::new(alloc),
+                by_name: BTreeMap::new(alloc),
+                strays: Vec::new(alloc),
+            },
+        }
+    }
+
+    fn take(&mut self, token: &Token) -> Result<(), AllocError> {
+        self.stage = match (self.stage, &token.value) {
+            (_, TokenValue::Hash) if token.start_of_line => Stage::Hash,
+            (Stage::Hash, TokenValue::Ident(word)) => {
+                self.take_directive(word.as_str(), token.location)?
+            }
+            (Stage::Define, TokenValue::Ident(name)) => {
+                self.push_define(name.as_str(), token.location)?;
+                Stage::Name
+            }
+            (Stage::Name, TokenValue::Punct(Punct::LeftParen)) if !token.leading_whitespace => {
+                self.count_parameters(0);
+                Stage::Parameters
+            }
+            (Stage::Parameters, TokenValue::Ident(_)) => {
+                self.count_parameters(1);
+                Stage::Parameters
+            }
+            (Stage::Parameters, TokenValue::Punct(Punct::Comma)) => Stage::Parameters,
+            _ => Stage::Text,
+        };
+        Ok(())
+    }
+
+    // Takes the word of a directive.
+    fn take_directive(&mut self, word: &str, place: Location) -> Result<Stage, AllocError> {
+        match word {
+            "define" => return Ok(Stage::Define),
+            "if" | "ifdef" | "ifndef" => self.open = self.open.saturating_add(1),
+            "elif" | "else" | "endif" if self.open == 0 => {
+                self.outline.strays.push(place.start)?;
+            }
+            "endif" => self.open = self.open.saturating_sub(1),
+            _ => {}
+        }
+        Ok(Stage::Text)
+    }
+
+    fn push_define(&mut self, name: &str, location: Location) -> Result<(), AllocError> {
+        let index = self.outline.defines.len();
+        let column = self.columns.column(location.start as usize);
+        self.outline.defines.push(Define {
+            location,
+            column,
+            parameters: None,
+        })?;
+        let name = String::from_str(self.alloc, name)?;
+        let entry = self.outline.by_name.entry(name)?;
+        entry.or_insert(Vec::new(self.alloc)).push(index)?;
+        Ok(())
+    }
+
+    fn count_parameters(&mut self, more: usize) {
+        if let Some(define) = self.outline.defines.last_mut() {
+            let before = define.parameters.unwrap_or(0);
+            define.parameters = Some(before.saturating_add(more));
+        }
+    }
+}

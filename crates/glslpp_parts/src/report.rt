@@ -1,0 +1,160 @@
+//! Messages as compilers print them.
+
+ghost use Rattle.std.specs.Prelude.{◌≡◌, ◌++◌, OnOk, string_bytes};
+ghost use Rattle.glslpp_parts.specs.Reports.{bold, colour, ended, severity_text, IsReported, IsSaid};
+ghost use Rattle.glslpp_parts.specs.inner.Adding.{IsLonger, IsPlaced};
+
+use crate::diagnostic::{Diagnostic, Severity, Site};
+use crate::excerpt::Excerpt;
+use crate::json;
+use crate::place::Place;
+use std::alloc::AllocError;
+
+/// What a message has instead of a file and a line, if its place is in a definition of the command line.
+pub(crate) const COMMAND_LINE: &str = "<command line>";
+
+/// How messages are written.
+#[derive(Clone, Copy)]
+pub enum Style {
+    /// Text alone.
+    Plain,
+    /// Text with the colours of a terminal.
+    Coloured,
+    /// An object of JSON a line.
+    Json,
+}
+
+impl Style {
+    fn bold(self) -> &'static str
+        ensures { result.now ≡ bold self }
+    {
+        match self {
+            Style::Plain | Style::Json => "",
+            Style::Coloured => "\x1b[1m",
+        }
+    }
+
+    fn colour(self, severity: Severity) -> &'static str
+        ensures { result.now ≡ colour self severity }
+    {
+        match (self, severity) {
+            (Style::Plain | Style::Json, _) => "",
+            (Style::Coloured, Severity::Error) => "\x1b[1;31m",
+            (Style::Coloured, Severity::Note) => "\x1b[1;36m",
+        }
+    }
+
+    fn end(self) -> &'static str
+        ensures { result.now ≡ ended self }
+    {
+        match self {
+            Style::Plain | Style::Json => "",
+            Style::Coloured => "\x1b[0m",
+        }
+    }
+}
+
+/// What all messages on one file have in common.
+#[derive(Clone, Copy)]
+pub struct Reporter<'a> {
+    /// How they are written.
+    pub style: Style,
+    /// The name of the file.
+    pub file: &'a str,
+}
+
+impl<'a> Reporter<'a> {
+    /// Appends a message: `file:line:column: error: message`, its line with a caret under the place, and its note in
+    /// the same form; or an object of JSON on a line.
+    pub fn push(&self, text: &mut String, diagnostic: &Diagnostic<'_>) -> Result<(), AllocError>
+        ensures { OnOk result (IsSaid self.now.style self.now.file.now diagnostic.now.severity
+            (string_bytes diagnostic.now.message) (string_bytes text.old) (string_bytes text.new)) }
+    {
+        match self.style {
+            Style::Json => json::push_diagnostic(text, self.file, diagnostic),
+            Style::Plain | Style::Coloured => self.push_report(text, diagnostic),
+        }
+    }
+
+    // Appends a message and its note as text.
+    fn push_report(&self, text: &mut String, diagnostic: &Diagnostic<'_>) -> Result<(), AllocError>
+        ensures { OnOk result (IsReported self.now.style self.now.file.now diagnostic.now.severity
+            (string_bytes diagnostic.now.message) (string_bytes text.old) (string_bytes text.new)) }
+    {
+        let message = diagnostic.message.as_str();
+        self.push_lines(text, diagnostic.severity, message, diagnostic.site)?;
+        match diagnostic.note {
+            Some(note) => self.push_lines(text, Severity::Note, note.message, note.site),
+            None => Ok(()),
+        }
+    }
+
+    // Appends a message with its place, and the line of the place with a caret.
+    fn push_lines(
+        &self,
+        text: &mut String,
+        severity: Severity,
+        message: &str,
+        site: Site<'_>,
+    ) -> Result<(), AllocError>
+        ensures { OnOk result (IsReported self.now.style self.now.file.now severity message.now
+            (string_bytes text.old) (string_bytes text.new)) }
+    {
+        self.push_bold(text)?;
+        self.push_place(text, site)?;
+        self.push_severity(text, severity)?;
+        writeln!(text, "{message}")?;
+        self.push_excerpt(text, severity, site.place())
+    }
+
+    // Appends the name of a place.
+    fn push_place(&self, text: &mut String, site: Site<'_>) -> Result<(), AllocError>
+        ensures { OnOk result (IsPlaced self.now.file.now (string_bytes text.old) (string_bytes text.new)) }
+    {
+        match site {
+            Site::InSource(line, column, _) => write!(text, "{}:{line}:{column}: ", self.file),
+            Site::OnCommandLine(_) => write!(text, "{COMMAND_LINE}: "),
+            Site::InFile => write!(text, "{}: ", self.file),
+        }
+    }
+
+    // Appends the line of a place, and a caret under the place.
+    fn push_excerpt(
+        &self,
+        text: &mut String,
+        severity: Severity,
+        place: Option<Place<'_>>,
+    ) -> Result<(), AllocError>
+        ensures { OnOk result (IsLonger (string_bytes text.old) (string_bytes text.new)) }
+    {
+        let Some(place) = place else {
+            return Ok(());
+        };
+        let excerpt = Excerpt::of(place);
+        excerpt.push_text(text)?;
+        excerpt.push_blanks(text)?;
+        text.push_str(self.style.colour(severity))?;
+        excerpt.push_caret(text)?;
+        writeln!(text, "{}", self.style.end())
+    }
+
+    fn push_bold(&self, text: &mut String) -> Result<(), AllocError>
+        ensures { OnOk result (string_bytes text.new ≡ string_bytes text.old ++ bold self.now.style) }
+    {
+        text.push_str(self.style.bold())
+    }
+
+    fn push_severity(&self, text: &mut String, severity: Severity) -> Result<(), AllocError>
+        ensures { OnOk result (string_bytes text.new
+            ≡ string_bytes text.old ++ severity_text self.now.style severity) }
+    {
+        let style = self.style;
+        write!(
+            text,
+            "{}{}: {}",
+            style.colour(severity),
+            severity.name(),
+            style.end()
+        )
+    }
+}
