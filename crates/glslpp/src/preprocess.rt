@@ -181,6 +181,7 @@ impl<'a> Run<'a> {
         let diagnostic = Diagnostic {
             severity: Severity::Note,
             message: format!(in self.alloc; "{rest} more error{plural}: `--max-errors 0` reports all")?,
+            is_of_cause: false,
             site: Site::InFile,
             note: None,
         };

@@ -1,5 +1,5 @@
 -- Errors as compilers print them.
-use Rattle.std.specs.Prelude.{◌≡◌, ◌⊎◌, ℕ, List, [], ◌∷◌, ◌++◌, codes, string_bytes}
+use Rattle.std.specs.Prelude.{◌≡◌, ◌⊎◌, ℕ, false, List, [], ◌∷◌, ◌++◌, codes, string_bytes}
 use Rattle.std.specs.Fmt.{decimal}
 use Rattle.glslpp_parts.specs.declared.report.Style.{Style}
 use Rattle.glslpp_parts.specs.declared.report.Style.TheVariants.{Plain, Coloured, Json}
@@ -55,8 +55,8 @@ IsSaid Plain file severity message old new = IsReported Plain file severity mess
 IsSaid Coloured file severity message old new = IsReported Coloured file severity message old new
 IsSaid Json file severity message old new = IsItem old new
 
--- the message for an error of the library: an error, whose text begins with this sentence
+-- the message for an error of the library: an error, whose text begins with this sentence, unless the source shows the
+-- cause, and the message says it
 pub record IsErrorMessage (sentence : List ℕ) (diagnostic : Diagnostic) : Type 0 where
-  pub more : List ℕ
-  pub begins : string_bytes diagnostic.message ≡ sentence ++ more
+  pub begins : diagnostic.is_of_cause ≡ false → (more : List ℕ) × (string_bytes diagnostic.message ≡ sentence ++ more)
   pub severity : diagnostic.severity ≡ Error

@@ -78,6 +78,8 @@ pub struct Diagnostic<'a> {
     pub severity: Severity,
     /// What is said.
     pub message: String,
+    /// Whether the source shows the cause, so that the message says it in place of the library's sentence.
+    pub is_of_cause: bool,
     /// Where it points.
     pub site: Site<'a>,
     /// What is said beside it.

@@ -4,15 +4,21 @@ ghost use Rattle.std.specs.Prelude.{◌-◌, ◌^◌, ◌<◌, IfOk, IfSome, len
 ghost use Rattle.pp_rs.specs.Sentences.{sentence_of};
 ghost use Rattle.glslpp_parts.specs.Reports.{IsErrorMessage};
 
+use crate::causes::{
+    Cause, of_integer, of_unexpected_token, of_unfinished_expression, only_operator,
+};
 use crate::diagnostic::{Diagnostic, Note, Severity, Site};
+use crate::directive_line::DirectiveLine;
 use crate::outline::Outline;
 use crate::place::Place;
 use crate::quoting::{is_typographic_quote, push_char};
 use crate::search::{count_arguments, last_name};
 use crate::texts::Texts;
 use pp_rs::SOURCE_LIMIT;
-use pp_rs::token::{Location, PreprocessorError};
+use pp_rs::token::{Location, PreprocessorError, Punct};
 use std::alloc::{AllocError, Global};
+
+const DEFINED_HERE: &str = "the macro is defined here";
 
 /// The messages for the errors of one source. What it reads of the whole source it reads once, when it is first needed.
 #[derive(Drop)]
@@ -60,17 +66,112 @@ impl<'a> Explainer<'a> {
         if self.is_consequence(error, location)? {
             return Ok(None);
         }
+        let severity = Severity::Error;
         let site = Site::of(self.texts, cause_of(error, location));
+        if let Some(cause) = self.cause(error, location, site)? {
+            return Ok(Some(Diagnostic {
+                severity,
+                message: cause.message,
+                is_of_cause: true,
+                site: cause.site,
+                note: cause.note,
+            }));
+        }
         let more = self.more(error, location, site)?;
-        let note = self.note_on(error, location, site)?;
+        let note = self.note_on_call(error, location, site)?;
         let mut message = format!(in self.alloc; "{error}")?;
         message.push_str(more.as_str())?;
         Ok(Some(Diagnostic {
-            severity: Severity::Error,
+            severity,
             message,
+            is_of_cause: false,
             site,
             note,
         }))
+    }
+
+    // What caused an error, if the source shows it.
+    fn cause(
+        &mut self,
+        error: &PreprocessorError,
+        location: Location,
+        site: Site<'a>,
+    ) -> Result<Option<Cause<'a>>, AllocError> {
+        let Some(place) = site.place() else {
+            return Ok(None);
+        };
+        let line = DirectiveLine::of(self.alloc, site)?;
+        let message = match (error, &line) {
+            (PreprocessorError::UnexpectedEndOfInput, Some(line)) if line.has_expression() => {
+                return of_unfinished_expression(self.alloc, line, site);
+            }
+            (PreprocessorError::UnexpectedEndOfInput, _) => return self.unterminated_call(),
+            (PreprocessorError::DefineRedefined, _) => {
+                return self.redefinition(location, site, place.here);
+            }
+            (PreprocessorError::DivisionByZero, Some(line)) => {
+                return self.division(error, line, Punct::Slash);
+            }
+            (PreprocessorError::RemainderByZero, Some(line)) => {
+                return self.division(error, line, Punct::Percent);
+            }
+            (PreprocessorError::UnexpectedToken(_), Some(line)) => {
+                of_unexpected_token(self.alloc, line, place)?
+            }
+            (PreprocessorError::UnexpectedNewLine, Some(line)) => {
+                Some(format!(in self.alloc; "no macro name in `#{}`", line.word())?)
+            }
+            (PreprocessorError::IntegerOverflow, _) => of_integer(self.alloc, place.here)?,
+            _ => None,
+        };
+        Ok(match message {
+            Some(message) => Some(Cause::new(message, site)),
+            None => None,
+        })
+    }
+
+    // The macro call of the source that doesn't end.
+    fn unterminated_call(&mut self) -> Result<Option<Cause<'a>>, AllocError> {
+        let Some(location) = self.outline()?.unterminated() else {
+            return Ok(None);
+        };
+        let site = Site::of(self.texts, location);
+        let name = site.place().map_or("", |place| place.here);
+        let message = format!(in self.alloc; "unterminated call of macro `{name}`")?;
+        let mut cause = Cause::new(message, site);
+        cause.note = self.note_on_macro(name, location, DEFINED_HERE)?;
+        Ok(Some(cause))
+    }
+
+    // A macro that is defined again.
+    fn redefinition(
+        &mut self,
+        location: Location,
+        site: Site<'a>,
+        name: &str,
+    ) -> Result<Option<Cause<'a>>, AllocError> {
+        let message = format!(in self.alloc; "macro `{name}` redefined")?;
+        let mut cause = Cause::new(message, site);
+        let note = self.note_on_macro(name, location, "the previous definition is here")?;
+        cause.note = Some(note.unwrap_or(Note {
+            message: "the previous definition is here",
+            site: Site::OnCommandLine(None),
+        }));
+        Ok(Some(cause))
+    }
+
+    // The operator that divides by zero, if the line has only one of its kind.
+    fn division(
+        &mut self,
+        error: &PreprocessorError,
+        line: &DirectiveLine<'a>,
+        punct: Punct,
+    ) -> Result<Option<Cause<'a>>, AllocError> {
+        let Some(operator) = only_operator(line, punct) else {
+            return Ok(None);
+        };
+        let message = format!(in self.alloc; "{error}")?;
+        Ok(Some(Cause::new(message, line.site_of(operator))))
     }
 
     // What the directives of the source say. They are read the first time.
@@ -115,10 +216,15 @@ impl<'a> Explainer<'a> {
             PreprocessorError::UnexpectedHash if is_in_define(place.before) => {
                 text.push_str(": GLSL ES has no operators `#` and `##`")?;
             }
+            PreprocessorError::UnexpectedHash if !place.before.trim().is_empty() => {
+                text.push_str(": a directive begins its line")?;
+            }
             PreprocessorError::UnexpectedCharacter if self.is_replaced(site) => {
                 text.push_str(": this byte isn't UTF-8")?;
             }
-            PreprocessorError::UnexpectedCharacter => push_character(&mut text, place.here)?,
+            PreprocessorError::UnexpectedCharacter => {
+                push_character(&mut text, place.here, place.behind)?;
+            }
             PreprocessorError::TooFewDefineArguments | PreprocessorError::TooManyDefineArguments => {
                 self.push_argument_counts(&mut text, location, place, error)?;
             }
@@ -135,22 +241,37 @@ impl<'a> Explainer<'a> {
         }
     }
 
-    // What is said beside an error: where the macro that is redefined has its other definition.
-    fn note_on(
+    // What is said beside a call with too few or too many arguments: where its macro is defined.
+    fn note_on_call(
         &mut self,
         error: &PreprocessorError,
         location: Location,
         site: Site<'_>,
     ) -> Result<Option<Note<'a>>, AllocError> {
-        let (PreprocessorError::DefineRedefined, Some(place)) = (error, site.place()) else {
-            return Ok(None);
-        };
-        let site = match self.outline()?.last_define(place.here, location.start) {
-            Some(define) => Site::of_define(self.texts, define),
-            None => Site::OnCommandLine(None),
-        };
-        let message = "the previous definition is here";
-        Ok(Some(Note { message, site }))
+        match (error, site.place()) {
+            (
+                PreprocessorError::TooFewDefineArguments | PreprocessorError::TooManyDefineArguments,
+                Some(place),
+            ) => self.note_on_macro(last_name(place.before), location, DEFINED_HERE),
+            _ => Ok(None),
+        }
+    }
+
+    // Where the macro with this name is defined before a place of the source, with this message.
+    fn note_on_macro(
+        &mut self,
+        name: &str,
+        location: Location,
+        message: &'static str,
+    ) -> Result<Option<Note<'a>>, AllocError> {
+        let texts = self.texts;
+        Ok(match self.outline()?.last_define(name, location.start) {
+            Some(define) => Some(Note {
+                message,
+                site: Site::of_define(texts, define),
+            }),
+            None => None,
+        })
     }
 
     // Appends the numbers of arguments and parameters of a call in which they differ, if the source shows them.
@@ -205,7 +326,7 @@ impl<'a> Explainer<'a> {
 fn cause_of(error: &PreprocessorError, location: Location) -> Location {
     match error {
         PreprocessorError::UnexpectedCharacter => Location {
-            end: location.start,
+            end: location.start.saturating_add(1),
             ..location
         },
         _ => location,
@@ -227,7 +348,7 @@ fn is_in_define(before: &str) -> bool {
     }
 }
 
-fn push_character(text: &mut String, here: &str) -> Result<(), AllocError> {
+fn push_character(text: &mut String, here: &str, behind: &str) -> Result<(), AllocError> {
     let Some(c) = here.chars().next() else {
         return Ok(());
     };
@@ -235,6 +356,10 @@ fn push_character(text: &mut String, here: &str) -> Result<(), AllocError> {
     push_char(text, c)?;
     if c == '"' {
         text.push_str(": GLSL has no strings")
+    } else if c == '\'' {
+        text.push_str(": GLSL has no characters in quotes")
+    } else if c == '\\' && !behind.is_empty() && behind.trim().is_empty() {
+        text.push_str(": backslash and newline separated by space")
     } else if is_typographic_quote(c) {
         text.push_str(", a typographic quote, which GLSL doesn't have")
     } else {

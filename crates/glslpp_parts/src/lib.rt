@@ -3,10 +3,12 @@
 #![tactic(auto)]
 
 pub mod arguments;
+mod causes;
 pub mod changes;
 mod columns;
 pub mod definitions;
 pub mod diagnostic;
+mod directive_line;
 mod directive_text;
 mod excerpt;
 pub mod explainer;

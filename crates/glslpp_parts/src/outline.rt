@@ -28,6 +28,8 @@ pub(crate) struct Outline {
     by_name: BTreeMap<String, Vec<usize>>,
     // The byte offsets of the words `elif`, `else` and `endif` of the lines before which no block is open.
     strays: Vec<u32>,
+    // The place of the name in the first macro call that doesn't end.
+    unterminated: Option<Location>,
 }
 
 impl Outline {
@@ -44,7 +46,14 @@ impl Outline {
                 Err((_error, _)) => {}
             }
         }
-        Ok(reader.outline)
+        let mut outline = reader.outline;
+        outline.unterminated = reader.calls.iter().find_map(|name| *name);
+        Ok(outline)
+    }
+
+    /// The place of the name in the first macro call of the source that doesn't end.
+    pub(crate) fn unterminated(&self) -> Option<Location> {
+        self.unterminated
     }
 
     /// The last definition of a name before this byte offset.
@@ -90,6 +99,11 @@ struct Reader<'a> {
     stage: Stage,
     // How many blocks are open.
     open: usize,
+    is_in_directive: bool,
+    // The name of a macro with parameters, if the last token is one.
+    name: Option<Location>,
+    // For each parenthesis of the text that is open the name of the macro that is called by it, if one is.
+    calls: Vec<Option<Location>>,
     outline: Outline,
 }
 
@@ -100,15 +114,25 @@ impl<'a> Reader<'a> {
             columns: Columns::new(source),
             stage: Stage::Text,
             open: 0,
+            is_in_directive: false,
+            name: None,
+            calls: Vec::new(alloc),
             outline: Outline {
                 defines: Vec::new(alloc),
                 by_name: BTreeMap::new(alloc),
                 strays: Vec::new(alloc),
+                unterminated: None,
             },
         }
     }
 
     fn take(&mut self, token: &Token) -> Result<(), AllocError> {
+        match token.value {
+            TokenValue::Hash if token.start_of_line => self.is_in_directive = true,
+            TokenValue::NewLine => self.is_in_directive = false,
+            _ if !self.is_in_directive => self.take_text(token)?,
+            _ => {}
+        }
         self.stage = match (self.stage, &token.value) {
             (_, TokenValue::Hash) if token.start_of_line => Stage::Hash,
             (Stage::Hash, TokenValue::Ident(word)) => {
@@ -130,6 +154,32 @@ impl<'a> Reader<'a> {
             _ => Stage::Text,
         };
         Ok(())
+    }
+
+    // Takes a token that isn't on the line of a directive.
+    fn take_text(&mut self, token: &Token) -> Result<(), AllocError> {
+        let called = self.name.take();
+        match &token.value {
+            TokenValue::Ident(name) => {
+                if self.is_with_parameters(name.as_str(), token.location.start) {
+                    self.name = Some(token.location);
+                }
+            }
+            TokenValue::Punct(Punct::LeftParen) => self.calls.push(called)?,
+            TokenValue::Punct(Punct::RightParen) => {
+                self.calls.pop();
+            }
+            _ => {}
+        }
+        Ok(())
+    }
+
+    // Whether the last definition of a name before this byte offset has parameters.
+    fn is_with_parameters(&self, name: &str, before: u32) -> bool {
+        match self.outline.last_define(name, before) {
+            Some(define) => define.parameters.is_some(),
+            None => false,
+        }
     }
 
     // Takes the word of a directive.

@@ -98,17 +98,17 @@ impl<'a> Texts<'a> {
             → IsSpotOf spot self.now.contents (location.start - self.now.blanks)
             (location.end - self.now.blanks)) }
     {
-        if location == NOWHERE {
-            return None;
-        }
         let (start, end) = (location.start as usize, location.end as usize);
-        if location.line > 1 || start < self.blanks {
+        if location.line > 1 || start < self.blanks && location != NOWHERE {
             return Some(Spot {
                 text: self.source,
                 start,
                 end,
                 is_in_source: true,
             });
+        }
+        if location == NOWHERE {
+            return None;
         }
         Some(Spot {
             text: self.contents.as_str(),

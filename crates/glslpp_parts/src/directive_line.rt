@@ -1,0 +1,149 @@
+//! The line of a directive, token by token, for messages.
+
+ghost use Rattle.std.specs.Prelude.{◌-◌, ◌^◌, ◌<◌, length};
+
+use crate::columns::column_at;
+use crate::diagnostic::Site;
+use crate::place::Place;
+use pp_rs::SOURCE_LIMIT;
+use pp_rs::lexer::{Lexer, Token, TokenValue};
+use pp_rs::token::{PreprocessorError, Punct};
+use std::alloc::{AllocError, Global};
+
+/// A line of the source that begins with `#`.
+#[derive(Drop)]
+pub(crate) struct DirectiveLine<'a> {
+    // The text that it is in, and its byte offset there.
+    whole: &'a str,
+    offset: usize,
+    // Its number, from 1.
+    number: u32,
+    text: &'a str,
+    // Its tokens but for the `#`, up to its end.
+    tokens: Vec<Token>,
+}
+
+impl<'a> DirectiveLine<'a> {
+    /// The line of a place of the source, or `None` if no directive is there.
+    pub(crate) fn of(alloc: Global, site: Site<'a>) -> Result<Option<DirectiveLine<'a>>, AllocError> {
+        let Site::InSource(number, _, place) = site else {
+            return Ok(None);
+        };
+        let offset = place.start.saturating_sub(place.before.len());
+        let length = place.before.len().saturating_add(place.here.len());
+        let end = offset.saturating_add(length).saturating_add(place.behind.len());
+        let text = place.text.get(offset..end).unwrap_or("");
+        if !text.trim_start().starts_with('#') || text.len() >= SOURCE_LIMIT {
+            return Ok(None);
+        }
+        Ok(Some(DirectiveLine {
+            whole: place.text,
+            offset,
+            number,
+            text,
+            tokens: tokens_of(alloc, text)?,
+        }))
+    }
+
+    /// The word of the directive, such as `if`.
+    pub(crate) fn word(&self) -> &str {
+        match self.tokens.first() {
+            Some(token) => name_of(token).unwrap_or(""),
+            None => "",
+        }
+    }
+
+    /// Whether it is an `#if` or an `#elif`.
+    pub(crate) fn has_expression(&self) -> bool {
+        matches!(self.word(), "if" | "elif")
+    }
+
+    /// The tokens after the word.
+    pub(crate) fn tokens(&self) -> &[Token] {
+        self.tokens.as_slice().get(1..).unwrap_or(&[])
+    }
+
+    /// The index among these of the token at a place.
+    pub(crate) fn index_of(&self, place: Place<'_>) -> Option<usize> {
+        self.tokens()
+            .iter()
+            .position(|token| self.start_of(token) == place.start)
+    }
+
+    // The byte offset at which a token begins in the text that the line is in.
+    fn start_of(&self, token: &Token) -> usize {
+        self.offset.saturating_add(token.location.start as usize)
+    }
+
+    /// The text of a token.
+    pub(crate) fn text_of(&self, token: &Token) -> &'a str {
+        let (start, end) = (token.location.start as usize, token.location.end as usize);
+        self.text.get(start..end).unwrap_or("")
+    }
+
+    /// The site of a token of the line.
+    pub(crate) fn site_of(&self, token: &Token) -> Site<'a> {
+        self.site(token.location.start as usize, token.location.end as usize)
+    }
+
+    /// The site of the end of the line's last token.
+    pub(crate) fn end_site(&self) -> Site<'a> {
+        let end = match self.tokens.last() {
+            Some(token) => token.location.end as usize,
+            None => self.text.len(),
+        };
+        self.site(end, end)
+    }
+
+    fn site(&self, start: usize, end: usize) -> Site<'a> {
+        let place = Place {
+            text: self.whole,
+            start: self.offset.saturating_add(start),
+            before: self.text.get(..start).unwrap_or(""),
+            here: self.text.get(start..end).unwrap_or(""),
+            behind: self.text.get(end..).unwrap_or(""),
+        };
+        Site::InSource(self.number, column_at(self.whole, place.start), place)
+    }
+}
+
+// The tokens of a directive after its `#`.
+fn tokens_of(alloc: Global, text: &str) -> Result<Vec<Token>, AllocError>
+    requires { length text.now < 2 ^ 32 - 1 }
+{
+    let mut lexer = Lexer::new(alloc, text);
+    let mut tokens = Vec::new(alloc);
+    'tokens: while let Some(item) = lexer.next() {
+        match item {
+            Ok(token) if is_of_directive(&token) => tokens.push(token)?,
+            Ok(_token) => {}
+            Err((PreprocessorError::OutOfMemory, _)) => return Err(AllocError),
+            Err((_error, _)) => return Ok(tokens),
+        }
+    }
+    Ok(tokens)
+}
+
+fn is_of_directive(token: &Token) -> bool {
+    match token.value {
+        TokenValue::Hash => !token.start_of_line,
+        TokenValue::NewLine => false,
+        _ => true,
+    }
+}
+
+/// The name that a token is.
+pub(crate) fn name_of(token: &Token) -> Option<&str> {
+    match &token.value {
+        TokenValue::Ident(name) => Some(name.as_str()),
+        _ => None,
+    }
+}
+
+/// Whether a token is this punctuator.
+pub(crate) fn is_punct(token: &Token, punct: Punct) -> bool {
+    match token.value {
+        TokenValue::Punct(other) => other == punct,
+        _ => false,
+    }
+}
