@@ -1,0 +1,26 @@
+# Completion of glslpp in fish. share/generate writes this file from `glslpp --help`.
+
+# The files that have the name of a source, and folders; if there are none, all files.
+function __glslpp_sources
+    set -l files (complete -C "'' "(commandline -ct))
+    string match -r -- '.*(?:\.(?:vert|frag|comp|geom|tesc|tese|mesh|task|rgen|rint|rahit|rchit|rmiss|rcall|glsl|vs|fs|gs|cs|tcs|tes|vsh|fsh|gsh|csh)|/)$' $files
+    or printf '%s\n' $files
+end
+
+complete -c glslpp -f -a '(__glslpp_sources)'
+complete -c glslpp -s D -x -d 'Define a macro before the source, as 1 if no content is given'
+complete -c glslpp -s U -x -d 'Take back each -D of the name before it, or a name of GLSL\'s own'
+complete -c glslpp -s o -r -F -d 'Write to the file, if no source has an error'
+complete -c glslpp -s P -d 'Print each run of tokens as one line'
+complete -c glslpp -l tokens -d 'Print the items as JSON, one a line'
+complete -c glslpp -l directives -d 'Print the #version, #extension and #pragma lines alone'
+complete -c glslpp -l first-error -d 'End at the first error'
+complete -c glslpp -l undef -d 'Define no name of GLSL\'s own'
+complete -c glslpp -l max-errors -x -d 'Report at most N errors of a source, 0 for all, 20 if it isn\'t given'
+complete -c glslpp -l error-format -x -a 'text json' -d 'Write messages on a source as text, or as JSON, one a line'
+complete -c glslpp -l color -x -a 'auto always never' -d 'Use colours in messages'
+complete -c glslpp -l stdin-name -x -d 'Call the standard input so in messages'
+complete -c glslpp -s E -d 'Do nothing, as -E of a compiler is what this is'
+complete -c glslpp -s S -x -d 'Do nothing, since no stage is told apart'
+complete -c glslpp -s h -l help -d 'Print help'
+complete -c glslpp -s V -l version -d 'Print version'
