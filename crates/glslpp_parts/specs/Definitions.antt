@@ -1,5 +1,6 @@
 -- How the definitions before a source are checked and added.
-use Rattle.std.specs.Prelude.{◌≡◌, ℕ, ◌-◌, ◌^◌, ◌<◌, false, List, [], ◌∷◌, length, Ok, ⊤}
+use Rattle.std.specs.Prelude.{◌≡◌, ℕ, Bool, ◌-◌, ◌^◌, ◌<◌, ◌||◌, false, List, [], ◌∷◌, length, Ok, ⊤, codes, nat_eq}
+use Rattle.std.specs.Cmp.Lexicographic.{pointwise}
 use Rattle.std.specs.List.{list_any}
 use Rattle.std.specs.Str.{chars}
 use Rattle.pp_lexer.specs.Lines.{is_line_break}
@@ -19,14 +20,22 @@ pub record IsName (text : List ℕ) : Type 0 where
   pub short : length text < 2 ^ 32 - 1
   pub read : IsReadAs (Ident (chars text)) text
 
+-- a name whose meaning no definition may change: GLSL ES 3.20, section 3.4
+abbrev pub is_builtin : List ℕ → Bool
+is_builtin text = pointwise nat_eq text (codes "__LINE__") || pointwise nat_eq text (codes "defined")
+
+-- a name that a definition may have
+abbrev pub IsFreeName : List ℕ → Type 0
+IsFreeName text = (is_builtin text ≡ false) × IsName text
+
 -- the content has no line break
 abbrev pub IsOneLine : List ℕ → Type 0
 IsOneLine content = list_any is_line_break content ≡ false
 
--- a `-D` of a name with a content without line breaks, or a `-U` of a name
+-- a `-D` of a free name with a content without line breaks, or a `-U` of a free name
 abbrev pub IsDefinable : Change → Type 0
-IsDefinable (Define name content) = IsName name.now × IsOneLine content.now
-IsDefinable (Undefine name) = IsName name.now
+IsDefinable (Define name content) = IsFreeName name.now × IsOneLine content.now
+IsDefinable (Undefine name) = IsFreeName name.now
 
 -- the failure isn't that memory ran out
 abbrev pub IsTold : Failure → Type 0

@@ -3,7 +3,7 @@
 ghost use Rattle.std.specs.Prelude.{◌≡◌, All, Any, IsTrue, ◌↔◌, OnOk, IfOk, IfErr};
 ghost use Rattle.std.specs.List.{list_any};
 ghost use Rattle.pp_lexer.specs.Lines.{is_line_break};
-ghost use Rattle.glslpp_parts.specs.Definitions.{IsName, IsOneLine, IsDefinable, IsTold, IsWithDefinition, AreAdded};
+ghost use Rattle.glslpp_parts.specs.Definitions.{IsName, IsFreeName, is_builtin, IsOneLine, IsDefinable, IsTold, IsWithDefinition, AreAdded};
 
 use crate::changes::{Change, Definition};
 use crate::columns::is_line_end_byte;
@@ -42,9 +42,12 @@ fn check_change(alloc: Global, change: Change<'_>) -> Result<(), Failure>
 }
 
 fn check_name(alloc: Global, option: &str, name: &str) -> Result<(), Failure>
-    ensures ok { OnOk result (IsName name.now) }
-    ensures told { IfErr result (λ failure. IsTold failure → ¬ IsName name.now) }
+    ensures ok { OnOk result (IsFreeName name.now) }
+    ensures told { IfErr result (λ failure. IsTold failure → ¬ IsFreeName name.now) }
 {
+    if is_builtin(name) {
+        return Err(refused_builtin(alloc, option, name));
+    }
     if is_name(alloc, name)? {
         return Ok(());
     }
@@ -54,6 +57,25 @@ fn check_name(alloc: Global, option: &str, name: &str) -> Result<(), Failure>
         "this is no name"
     };
     Err(refusal(alloc, option, name, cause))
+}
+
+// Whether a name has a meaning that no definition may change (GLSL ES 3.20, 3.4).
+fn is_builtin(name: &str) -> bool
+    ensures { result ≡ is_builtin name.now }
+{
+    name == "__LINE__" || name == "defined"
+}
+
+fn refused_builtin(alloc: Global, option: &str, name: &str) -> Failure {
+    let verb = if option == "-U" {
+        "undefined"
+    } else {
+        "defined"
+    };
+    match format!(in alloc; "`{name}` can't be {verb}") {
+        Ok(cause) => refusal(alloc, option, name, cause.as_str()),
+        Err(_) => Failure::OutOfMemory,
+    }
 }
 
 fn check_content(alloc: Global, name: &str, content: &str) -> Result<(), Failure>
