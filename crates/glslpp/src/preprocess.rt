@@ -164,7 +164,7 @@ impl<'a> Run<'a> {
         };
         self.errors = self.errors.saturating_add(1);
         self.output
-            .push_error(self.texts, &error, location, diagnostic.message.as_str())?;
+            .push_error(self.texts, error.name(), location, diagnostic.message.as_str())?;
         if self.errors <= self.most_reports {
             self.reporter.push(&mut self.reports, &diagnostic)?;
         }

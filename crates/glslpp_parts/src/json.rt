@@ -1,7 +1,6 @@
 //! Items as JSON, one a line.
 
 ghost use Rattle.std.specs.Prelude.{OnOk, string_bytes};
-ghost use Rattle.pp_rs.specs.PreprocessorError.{name_of};
 ghost use Rattle.glslpp_parts.specs.Output.{IsItem, IsErrorItem};
 ghost use Rattle.glslpp_parts.specs.inner.Adding.{IsLonger};
 
@@ -10,7 +9,7 @@ use crate::diagnostic::{Diagnostic, Note, Site};
 use crate::place::first_byte;
 use crate::report::COMMAND_LINE;
 use crate::texts::Spot;
-use pp_rs::token::{Location, PreprocessorError, TokenValue};
+use pp_rs::token::{Location, TokenValue};
 use std::alloc::AllocError;
 
 /// Appends a token: its kind and text, its place and, if a macro gave it, the line of the macro's
@@ -63,14 +62,13 @@ fn push_number(output: &mut String, value: &TokenValue) -> Result<(), AllocError
 pub(crate) fn push_error(
     output: &mut String,
     columns: &mut Columns<'_>,
-    error: &PreprocessorError,
+    name: &str,
     spot: Option<Spot<'_>>,
     location: Location,
     message: &str,
 ) -> Result<(), AllocError>
-    ensures { OnOk result (IsErrorItem (name_of error.now) (string_bytes output.old) (string_bytes output.new)) }
+    ensures { OnOk result (IsErrorItem name.now (string_bytes output.old) (string_bytes output.new)) }
 {
-    let name = error.name();
     write!(
         output,
         "{{\"kind\":\"error\",\"error\":\"{name}\",\"message\":"
@@ -103,11 +101,7 @@ fn push_message(output: &mut String, message: &str) -> Result<(), AllocError>
     push_string(output, message)
 }
 
-fn push_notes(
-    output: &mut String,
-    file: &str,
-    note: Option<Note<'_>>,
-) -> Result<(), AllocError>
+fn push_notes(output: &mut String, file: &str, note: Option<Note<'_>>) -> Result<(), AllocError>
     ensures { OnOk result (IsLonger (string_bytes output.old) (string_bytes output.new)) }
 {
     output.push_str(",\"notes\":[")?;
@@ -132,7 +126,10 @@ fn push_site(output: &mut String, file: &str, site: Site<'_>) -> Result<(), Allo
     push_string(output, name)?;
     if let Site::InSource(line, column, place) = site {
         let length = place.here.chars().count();
-        write!(output, ",\"line\":{line},\"column\":{column},\"length\":{length}")?;
+        write!(
+            output,
+            ",\"line\":{line},\"column\":{column},\"length\":{length}"
+        )?;
     }
     output.push(',')
 }

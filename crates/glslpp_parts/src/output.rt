@@ -1,7 +1,6 @@
 //! The output of a source, in each form.
 
 ghost use Rattle.std.specs.Prelude.{◌≡◌, ◌≢◌, ◌⊎◌, [], false, None, IsTrue, OnOk, IfOk, string_bytes, unwrap_or};
-ghost use Rattle.pp_rs.specs.PreprocessorError.{name_of};
 ghost use Rattle.pp_rs.specs.TokenValue.{is_ordinary};
 ghost use Rattle.glslpp_parts.specs.Layout.{finished};
 ghost use Rattle.glslpp_parts.specs.Output.{is_closing, PutsWord, PutsDirective, Puts, PutsError, IsItem};
@@ -13,7 +12,7 @@ use crate::json;
 use crate::layout::{Gap, Layout};
 use crate::texts::{Spot, Texts};
 use crate::words::{compact_word, made_word, written_word};
-use pp_rs::token::{Location, PreprocessorError, Punct, Token, TokenValue};
+use pp_rs::token::{Location, Punct, Token, TokenValue};
 use std::alloc::{AllocError, Global};
 use std::marker::Model;
 
@@ -203,16 +202,16 @@ impl<'a> Output<'a> {
         }
     }
 
-    /// Takes an error, which is an item of the output if items are printed.
+    /// Takes an error with this name, which is an item of the output if items are printed.
     pub fn push_error(
         &mut self,
         texts: &Texts<'_>,
-        error: &PreprocessorError,
+        name: &str,
         location: Location,
         message: &str,
     ) -> Result<(), AllocError>
         ensures same { self.new ≡ record self.old { items = self.new.items } }
-        ensures puts { OnOk result (PutsError self.old.form (name_of error.now) self.old.items self.new.items) }
+        ensures puts { OnOk result (PutsError self.old.form name.now self.old.items self.new.items) }
     {
         if self.form != Form::Tokens {
             return Ok(());
@@ -221,7 +220,7 @@ impl<'a> Output<'a> {
         json::push_error(
             &mut self.lines,
             &mut self.columns,
-            error,
+            name,
             spot,
             location,
             message,

@@ -1,6 +1,5 @@
-use Rattle.std.proofs.Common.{codes, string_bytes}
+use Rattle.std.proofs.Common.{codes, refl, string_bytes}
 use Rattle.std.proofs.lemmas.Result.{on_ok_weaker}
-use Rattle.pp_rs.specs.PreprocessorError.{name_of}
 use Rattle.glslpp_parts.proofs.ItemsLemmas.{pushed, longer_more, error_item_of}
 use Rattle.glslpp_parts.proofs.json.push_error.Goals as goal
 
@@ -9,4 +8,4 @@ returns c =
     let longer = longer_more _ _ _ (c.in_ok-push_string.ensures {u = tt}) (c.in_ok-push_place.ensures {u = tt}) in
     on_ok_weaker c.push_str.result
     (λ g. error_item_of (string_bytes c.args.output.now) (string_bytes c.write.new.self) _ (string_bytes c.push_str.new.self) longer g
-    (name_of c.args.error.now) c.name-name.result.now (codes "\"message\":") c.name-name.ensures c.in_ok-write.ensures.bytes) (pushed c.push_str.result _ _ _ c.push_str.ensures.bytes)
+    c.args.name.now c.args.name.now (codes "\"message\":") refl c.in_ok-write.ensures.bytes) (pushed c.push_str.result _ _ _ c.push_str.ensures.bytes)
