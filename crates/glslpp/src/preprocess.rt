@@ -1,13 +1,15 @@
-//! One source: its output and the messages on its errors.
+//! One source: its output and the messages on it.
 
 ghost use Rattle.std.specs.Prelude.{◌≡◌, ℕ, ◌-◌, ◌^◌, ◌<◌, ◌≤◌, List, [], ◌++◌, OnOk, length, string_bytes};
 
 use glslpp_parts::arguments::Arguments;
 use glslpp_parts::changes::kept_definitions;
+use glslpp_parts::comment_check::open_comment;
 use glslpp_parts::definitions::add_definitions;
 use glslpp_parts::diagnostic::{Diagnostic, Severity, Site};
 use glslpp_parts::explainer::Explainer;
 use glslpp_parts::failure::Failure;
+use glslpp_parts::fault::{Fault, FaultFinder};
 use glslpp_parts::output::Output;
 use glslpp_parts::report::Reporter;
 use glslpp_parts::texts::Texts;
@@ -39,7 +41,7 @@ impl Found {
 }
 
 /// Preprocesses a source, in which the characters at some byte offsets stand for bytes that aren't UTF-8, and returns
-/// the messages on its errors.
+/// the messages on it.
 pub fn preprocess(
     alloc: Global,
     reporter: Reporter<'_>,
@@ -59,7 +61,7 @@ pub fn preprocess(
     let explainer = Explainer::new(alloc, source, &texts, replaced);
     let mut run = Run::new(alloc, reporter, arguments, &texts, explainer);
     run.read(&mut items)?;
-    run.push_rest()?;
+    run.end()?;
     let output = run.output.finish()?;
     found.output.push_str(output.as_str())?;
     found.errors = found.errors.saturating_add(run.errors);
@@ -87,6 +89,10 @@ struct Run<'a> {
     reports: String,
     errors: usize,
     fault_line: Option<FaultLine>,
+    // The errors that the library lets pass.
+    finder: FaultFinder<'a>,
+    // The byte offset of the source after the last word that no macro gave.
+    end: u32,
 }
 
 impl<'a> Run<'a> {
@@ -108,6 +114,8 @@ impl<'a> Run<'a> {
             reports: String::new(alloc),
             errors: 0,
             fault_line: None,
+            finder: FaultFinder::new(alloc, texts),
+            end: 0,
         }
     }
 
@@ -123,17 +131,25 @@ impl<'a> Run<'a> {
                 Err((error, _)) => {
                     let place = items.place();
                     self.take_error(error, place)?;
-                    if self.is_first_error_alone && self.errors > 0 {
-                        break 'items;
-                    }
                 }
+            }
+            if self.is_over() {
+                break 'items;
             }
         }
         Ok(())
     }
 
+    // Whether nothing more is to be said: only the first error is, and it was.
+    fn is_over(&self) -> bool {
+        self.is_first_error_alone && self.errors > 0
+    }
+
     // Takes a token, unless it is on the line of the last error.
     fn take_token(&mut self, token: Token, call_line: Option<u32>) -> Result<(), AllocError> {
+        if call_line.is_none() {
+            self.end = token.location.end;
+        }
         let line = call_line.unwrap_or(token.location.line);
         let here = FaultLine {
             is_in_source: true,
@@ -142,7 +158,18 @@ impl<'a> Run<'a> {
         if self.fault_line == Some(here) {
             return Ok(());
         }
+        if !token.is_ordinary()
+            && let Some(fault) = self.finder.fault_of(&token)?
+        {
+            self.fault_line = Some(here);
+            return self.push_fault(&fault);
+        }
         self.output.push_token(self.texts, &token, call_line)
+    }
+
+    // Takes an error that the library let pass.
+    fn push_fault(&mut self, fault: &Fault<'_>) -> Result<(), AllocError> {
+        self.push_error(fault.kind.name(), fault.location, &fault.diagnostic)
     }
 
     // Takes an error, unless it is on the line of the last one or only follows from another.
@@ -162,13 +189,40 @@ impl<'a> Run<'a> {
         let Some(diagnostic) = self.explainer.explain(&error, location)? else {
             return Ok(());
         };
+        self.push_error(error.name(), location, &diagnostic)
+    }
+
+    // Takes an error with this name.
+    fn push_error(
+        &mut self,
+        name: &str,
+        location: Location,
+        diagnostic: &Diagnostic<'_>,
+    ) -> Result<(), AllocError> {
+        let message = diagnostic.message.as_str();
+        self.output.push_error(self.texts, name, location, message)?;
+        self.say(diagnostic)
+    }
+
+    // Says an error, unless it is one too many.
+    fn say(&mut self, diagnostic: &Diagnostic<'_>) -> Result<(), AllocError> {
         self.errors = self.errors.saturating_add(1);
-        self.output
-            .push_error(self.texts, error.name(), location, diagnostic.message.as_str())?;
-        if self.errors <= self.most_reports {
-            self.reporter.push(&mut self.reports, &diagnostic)?;
+        if self.errors > self.most_reports {
+            return Ok(());
         }
-        Ok(())
+        self.reporter.push(&mut self.reports, diagnostic)
+    }
+
+    // Says what is left to be said at the end of the source.
+    fn end(&mut self) -> Result<(), AllocError> {
+        let texts = self.texts;
+        if !self.is_over()
+            && let Some(location) = open_comment(texts.source, self.end as usize)
+        {
+            let fault = self.finder.unterminated_comment(location)?;
+            self.push_fault(&fault)?;
+        }
+        self.push_rest()
     }
 
     // Says how many errors are not reported, if there are any.
@@ -180,7 +234,9 @@ impl<'a> Run<'a> {
         let plural = if rest == 1 { "" } else { "s" };
         let diagnostic = Diagnostic {
             severity: Severity::Note,
-            message: format!(in self.alloc; "{rest} more error{plural}: `--max-errors 0` reports all")?,
+            message: format!(in self.alloc;
+                "{rest} more error{plural}: `--max-errors 0` reports all"
+            )?,
             is_of_cause: false,
             site: Site::InFile,
             note: None,

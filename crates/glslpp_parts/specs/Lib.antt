@@ -2,7 +2,9 @@ pub mod Asked
 pub mod Changes
 pub mod Columns
 pub mod Definitions
+pub mod Editions
 pub mod Failures
+pub mod Faults
 pub mod Layout
 pub mod Options
 pub mod Output

@@ -405,8 +405,8 @@ fn near_directive(name: &str) -> Option<&'static str> {
     None
 }
 
-// Whether one character is too many, missing or different, or two neighbours are swapped.
-fn is_near(a: &[u8], b: &[u8]) -> bool {
+/// Whether one character is too many, missing or different, or two neighbours are swapped.
+pub(crate) fn is_near(a: &[u8], b: &[u8]) -> bool {
     let same = same_start(a, b);
     let (Some(a), Some(b)) = (a.get(same..), b.get(same..)) else {
         return false;
