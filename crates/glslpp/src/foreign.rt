@@ -6,8 +6,6 @@ const NO_DEPENDENCIES: &str = "glslpp writes no dependencies, since it has no #i
 
 const NO_VERSION: &str = "the version is that of the source's #version";
 
-const NO_WARNINGS: &str = "glslpp has no warnings";
-
 const NO_COMMENTS: &str = "glslpp keeps no comments";
 
 const NO_LIST: &str = "glslpp lists no definitions";
@@ -15,7 +13,7 @@ const NO_LIST: &str = "glslpp lists no definitions";
 const NO_COMPILER: &str = "glslpp only preprocesses";
 
 // The beginnings of options, and why they are refused.
-const REFUSALS: [(&str, &str); 19] = [
+const REFUSALS: [(&str, &str); 18] = [
     ("-I", NO_INCLUDE),
     ("-include", NO_INCLUDE),
     ("-imacros", NO_INCLUDE),
@@ -25,7 +23,6 @@ const REFUSALS: [(&str, &str); 19] = [
     ("-M", NO_DEPENDENCIES),
     ("-std=", NO_VERSION),
     ("--glsl-version", NO_VERSION),
-    ("-W", NO_WARNINGS),
     ("-C", NO_COMMENTS),
     ("-d", NO_LIST),
     ("-c", NO_COMPILER),

@@ -12,6 +12,7 @@ use glslpp_parts::definitions::check_changes;
 use glslpp_parts::failure::{Failure, failure_of};
 use glslpp_parts::report::{Reporter, Style};
 use glslpp_parts::source::Source;
+use glslpp_parts::warning::check_warnings;
 use preprocess::{Found, preprocess};
 use std::io::IsTerminal;
 use std::process::ExitCode;
@@ -78,6 +79,7 @@ fn refuse_foreign(rt: &HostRuntime, words: &[String]) -> Result<(), Failure> {
 fn preprocess_files(rt: &HostRuntime, matches: &ArgMatches<'_>) -> Result<u8, Failure> {
     let arguments = Arguments::from_matches(rt.alloc(), matches)?;
     check_changes(rt.alloc(), arguments.changes.as_slice())?;
+    check_warnings(rt.alloc(), arguments.warning_words.as_slice())?;
     check_output(rt, &arguments)?;
     let mut found = Found::new(rt.alloc());
     for file in arguments.files.as_slice() {

@@ -10,10 +10,12 @@ use glslpp_parts::diagnostic::{Diagnostic, Severity, Site};
 use glslpp_parts::explainer::Explainer;
 use glslpp_parts::failure::Failure;
 use glslpp_parts::fault::{Fault, FaultFinder};
+use glslpp_parts::inspection::inspect;
 use glslpp_parts::output::Output;
 use glslpp_parts::report::Reporter;
 use glslpp_parts::texts::Texts;
 use glslpp_parts::version::declared_version;
+use glslpp_parts::warning::Warnings;
 use pp_rs::pp::Preprocessor;
 use pp_rs::token::{Location, PreprocessorError, Token};
 use std::alloc::{AllocError, Global};
@@ -59,13 +61,27 @@ pub fn preprocess(
     let mut items = Preprocessor::new(alloc, source);
     define(alloc, arguments, source, &mut items, &mut texts)?;
     let explainer = Explainer::new(alloc, source, &texts, replaced);
-    let mut run = Run::new(alloc, reporter, arguments, &texts, explainer);
+    let findings = findings_backwards(alloc, source, arguments.warnings)?;
+    let mut run = Run::new(alloc, reporter, arguments, &texts, explainer, findings);
     run.read(&mut items)?;
     run.end()?;
     let output = run.output.finish()?;
     found.output.push_str(output.as_str())?;
     found.errors = found.errors.saturating_add(run.errors);
     Ok(run.reports)
+}
+
+// What the warnings find in a source, from its end to its start.
+fn findings_backwards<'a>(
+    alloc: Global,
+    source: &'a str,
+    warnings: Warnings,
+) -> Result<Vec<Diagnostic<'a>>, AllocError>
+    requires { length source.now < 2 ^ 32 - 1 }
+{
+    let mut findings = inspect(alloc, source, warnings)?;
+    findings.reverse();
+    Ok(findings)
 }
 
 // The line of the last error.
@@ -89,8 +105,12 @@ struct Run<'a> {
     reports: String,
     errors: usize,
     fault_line: Option<FaultLine>,
+    // The byte offset of the last error in the source.
+    fault_start: Option<usize>,
     // The errors that the library lets pass.
     finder: FaultFinder<'a>,
+    // What the warnings found and wasn't said yet, from the end of the source to its start.
+    findings: Vec<Diagnostic<'a>>,
     // The byte offset of the source after the last word that no macro gave.
     end: u32,
 }
@@ -102,6 +122,7 @@ impl<'a> Run<'a> {
         arguments: &Arguments<'_>,
         texts: &'a Texts<'a>,
         explainer: Explainer<'a>,
+        findings: Vec<Diagnostic<'a>>,
     ) -> Run<'a> {
         Run {
             alloc,
@@ -114,7 +135,9 @@ impl<'a> Run<'a> {
             reports: String::new(alloc),
             errors: 0,
             fault_line: None,
+            fault_start: None,
             finder: FaultFinder::new(alloc, texts),
+            findings,
             end: 0,
         }
     }
@@ -192,23 +215,55 @@ impl<'a> Run<'a> {
         self.push_error(error.name(), location, &diagnostic)
     }
 
-    // Takes an error with this name.
+    // Takes an error with this name, after what the warnings found before its line.
     fn push_error(
         &mut self,
         name: &str,
         location: Location,
         diagnostic: &Diagnostic<'_>,
     ) -> Result<(), AllocError> {
+        if let Some(line) = diagnostic.site.line() {
+            self.say_findings_before(line)?;
+        }
+        if self.is_over() {
+            return Ok(());
+        }
+        self.fault_start = diagnostic.site.start();
         let message = diagnostic.message.as_str();
         self.output.push_error(self.texts, name, location, message)?;
         self.say(diagnostic)
     }
 
-    // Says an error, unless it is one too many.
-    fn say(&mut self, diagnostic: &Diagnostic<'_>) -> Result<(), AllocError> {
-        self.errors = self.errors.saturating_add(1);
-        if self.errors > self.most_reports {
+    // Says what the warnings found before a line.
+    fn say_findings_before(&mut self, line: u32) -> Result<(), AllocError> {
+        for _ in 0..self.findings.len() {
+            match self.findings.last() {
+                Some(finding) if is_before(finding, line) => {}
+                _ => return Ok(()),
+            }
+            if let Some(finding) = self.findings.pop() {
+                self.say_finding(&finding)?;
+            }
+        }
+        Ok(())
+    }
+
+    // Says what a warning found, unless it is at the place of the last error.
+    fn say_finding(&mut self, finding: &Diagnostic<'_>) -> Result<(), AllocError> {
+        let start = finding.site.start();
+        if self.is_over() || (start.is_some() && start == self.fault_start) {
             return Ok(());
+        }
+        self.say(finding)
+    }
+
+    // Says a message, unless it is one error too many.
+    fn say(&mut self, diagnostic: &Diagnostic<'_>) -> Result<(), AllocError> {
+        if diagnostic.severity == Severity::Error {
+            self.errors = self.errors.saturating_add(1);
+            if self.errors > self.most_reports {
+                return Ok(());
+            }
         }
         self.reporter.push(&mut self.reports, diagnostic)
     }
@@ -222,6 +277,7 @@ impl<'a> Run<'a> {
             let fault = self.finder.unterminated_comment(location)?;
             self.push_fault(&fault)?;
         }
+        self.say_findings_before(u32::MAX)?;
         self.push_rest()
     }
 
@@ -242,6 +298,14 @@ impl<'a> Run<'a> {
             note: None,
         };
         self.reporter.push(&mut self.reports, &diagnostic)
+    }
+}
+
+// Whether a message is on a line before this one.
+fn is_before(diagnostic: &Diagnostic<'_>, line: u32) -> bool {
+    match diagnostic.site.line() {
+        Some(other) => other < line,
+        None => true,
     }
 }
 

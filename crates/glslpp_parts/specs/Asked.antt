@@ -7,6 +7,8 @@ use Rattle.clap.specs.Words.{first_value}
 use Rattle.glslpp_parts.specs.declared.arguments.Colours.{Colours}
 use Rattle.glslpp_parts.specs.declared.arguments.Colours.TheVariants.{Auto, Always, Never}
 use Rattle.glslpp_parts.specs.declared.arguments.Form.{Form}
+use Rattle.glslpp_parts.specs.declared.warning.Warnings.{Warnings}
+use Rattle.glslpp_parts.specs.Warnings.{warnings_of}
 use Rattle.glslpp_parts.specs.declared.arguments.Form.TheVariants.{Lines, Compact, Tokens, Directives}
 
 -- the words that an argument was given, in order
@@ -48,6 +50,12 @@ pub record AreColours (found : Found) (colours : Colours) : Type 0 where
   pub always : first_value found (codes "color") ≡ Some (codes "always") → colours ≡ Always
   pub never : first_value found (codes "color") ≡ Some (codes "never") → colours ≡ Never
   pub none : first_value found (codes "color") ≡ None → colours ≡ Auto
+
+-- the warnings that the words after `-W` ask for, if `-w` isn't given
+pub record AreWarnings (found : Found) (warnings : Warnings) : Type 0 where
+  pub silent : Bool
+  pub is_silent : IsFlag found (codes "silent") silent
+  pub are : warnings ≡ warnings_of (words_of found (codes "warning")) silent
 
 -- the files, or `-` for the standard input if none is named
 abbrev pub files_or_input : List (List ℕ) → List (List ℕ)

@@ -13,4 +13,5 @@ pub mod Reports
 pub mod Spots
 pub mod Texts
 pub mod Version
+pub mod Warnings
 pub mod inner

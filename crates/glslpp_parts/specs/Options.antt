@@ -52,10 +52,15 @@ abbrev pub message_options : List Known
 message_options = long_valued (codes "max-errors") ∷ long_valued (codes "error-format")
     ∷ long_valued (codes "color") ∷ long_valued (codes "stdin-name") ∷ []
 
+-- `-W` and `-w`
+abbrev pub warning_options : List Known
+warning_options = lettered (codes "warning") 87 Append ∷ lettered (codes "silent") 119 SetTrue ∷ []
+
 -- those of other preprocessors: `-E` and `-S`
 abbrev pub foreign : List Known
 foreign = lettered (codes "only") 69 SetTrue ∷ lettered (codes "stage") 83 Append ∷ []
 
 -- all of them, and the files
 abbrev pub options : List Known
-options = value_options ++ forms ++ flags ++ message_options ++ foreign ++ nameless (codes "files") Append ∷ []
+options = value_options ++ forms ++ flags ++ message_options ++ warning_options ++ foreign
+    ++ nameless (codes "files") Append ∷ []

@@ -5,7 +5,7 @@ use Rattle.glslpp_parts.specs.declared.report.Style.{Style}
 use Rattle.glslpp_parts.specs.declared.report.Style.TheVariants.{Plain, Coloured, Json}
 use Rattle.glslpp_parts.specs.declared.diagnostic.Diagnostic.{Diagnostic}
 use Rattle.glslpp_parts.specs.declared.diagnostic.Severity.{Severity}
-use Rattle.glslpp_parts.specs.declared.diagnostic.Severity.TheVariants.{Error, Note}
+use Rattle.glslpp_parts.specs.declared.diagnostic.Severity.TheVariants.{Error, Warning, Note}
 use Rattle.glslpp_parts.specs.Output.{IsItem}
 
 -- a terminal reads ESC, byte 27, and `[` with a code as a colour
@@ -18,6 +18,7 @@ abbrev pub colour : Style → Severity → List ℕ
 colour Plain severity = []
 colour Json severity = []
 colour Coloured Error = 27 ∷ codes "[1;31m"
+colour Coloured Warning = 27 ∷ codes "[1;35m"
 colour Coloured Note = 27 ∷ codes "[1;36m"
 
 abbrev pub ended : Style → List ℕ
@@ -27,9 +28,10 @@ ended Coloured = 27 ∷ codes "[0m"
 
 abbrev pub name_of : Severity → List ℕ
 name_of Error = codes "error"
+name_of Warning = codes "warning"
 name_of Note = codes "note"
 
--- `error: ` or `note: `, in its colour
+-- `error: `, `warning: ` or `note: `, in its colour
 abbrev pub severity_text : Style → Severity → List ℕ
 severity_text style severity = colour style severity ++ name_of severity ++ codes ": " ++ ended style
 

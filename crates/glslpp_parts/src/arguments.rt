@@ -3,12 +3,14 @@
 ghost use Rattle.std.specs.Prelude.{◌≡◌, ◌≤◌, ◌++◌, ◌∷◌, [], false, IfOk, codes, length, map, not, option_map, unwrap_or};
 ghost use Rattle.clap.specs.Words.{first_value, found_of, rule_of};
 ghost use Rattle.clap.specs.declared.builder.action.ArgAction.TheVariants.{Append, Set, SetTrue};
-ghost use Rattle.glslpp_parts.specs.Asked.{AreColours, IsAsked, IsFlag, IsForm, IsLimit, files_or_input, words_of};
+ghost use Rattle.glslpp_parts.specs.Asked.{AreColours, AreWarnings, IsAsked, IsFlag, IsForm, IsLimit, files_or_input, words_of};
 ghost use Rattle.glslpp_parts.specs.Options.{options, options_of, value_options, forms, flags, foreign, known_of};
 ghost use Rattle.glslpp_parts.specs.Options.{lettered, long_valued, message_options, named, nameless};
 ghost use Rattle.glslpp_parts.specs.inner.Adding.{IsOption};
 
 use crate::changes::Change;
+use crate::warning::Warnings;
+use crate::warning_options::with_warning_options;
 use clap::builder::ValueParser;
 use clap::{Arg, ArgAction, ArgMatches, Command};
 use std::alloc::{AllocError, Global};
@@ -65,6 +67,10 @@ pub struct Arguments<'a> {
     pub has_json_errors: bool,
     /// Whether messages have colours.
     pub colours: Colours,
+    /// The words after `-W`.
+    pub warning_words: Vec<&'a str>,
+    /// The warnings that are on.
+    pub warnings: Warnings,
     /// The name of the standard input in messages.
     pub standard_input_name: &'a str,
     /// The files to read: [`STANDARD_INPUT`] if none is named.
@@ -79,7 +85,8 @@ pub fn command<'a>(alloc: Global) -> Result<Command<'a>, clap::Error>
     let with_forms = with_forms(alloc, with_values)?;
     let with_flags = with_flags(alloc, with_forms)?;
     let with_messages = with_message_options(alloc, with_flags)?;
-    let with_foreign = with_foreign_options(alloc, with_messages)?;
+    let with_warnings = with_warning_options(alloc, with_messages)?;
+    let with_foreign = with_foreign_options(alloc, with_warnings)?;
     let whole = with_option(with_foreign, files_argument(alloc))?;
     Ok(whole)
 }
@@ -95,8 +102,11 @@ fn bare_command<'a>(alloc: Global) -> Command<'a>
         .after_help(AFTER_HELP)
 }
 
-// Adds an option.
-fn with_option<'a>(command: Command<'a>, option: Arg<'a>) -> Result<Command<'a>, AllocError>
+/// Adds an option.
+pub(crate) fn with_option<'a>(
+    command: Command<'a>,
+    option: Arg<'a>,
+) -> Result<Command<'a>, AllocError>
     requires { option.global ≡ false }
     ensures { IfOk result (λ new. options_of new
         ≡ options_of command.entry ++ known_of (rule_of option.entry) ∷ []) }
@@ -259,8 +269,8 @@ const ONLY_HELP: &str = "Do nothing, as -E of a compiler is what this is";
 
 const STAGE_HELP: &str = "Do nothing, since no stage is told apart";
 
-// An option that may be repeated.
-fn definition_option<'a>(
+/// An option that may be repeated.
+pub(crate) fn definition_option<'a>(
     alloc: Global,
     id: &'a str,
     short: char,
@@ -294,7 +304,8 @@ fn long_flag<'a>(alloc: Global, id: &'a str, help: &'a str) -> Arg<'a>
     flag(alloc, id, help).long(id)
 }
 
-fn short_flag<'a>(alloc: Global, id: &'a str, short: char, help: &'a str) -> Arg<'a>
+/// A flag with a letter.
+pub(crate) fn short_flag<'a>(alloc: Global, id: &'a str, short: char, help: &'a str) -> Arg<'a>
     ensures { IsOption result (lettered id.now short SetTrue) }
 {
     flag(alloc, id, help).short(short)
@@ -333,11 +344,16 @@ impl<'a> Arguments<'a> {
         ensures json_errors { IfOk result (λ asked. IsAsked (found_of matches.now)
             (codes "error-format") (codes "json") asked.has_json_errors) }
         ensures colours { IfOk result (λ asked. AreColours (found_of matches.now) asked.colours) }
+        ensures warning_words { IfOk result (λ asked. map (λ word. word.now) asked.warning_words.items
+            ≡ words_of (found_of matches.now) (codes "warning")) }
+        ensures warnings { IfOk result (λ asked. AreWarnings (found_of matches.now) asked.warnings) }
         ensures standard_input_name { IfOk result (λ asked. asked.standard_input_name.now
             ≡ unwrap_or (first_value (found_of matches.now) (codes "stdin-name")) (codes "<stdin>")) }
         ensures files { IfOk result (λ asked. map (λ file. file.now) asked.files.items
             ≡ files_or_input (words_of (found_of matches.now) (codes "files"))) }
     {
+        let warning_words = words_of(alloc, matches, "warning")?;
+        let warnings = Warnings::asked(warning_words.as_slice(), is_given(matches, "silent"));
         Ok(Arguments {
             changes: changes_of(alloc, matches)?,
             output: matches.get_str("output"),
@@ -347,6 +363,8 @@ impl<'a> Arguments<'a> {
             most_errors: most_errors_of(matches),
             has_json_errors: matches.get_str("error-format") == Some("json"),
             colours: colours_of(matches),
+            warning_words,
+            warnings,
             standard_input_name: matches.get_str("stdin-name").unwrap_or(STANDARD_INPUT_NAME),
             files: files_of(alloc, matches)?,
         })

@@ -1,8 +1,8 @@
-//! Comments that aren't closed.
+//! Comments that aren't closed, and comments in which an author may have lost text.
 
 ghost use Rattle.std.specs.Prelude.{◌≤◌, IfSome};
 
-use crate::place::after_continuations;
+use crate::place::{after_continuations, is_line_end};
 use pp_rs::SOURCE_LIMIT;
 use pp_rs::lexer::Comments;
 use pp_rs::token::Location;
@@ -88,8 +88,8 @@ fn before_continuation(text: &str) -> Option<&str> {
     None
 }
 
-// How many line ends a text has: CR LF and LF CR are one each.
-fn count_line_ends(text: &str) -> u32 {
+/// How many line ends a text has: CR LF and LF CR are one each.
+pub(crate) fn count_line_ends(text: &str) -> u32 {
     let mut count = 0u32;
     // The line end before, unless it is the second of a pair.
     let mut last = None;
@@ -104,4 +104,26 @@ fn count_line_ends(text: &str) -> u32 {
         };
     }
     count
+}
+
+/// The byte offset in a comment of the first `/*` that is inside it. The slash of its own `*/` begins none.
+pub(crate) fn nested_comment(comment: &str) -> Option<usize> {
+    let body = block_body(comment)?;
+    let start = comment.len().saturating_sub(body.len());
+    let mut rest = body;
+    for _ in 0..body.len() {
+        let place = rest.find("/*")?;
+        rest = rest.get(place.saturating_add(2)..)?;
+        if !rest.starts_with('/') {
+            let after = body.len().saturating_sub(rest.len());
+            return Some(start.saturating_add(after).saturating_sub(2));
+        }
+    }
+    None
+}
+
+/// Whether a comment is a `//` that a `\` continues on the next line.
+pub(crate) fn is_continued(comment: &str) -> bool {
+    let comment = after_continuations(comment);
+    block_body(comment).is_none() && comment.contains(is_line_end)
 }

@@ -13,6 +13,8 @@ use pp_rs::token::Location;
 pub enum Severity {
     /// The source isn't printed.
     Error,
+    /// The source may not be what its author meant.
+    Warning,
     /// It belongs to the message before it.
     Note,
 }
@@ -24,6 +26,7 @@ impl Severity {
     {
         match self {
             Severity::Error => "error",
+            Severity::Warning => "warning",
             Severity::Note => "note",
         }
     }
@@ -58,6 +61,22 @@ impl<'a> Site<'a> {
         match texts.spot(define.location).and_then(Place::find) {
             Some(place) => Site::InSource(define.location.line, define.column, place),
             None => Site::InFile,
+        }
+    }
+
+    /// The line in the source, or `None` if it points elsewhere.
+    pub fn line(self) -> Option<u32> {
+        match self {
+            Site::InSource(line, _, _) => Some(line),
+            Site::OnCommandLine(_) | Site::InFile => None,
+        }
+    }
+
+    /// The byte offset in the source, or `None` if it points elsewhere.
+    pub fn start(self) -> Option<usize> {
+        match self {
+            Site::InSource(_, _, place) => Some(place.start),
+            Site::OnCommandLine(_) | Site::InFile => None,
         }
     }
 

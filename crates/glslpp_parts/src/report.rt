@@ -40,6 +40,7 @@ impl Style {
         match (self, severity) {
             (Style::Plain | Style::Json, _) => "",
             (Style::Coloured, Severity::Error) => "\x1b[1;31m",
+            (Style::Coloured, Severity::Warning) => "\x1b[1;35m",
             (Style::Coloured, Severity::Note) => "\x1b[1;36m",
         }
     }

@@ -1,0 +1,121 @@
+//! The names that a source uses, besides defining them.
+
+ghost use Rattle.std.specs.Prelude.{◌-◌, ◌^◌, ◌<◌, length};
+
+use pp_rs::lexer::{Lexer, Token, TokenValue};
+use pp_rs::token::PreprocessorError;
+use std::alloc::{AllocError, Global};
+use std::collections::BTreeSet;
+
+/// The names that occur in a source in another place than after `#define` or `#undef` or in their own `#define`.
+#[derive(Drop)]
+pub(crate) struct UsedNames {
+    alloc: Global,
+    names: BTreeSet<String>,
+}
+
+impl UsedNames {
+    /// No names.
+    pub(crate) fn none(alloc: Global) -> UsedNames {
+        UsedNames {
+            alloc,
+            names: BTreeSet::new(alloc),
+        }
+    }
+
+    /// The names of this source.
+    pub(crate) fn of(alloc: Global, source: &str) -> Result<UsedNames, AllocError>
+        requires { length source.now < 2 ^ 32 - 1 }
+    {
+        let mut lexer = Lexer::new(alloc, source);
+        let mut reader = Reader {
+            alloc,
+            stage: Stage::Text,
+            own: String::new(alloc),
+            used: UsedNames::none(alloc),
+        };
+        'tokens: while let Some(item) = lexer.next() {
+            match item {
+                Ok(token) => reader.take(&token)?,
+                Err((PreprocessorError::OutOfMemory, _)) => return Err(AllocError),
+                Err((_error, _)) => {}
+            }
+        }
+        Ok(reader.used)
+    }
+
+    /// Whether a name is among them.
+    pub(crate) fn has(&self, name: &str) -> bool {
+        self.names.contains(name)
+    }
+
+    /// Adds a name.
+    pub(crate) fn add(&mut self, name: &str) -> Result<(), AllocError> {
+        if !self.has(name) {
+            self.names.insert(String::from_str(self.alloc, name)?)?;
+        }
+        Ok(())
+    }
+}
+
+/// How far a line was read.
+#[derive(Clone, Copy)]
+enum Stage {
+    /// Into its text.
+    Text,
+    /// Up to the `#`.
+    Hash,
+    /// Up to the word `define`.
+    Define,
+    /// Up to the word `undef`.
+    Undef,
+}
+
+/// The names that were read.
+#[derive(Drop)]
+struct Reader {
+    alloc: Global,
+    stage: Stage,
+    // The name whose `#define` this line is, or nothing.
+    own: String,
+    used: UsedNames,
+}
+
+impl Reader {
+    fn take(&mut self, token: &Token) -> Result<(), AllocError> {
+        self.stage = match (self.stage, &token.value) {
+            (_, TokenValue::NewLine) => {
+                self.own.clear();
+                Stage::Text
+            }
+            (_, TokenValue::Hash) if token.start_of_line => Stage::Hash,
+            (Stage::Hash, TokenValue::Ident(word)) => stage_after(word.as_str()),
+            (Stage::Define, TokenValue::Ident(name)) => {
+                self.own = String::from_str(self.alloc, name.as_str())?;
+                Stage::Text
+            }
+            (Stage::Text, TokenValue::Ident(name)) => {
+                self.use_name(name.as_str())?;
+                Stage::Text
+            }
+            _ => Stage::Text,
+        };
+        Ok(())
+    }
+
+    fn use_name(&mut self, name: &str) -> Result<(), AllocError> {
+        if self.own.as_str() == name {
+            return Ok(());
+        }
+        self.used.add(name)
+    }
+}
+
+// The stage after the word of a directive.
+fn stage_after(word: &str) -> Stage {
+    match word {
+        "define" => Stage::Define,
+        "undef" => Stage::Undef,
+        _ => Stage::Text,
+    }
+}
