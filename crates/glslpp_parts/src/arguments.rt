@@ -87,7 +87,7 @@ pub fn command<'a>(alloc: Global) -> Result<Command<'a>, clap::Error>
     let with_messages = with_message_options(alloc, with_flags)?;
     let with_warnings = with_warning_options(alloc, with_messages)?;
     let with_foreign = with_foreign_options(alloc, with_warnings)?;
-    let whole = with_option(with_foreign, files_argument(alloc))?;
+    let whole = with_argument(with_foreign, files_argument(alloc))?;
     Ok(whole)
 }
 
@@ -105,8 +105,17 @@ fn bare_command<'a>(alloc: Global) -> Command<'a>
 /// Adds an option.
 pub(crate) fn with_option<'a>(
     command: Command<'a>,
+    heading: &'static str,
     option: Arg<'a>,
 ) -> Result<Command<'a>, AllocError>
+    requires { option.global ≡ false }
+    ensures { IfOk result (λ new. options_of new
+        ≡ options_of command.entry ++ known_of (rule_of option.entry) ∷ []) }
+{
+    with_argument(command, option.help_heading(heading))
+}
+
+fn with_argument<'a>(command: Command<'a>, option: Arg<'a>) -> Result<Command<'a>, AllocError>
     requires { option.global ≡ false }
     ensures { IfOk result (λ new. options_of new
         ≡ options_of command.entry ++ known_of (rule_of option.entry) ∷ []) }
@@ -115,6 +124,15 @@ pub(crate) fn with_option<'a>(
     Ok(new)
 }
 
+// The headings of options in help.
+const DEFINITIONS: &str = "Definitions";
+
+const OUTPUT: &str = "Output";
+
+pub(crate) const MESSAGES: &str = "Messages";
+
+const FOREIGN: &str = "For builds";
+
 // Adds `-D`, `-U` and `-o`.
 fn with_value_options<'a>(alloc: Global, command: Command<'a>) -> Result<Command<'a>, AllocError>
     ensures { IfOk result (λ new. options_of new ≡ options_of command.entry ++ value_options) }
@@ -122,9 +140,9 @@ fn with_value_options<'a>(alloc: Global, command: Command<'a>) -> Result<Command
     let define = definition_option(alloc, "define", 'D', "NAME[=CONTENT]", DEFINE_HELP);
     let undefine = definition_option(alloc, "undefine", 'U', "NAME", UNDEFINE_HELP);
     let output = value_option(alloc, "output", 'o', "FILE", OUTPUT_HELP);
-    let first = with_option(command, define)?;
-    let second = with_option(first, undefine)?;
-    let third = with_option(second, output)?;
+    let first = with_option(command, DEFINITIONS, define)?;
+    let second = with_option(first, DEFINITIONS, undefine)?;
+    let third = with_option(second, OUTPUT, output)?;
     Ok(third)
 }
 
@@ -147,9 +165,9 @@ fn with_forms<'a>(alloc: Global, command: Command<'a>) -> Result<Command<'a>, Al
     let compact = compact_flag(alloc)?;
     let tokens = tokens_flag(alloc)?;
     let directives = long_flag(alloc, "directives", DIRECTIVES_HELP);
-    let first = with_option(command, compact)?;
-    let second = with_option(first, tokens)?;
-    let third = with_option(second, directives)?;
+    let first = with_option(command, OUTPUT, compact)?;
+    let second = with_option(first, OUTPUT, tokens)?;
+    let third = with_option(second, OUTPUT, directives)?;
     Ok(third)
 }
 
@@ -190,8 +208,8 @@ fn with_flags<'a>(alloc: Global, command: Command<'a>) -> Result<Command<'a>, Al
 {
     let first_error = long_flag(alloc, "first-error", "End at the first error");
     let undef = long_flag(alloc, "undef", "Define no name of GLSL's own");
-    let first = with_option(command, first_error)?;
-    let second = with_option(first, undef)?;
+    let first = with_option(command, MESSAGES, first_error)?;
+    let second = with_option(first, DEFINITIONS, undef)?;
     Ok(second)
 }
 
@@ -203,10 +221,10 @@ fn with_message_options<'a>(alloc: Global, command: Command<'a>) -> Result<Comma
     let format = error_format_option(alloc);
     let colour = colour_option(alloc);
     let name = long_option(alloc, "stdin-name", "NAME", NAME_HELP);
-    let first = with_option(command, most)?;
-    let second = with_option(first, format)?;
-    let third = with_option(second, colour)?;
-    let fourth = with_option(third, name)?;
+    let first = with_option(command, MESSAGES, most)?;
+    let second = with_option(first, MESSAGES, format)?;
+    let third = with_option(second, MESSAGES, colour)?;
+    let fourth = with_option(third, MESSAGES, name)?;
     Ok(fourth)
 }
 
@@ -260,8 +278,8 @@ fn with_foreign_options<'a>(alloc: Global, command: Command<'a>) -> Result<Comma
 {
     let only = short_flag(alloc, "only", 'E', ONLY_HELP);
     let stage = definition_option(alloc, "stage", 'S', "STAGE", STAGE_HELP);
-    let first = with_option(command, only)?;
-    let second = with_option(first, stage)?;
+    let first = with_option(command, FOREIGN, only)?;
+    let second = with_option(first, FOREIGN, stage)?;
     Ok(second)
 }
 

@@ -151,6 +151,7 @@ impl<'a> FaultFinder<'a> {
             diagnostic: Diagnostic {
                 severity: Severity::Error,
                 message,
+                is_of_cause: true,
                 site: Site::of(self.texts, location),
                 note,
             },

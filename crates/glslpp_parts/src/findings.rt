@@ -96,6 +96,7 @@ impl<'a> Findings<'a> {
         self.found.push(Diagnostic {
             severity: self.warnings.severity(),
             message,
+            is_of_cause: true,
             site,
             note,
         })?;

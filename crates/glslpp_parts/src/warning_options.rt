@@ -3,7 +3,7 @@
 ghost use Rattle.std.specs.Prelude.{◌≡◌, ◌++◌, IfOk};
 ghost use Rattle.glslpp_parts.specs.Options.{options_of, warning_options};
 
-use crate::arguments::{definition_option, short_flag, with_option};
+use crate::arguments::{MESSAGES, definition_option, short_flag, with_option};
 use clap::Command;
 use std::alloc::{AllocError, Global};
 
@@ -21,7 +21,7 @@ pub(crate) fn with_warning_options<'a>(
 {
     let warning = definition_option(alloc, "warning", 'W', "KIND", WARNING_HELP);
     let silent = short_flag(alloc, "silent", 'w', SILENT_HELP);
-    let first = with_option(command, warning)?;
-    let second = with_option(first, silent)?;
+    let first = with_option(command, MESSAGES, warning)?;
+    let second = with_option(first, MESSAGES, silent)?;
     Ok(second)
 }

@@ -2,7 +2,7 @@ use Rattle.std.proofs.Common.{◌∙◌, ◌∷◌, [], ap, map}
 use Rattle.std.proofs.lemmas.List.{map-append}
 use Rattle.clap.specs.Words.{App, app_of, rule_of}
 use Rattle.glslpp_parts.specs.Options.{known_of}
-use Rattle.glslpp_parts.proofs.arguments.with_option.Goals as goal
+use Rattle.glslpp_parts.proofs.arguments.with_argument.Goals as goal
 
 pub returns : goal.returns
 returns c =
