@@ -1,6 +1,7 @@
 //! One source: its output and the messages on it.
 
-ghost use Rattle.std.specs.Prelude.{◌≡◌, ℕ, ◌-◌, ◌^◌, ◌<◌, ◌≤◌, List, [], ◌++◌, OnOk, length, string_bytes};
+ghost use Rattle.std.specs.Prelude.{◌≡◌, ℕ, ◌-◌, ◌^◌, ◌<◌, ◌≤◌, List, [], ◌++◌, false, OnOk, length, string_bytes};
+ghost use Rattle.pp_rs.specs.TokenValue.{is_ordinary};
 
 use glslpp_parts::arguments::Arguments;
 use glslpp_parts::changes::kept_definitions;
@@ -57,18 +58,63 @@ pub fn preprocess(
         × (string_bytes found.new.output ≡ string_bytes found.old.output ++ more)) }
     ensures errors { OnOk result (found.old.errors ≤ found.new.errors) }
 {
+    let ended = run_over(alloc, reporter, arguments, source, replaced)?;
+    found.output.push_str(ended.output.as_str())?;
+    found.errors = found.errors.saturating_add(ended.errors);
+    Ok(ended.reports)
+}
+
+// What a run over one source gives.
+#[derive(Drop)]
+struct Ended {
+    output: String,
+    reports: String,
+    errors: usize,
+}
+
+// Runs over a source.
+fn run_over(
+    alloc: Global,
+    reporter: Reporter<'_>,
+    arguments: &Arguments<'_>,
+    source: &str,
+    replaced: &[usize],
+) -> Result<Ended, Failure>
+    requires { length source.now < 2 ^ 32 - 1 }
+{
     let mut texts = Texts::new(alloc, source);
     let mut items = Preprocessor::new(alloc, source);
-    define(alloc, arguments, source, &mut items, &mut texts)?;
-    let explainer = Explainer::new(alloc, source, &texts, replaced);
+    let defined = define(alloc, arguments, source, &mut items, &mut texts);
+    let ended = match defined {
+        Ok(()) => run_over_items(alloc, reporter, arguments, source, replaced, &mut items, &texts),
+        Err(failure) => Err(failure),
+    };
+    drop(items);
+    ended
+}
+
+// Runs over the items of a source.
+fn run_over_items<'x>(
+    alloc: Global,
+    reporter: Reporter<'x>,
+    arguments: &Arguments<'_>,
+    source: &'x str,
+    replaced: &'x [usize],
+    items: &mut Preprocessor<'_>,
+    texts: &'x Texts<'x>,
+) -> Result<Ended, Failure>
+    requires { length source.now < 2 ^ 32 - 1 }
+{
     let findings = findings_backwards(alloc, source, arguments.warnings)?;
-    let mut run = Run::new(alloc, reporter, arguments, &texts, explainer, findings);
-    run.read(&mut items)?;
-    run.end()?;
+    let explainer = Explainer::new(alloc, source, texts, replaced);
+    let mut run = Run::new(alloc, reporter, arguments, texts, explainer, findings);
+    run.read_to_end(items)?;
     let output = run.output.finish()?;
-    found.output.push_str(output.as_str())?;
-    found.errors = found.errors.saturating_add(run.errors);
-    Ok(run.reports)
+    Ok(Ended {
+        output,
+        reports: run.reports,
+        errors: run.errors,
+    })
 }
 
 // What the warnings find in a source, from its end to its start.
@@ -142,22 +188,29 @@ impl<'a> Run<'a> {
         }
     }
 
+    // Takes all items, and says what is left to be said.
+    fn read_to_end(&mut self, items: &mut Preprocessor<'_>) -> Result<(), Failure> {
+        self.read(items)?;
+        self.end()?;
+        Ok(())
+    }
+
     // Takes all items, or those up to the first error.
     fn read(&mut self, items: &mut Preprocessor<'_>) -> Result<(), Failure> {
         'items: while let Some(item) = items.next() {
             match item {
                 Ok(token) => {
                     let call_line = items.call_line();
-                    self.take_token(token, call_line)?;
+                    self.take_token(&token, call_line)?;
                 }
                 Err((PreprocessorError::OutOfMemory, _)) => return Err(Failure::OutOfMemory),
                 Err((error, _)) => {
                     let place = items.place();
                     self.take_error(error, place)?;
+                    if self.is_over() {
+                        break 'items;
+                    }
                 }
-            }
-            if self.is_over() {
-                break 'items;
             }
         }
         Ok(())
@@ -169,25 +222,40 @@ impl<'a> Run<'a> {
     }
 
     // Takes a token, unless it is on the line of the last error.
-    fn take_token(&mut self, token: Token, call_line: Option<u32>) -> Result<(), AllocError> {
+    fn take_token(&mut self, token: &Token, call_line: Option<u32>) -> Result<(), AllocError> {
         if call_line.is_none() {
             self.end = token.location.end;
         }
-        let line = call_line.unwrap_or(token.location.line);
-        let here = FaultLine {
-            is_in_source: true,
-            line,
-        };
-        if self.fault_line == Some(here) {
+        if let Some(fault) = self.fault_line
+            && fault.is_in_source
+            && fault.line == call_line.unwrap_or(token.location.line)
+        {
             return Ok(());
         }
-        if !token.is_ordinary()
-            && let Some(fault) = self.finder.fault_of(&token)?
-        {
-            self.fault_line = Some(here);
-            return self.push_fault(&fault);
+        if !token.is_ordinary() {
+            return self.take_directive(token);
         }
-        self.output.push_token(self.texts, &token, call_line)
+        self.output.push_token(self.texts, token, call_line)
+    }
+
+    // Takes a directive, or the error that it has and that the library lets pass.
+    #[inline(never)]
+    fn take_directive(&mut self, token: &Token) -> Result<(), AllocError>
+        requires { is_ordinary token.now.value ≡ false }
+    {
+        if self.is_over() {
+            return Ok(());
+        }
+        match self.finder.fault_of(token)? {
+            Some(fault) => {
+                self.fault_line = Some(FaultLine {
+                    is_in_source: true,
+                    line: token.location.line,
+                });
+                self.push_fault(&fault)
+            }
+            None => self.output.push_directive(self.texts, token),
+        }
     }
 
     // Takes an error that the library let pass.

@@ -53,7 +53,6 @@ impl Layout {
     }
 
     /// Appends a word on its line, or after the last word if the text is already past that line.
-    #[inline(always)]
     pub fn push_word(&mut self, line: u32, gap: Gap, word: &str) -> Result<(), AllocError>
         ensures { OnOk result (self.new ≡ on_line self.old line gap word.now) }
     {
