@@ -65,8 +65,11 @@ pub fn write(rt: &HostRuntime, file: &str, output: &str) -> io::Result<()> {
         None => String::from_str(rt.alloc(), file)?,
     };
     let (name, temporary) = create_beside(rt, target.as_str())?;
-    let end = fill(rt, temporary, old, output)
-        .and_then(|_| fs::rename(rt, name.as_str(), target.as_str()));
+    let end = fill(rt, temporary, old, output).and_then(|_| fs::rename(
+        rt,
+        name.as_str(),
+        target.as_str(),
+    ));
     if end.is_err() {
         let _ = fs::remove_file(rt, name.as_str());
     }
@@ -90,12 +93,7 @@ fn create_beside(rt: &HostRuntime, target: &str) -> io::Result<(String, File)> {
 }
 
 // Writes a file, which gets the permissions of the old one.
-fn fill(
-    rt: &HostRuntime,
-    mut file: File,
-    old: Option<Metadata>,
-    output: &str,
-) -> io::Result<()> {
+fn fill(rt: &HostRuntime, mut file: File, old: Option<Metadata>, output: &str) -> io::Result<()> {
     if let Some(old) = old {
         file.set_permissions(old.permissions())?;
     }

@@ -86,7 +86,9 @@ fn run_over(
     let mut items = Preprocessor::new(alloc, source);
     let defined = define(alloc, arguments, source, &mut items, &mut texts);
     let ended = match defined {
-        Ok(()) => run_over_items(alloc, reporter, arguments, source, replaced, &mut items, &texts),
+        Ok(()) => run_over_items(
+            alloc, reporter, arguments, source, replaced, &mut items, &texts,
+        ),
         Err(failure) => Err(failure),
     };
     drop(items);

@@ -1,5 +1,5 @@
 -- Parts of a report, one after another.
-use Rattle.std.proofs.Common.{◌≡◌, ◌∙◌, ◌++◌, ◌∷◌, [], ℕ, List, ap, sym, refl, inl, inr, append_assoc, append-nil, codes}
+use Rattle.std.proofs.Common.{◌≡◌, ◌∙◌, ◌++◌, ◌∷◌, [], ℕ, List, ap, refl, inr, append_assoc, append-nil, codes}
 use Rattle.std.specs.Fmt.{decimal}
 use Rattle.glslpp_parts.specs.declared.report.Style.{Style}
 use Rattle.glslpp_parts.specs.declared.diagnostic.Severity.{Severity}

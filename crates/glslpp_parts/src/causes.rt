@@ -143,18 +143,13 @@ fn of_token_in_expression(
 ) -> Result<Option<String>, AllocError> {
     let follows_operand = before.last().is_some_and(ends_operand);
     let message = match &token.value {
-        TokenValue::Float(_) => {
-            format!(in alloc; "floating-point number `{text}` in an `#if`")?
-        }
+        TokenValue::Float(_) => { format!(in alloc; "floating-point number `{text}` in an `#if`")? }
         TokenValue::Punct(Punct::Equal) => String::from_str(alloc, "`=` in an `#if`: use `==`")?,
         TokenValue::Punct(Punct::RightParen) if follows_operand => {
             String::from_str(alloc, "`)` without `(`")?
         }
         TokenValue::Punct(Punct::LeftParen) | TokenValue::Ident(_) | TokenValue::Integer(_)
-            if follows_operand =>
-        {
-            format!(in alloc; "missing operator before `{text}`")?
-        }
+            if follows_operand => { format!(in alloc; "missing operator before `{text}`")? }
         _ => return Ok(None),
     };
     Ok(Some(message))

@@ -25,13 +25,18 @@ pub(crate) struct DirectiveLine<'a> {
 
 impl<'a> DirectiveLine<'a> {
     /// The line of a place of the source, or `None` if no directive is there.
-    pub(crate) fn of(alloc: Global, site: Site<'a>) -> Result<Option<DirectiveLine<'a>>, AllocError> {
+    pub(crate) fn of(
+        alloc: Global,
+        site: Site<'a>,
+    ) -> Result<Option<DirectiveLine<'a>>, AllocError> {
         let Site::InSource(number, _, place) = site else {
             return Ok(None);
         };
         let offset = place.start.saturating_sub(place.before.len());
         let length = place.before.len().saturating_add(place.here.len());
-        let end = offset.saturating_add(length).saturating_add(place.behind.len());
+        let end = offset
+            .saturating_add(length)
+            .saturating_add(place.behind.len());
         let text = place.text.get(offset..end).unwrap_or("");
         if !text.trim_start().starts_with('#') || text.len() >= SOURCE_LIMIT {
             return Ok(None);

@@ -225,9 +225,10 @@ impl<'a> Explainer<'a> {
             PreprocessorError::UnexpectedCharacter => {
                 push_character(&mut text, place.here, place.behind)?;
             }
-            PreprocessorError::TooFewDefineArguments | PreprocessorError::TooManyDefineArguments => {
-                self.push_argument_counts(&mut text, location, place, error)?;
-            }
+            PreprocessorError::TooFewDefineArguments | PreprocessorError::TooManyDefineArguments =>
+                {
+                    self.push_argument_counts(&mut text, location, place, error)?;
+                }
             _ => {}
         }
         Ok(text)
@@ -250,7 +251,8 @@ impl<'a> Explainer<'a> {
     ) -> Result<Option<Note<'a>>, AllocError> {
         match (error, site.place()) {
             (
-                PreprocessorError::TooFewDefineArguments | PreprocessorError::TooManyDefineArguments,
+                PreprocessorError::TooFewDefineArguments
+                | PreprocessorError::TooManyDefineArguments,
                 Some(place),
             ) => self.note_on_macro(last_name(place.before), location, DEFINED_HERE),
             _ => Ok(None),

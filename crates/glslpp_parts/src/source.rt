@@ -2,7 +2,6 @@
 
 ghost use Rattle.std.specs.Prelude.{◌≡◌, [], IfOk, string_bytes};
 ghost use Rattle.std.specs.Str.{IsUtf8};
-
 ghost use Rattle.glslpp_parts.specs.Texts.{IsAfterMark};
 
 use std::alloc::{AllocError, Global};

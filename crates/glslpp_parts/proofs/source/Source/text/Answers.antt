@@ -1,5 +1,5 @@
-use Rattle.std.proofs.Common.{◌≡◌, ◌∙◌, ◌++◌, ℕ, List, ap, sym, refl, inl, inr}
-use Rattle.glslpp_parts.specs.Texts.{IsAfterMark, mark}
+use Rattle.std.proofs.Common.{◌≡◌, ◌∙◌, ◌++◌, ℕ, List, ap, sym, inl, inr}
+use Rattle.glslpp_parts.specs.Texts.{mark}
 use Rattle.glslpp_parts.proofs.source.Source.text.Goals as goal
 
 pub returns-in-Some : goal.returns-in-Some
