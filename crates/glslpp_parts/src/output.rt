@@ -108,17 +108,17 @@ impl<'a> Output<'a> {
     }
 
     // No gap before a word that directly follows the last word in the source, nor before a closing punctuator that
-    // directly follows a macro's name or call; and otherwise a space.
+    // directly follows something there, such as a macro's name; and otherwise a space.
     fn gap_before(&self, texts: &Texts<'_>, token: &Token) -> Gap
         ensures { result ≡ Gap.Nothing → (self.now.end ≡ Some token.now.location.start)
             ⊎ IsTrue (is_closing token.now.value) }
     {
         let start = token.location.start;
-        let is_beside = match self.end {
-            Some(end) => end == start,
-            None => is_closing(&token.value) && !texts.is_after_blank(start),
-        };
-        if is_beside { Gap::Nothing } else { Gap::Space }
+        if self.end == Some(start) || is_closing(&token.value) && !texts.is_after_blank(start) {
+            Gap::Nothing
+        } else {
+            Gap::Space
+        }
     }
 
     fn push_on_last_line(&mut self, texts: &Texts<'_>, token: &Token) -> Result<(), AllocError>
