@@ -54,8 +54,6 @@ class Docs:
     def line(self, where, line):
         self.paths(where, line)
         self.definitions(where, line)
-        if self.path.name == 'PROOFS.md' and line.startswith('|'):
-            self.edits(where, line)
 
     def missing(self, where, what):
         self.wrong.append(f'{where} cites {what}, which is not there')
@@ -122,13 +120,6 @@ class Docs:
             if not last:
                 self.missing(where, f'{module}: {name}')
         return last
-
-    def edits(self, where, line):
-        for crate, listed in re.findall(r'`(\w+)`: ((?:`[\w-]+`(?:, )?)+)', line):
-            folder = self.root / 'crates' / crate
-            for edit in re.findall(r'`([\w-]+)`', listed) if folder.is_dir() else ():
-                if not (folder / 'must-fail' / f'{edit}.edit').exists():
-                    self.missing(where, f'the must-fail edit {edit} of {crate}')
 
 
 def unnamed_files(page, definitions):
