@@ -159,26 +159,6 @@ def run(path, words, source, seconds=SECONDS, environment=None):
     return Ended(done.returncode, done.stdout, done.stderr)
 
 
-def worked_sources():
-    """The sources of the book of cases."""
-    found, lines = [], None
-    with open(os.path.join(folder_of("pp_vectors"), "stdin"), encoding="utf-8") as book:
-        for line in book.read().split("\n"):
-            if line.startswith("## "):
-                lines = []
-                found.append(lines)
-            elif line == "|":
-                lines.append("")
-            elif line.startswith("| "):
-                lines.append(line[2:])
-            elif line.startswith("& "):
-                lines[-1:] = [(lines[-1] if lines else "") + line[2:]]
-            elif line.startswith("* "):
-                times, _, text = line[2:].partition(" ")
-                lines[-1:] = [(lines[-1] if lines else "") + int(times) * text]
-    return ["\n".join(it) for it in found]
-
-
 class Count:
     """Cases that passed and that failed. Each that failed has a line."""
 
