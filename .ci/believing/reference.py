@@ -35,7 +35,8 @@ class Group:
         return not any(re.search(r'^(pub )?(fn|impl)\b', quote, re.M) for quote in self.quotes)
 
     def text(self):
-        blocks = ['```rust\n' + '\n\n'.join(self.quotes) + '\n```'] if self.quotes else []
+        quotes = sorted(self.quotes, key=rank)
+        blocks = ['```rust\n' + '\n\n'.join(quotes) + '\n```'] if quotes else []
         heading = '### ' + ', '.join(f'`{name}`' for name in self.names)
         return '\n\n'.join([heading, *blocks, *(['\n'.join(self.copies)] if self.copies else [])])
 
@@ -128,6 +129,12 @@ class Reference:
                 yield f'{GUIDE} has no example of the error {error}'
             elif error not in WITHOUT_SOURCE and not all(f'`error {error} ' in row for row in rows[error]):
                 yield f'{GUIDE} has a row of the error {error} without an example'
+
+
+def rank(quote):
+    """What comes first under a heading: the type, what makes a value of it, and its iterator; then all else as in the source."""
+    first = [r'^pub (enum|struct|trait) ', r'^pub fn (try_)?new\(', r'^impl.* Iterator for ']
+    return next((n for n, pattern in enumerate(first) if re.search(pattern, quote, re.M)), len(first))
 
 
 def marks(module):
