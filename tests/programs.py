@@ -180,6 +180,9 @@ class Count:
 
 
 def side_by_side(job, cases, most=0):
-    """What the job returns for each case, in their order, a processor each, or this many at a time."""
-    with concurrent.futures.ThreadPoolExecutor(most or os.cpu_count() or 1) as pool:
+    """What the job returns for each case, in their order, a processor each, or this many at a time. A signal begins no more."""
+    pool = concurrent.futures.ThreadPoolExecutor(most or os.cpu_count() or 1)
+    try:
         yield from pool.map(job, cases)
+    finally:
+        pool.shutdown(cancel_futures=True)
