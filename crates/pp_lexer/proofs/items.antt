@@ -10,3 +10,4 @@ pub mod ItemPlacesLemmas
 pub mod PlacesLemmas
 pub mod TokenLinesLemmas
 pub mod CountLemmas
+pub mod NextWordLemmas

@@ -31,6 +31,7 @@ pub mod NumberValue
 pub mod Words
 pub mod Segments
 pub mod Items
+pub mod Kept
 pub mod Lexed
 pub mod PlainItems
 pub mod ItemLaws

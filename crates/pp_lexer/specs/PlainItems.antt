@@ -38,6 +38,12 @@ token_of item = record {
   start_of_line = item.start_of_line;
 }
 
+-- the first item to come is this word, which is spelled in ASCII
+pub record IsNextWord (l : Lexed) (word : PlainItem) : Type 0 where
+  pub unspent : l.spent ≡ false
+  pub is : first_item l.rest ≡ Some (Ok (token_of word))
+  pub ascii : IsAscii word.spelling.now
+
 -- the first item to come is this word, which is no `#` and is spelled in ASCII, and it was taken
 pub record IsPlainGiven (old : Lexed) (item : PlainItem) (new : Lexed) : Type 0 where
   pub unspent : old.spent ≡ false

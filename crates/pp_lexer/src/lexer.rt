@@ -3,16 +3,18 @@
 //! [`CharsAndLine`], [`SkipBackslashNewline`] and [`ReplaceComments`] give the characters after phases 4 and 5, 6
 //! and 7, each with its line. [`Lexer`] gives the tokens. The rules are those of docs/RULES.md, Characters and Tokens.
 
-ghost use Rattle.std.specs.Prelude.{◌≡◌, ◌-◌, ◌^◌, ◌<◌, ◌+◌, ◌↔◌, length, take, Ok, Some, true, false, if◌then◌else◌, ⊤, OnOk, IfOk, IsTrue, IsSome, IfSome, MatchOption};
+ghost use Rattle.std.specs.Prelude.{◌≡◌, ◌-◌, ◌^◌, ◌<◌, ◌+◌, ◌↔◌, length, Ok, Some, true, false, if◌then◌else◌, ⊤, IsTrue, IsSome, IfSome, MatchOption};
 ghost use Rattle.std.specs.Iterator.{at_most};
+ghost use Rattle.std.specs.Str.{IsAscii};
 ghost use Rattle.pp_lexer.specs.Reading.{first_char};
 ghost use Rattle.pp_lexer.specs.Spots.{spots_of};
 ghost use Rattle.pp_lexer.specs.Words.{is_blank};
-ghost use Rattle.pp_lexer.specs.Lexed.{start_of, first_item, after_first_item, first_place, places_after_first, IsNext};
-ghost use Rattle.pp_lexer.specs.inner.Passing.{is_newline_result, seen_of, newline_seen, lexeme_seen, comments_at_end, newline_places, places_left, IsPlaced, IsLexed};
+ghost use Rattle.pp_lexer.specs.Kept.{CanPass};
+ghost use Rattle.pp_lexer.specs.Lexed.{start_of, first_item, after_first_item, after_first, first_place, places_after_first, IsNext};
+ghost use Rattle.pp_lexer.specs.inner.Passing.{is_newline_result, newline_seen, lexeme_seen, newline_places, lexed_at, SeesSame, IsRead};
 ghost use Rattle.pp_lexer.specs.inner.AfterSpaces.{IsAfterSpaces};
-ghost use Rattle.pp_lexer.specs.inner.PlainWords.{IsFirstWord, IsPlainLexed, IsNewlineLexed};
-ghost use Rattle.pp_lexer.specs.PlainItems.{token_of, is_newline_lexeme, IsUnknown, IsNextPlain, IsNextUnknown, PassesNewline};
+ghost use Rattle.pp_lexer.specs.inner.PlainWords.{IsFirstWord};
+ghost use Rattle.pp_lexer.specs.PlainItems.{is_newline_lexeme, IsUnknown, IsNextPlain, IsNextUnknown, IsNextWord, PassesBlanks, PassesNewline};
 
 use crate::token::{Location, NOWHERE, PreprocessorError, out_of_memory};
 use std::alloc::{AllocError, Global};
@@ -68,131 +70,13 @@ fn is_blank_char(c: char) -> bool
     c == ' ' || c == '\t' || c == '\x0b' || c == '\x0c' || c == COMMENT_SENTINEL_VALUE
 }
 
-// Passes the blanks before the next item.
-fn skip_blanks(inner: &mut LexerCharIterator<'_>, flags: &mut Flags)
-    ensures same { seen_of flags.new inner.new ≡ seen_of flags.old inner.old }
-    ensures at_end { comments_at_end flags.new inner.new ≡ comments_at_end flags.old inner.old }
-    ensures places { places_left flags.new inner.new ≡ places_left flags.old inner.old }
-    ensures stops { MatchOption (first_char inner.new) ⊤ (λ s. is_blank s.c ≡ false) }
-{
-    'blanks: loop {
-        let Some(c) = inner.peek_char() else {
-            return;
-        };
-        if !is_blank_char(c) {
-            return;
-        }
-        inner.next_char();
-        flags.leading_whitespace = true;
-        flags.had_comments |= c == COMMENT_SENTINEL_VALUE;
-    }
-}
-
-// Passes the spaces of ASCII text before the next item.
-#[inline(always)]
-fn skip_spaces(inner: &mut LexerCharIterator<'_>, flags: &mut Flags)
-    ensures same { seen_of flags.new inner.new ≡ seen_of flags.old inner.old }
-    ensures at_end { comments_at_end flags.new inner.new ≡ comments_at_end flags.old inner.old }
-    ensures places { places_left flags.new inner.new ≡ places_left flags.old inner.old }
-{
-    let left = inner.left();
-    let bytes = left.text.as_bytes();
-    let count = spaces_length(bytes);
-    if count == 0 {
-        return;
-    }
-    let end = left.at + count;
-    let last = Spot {
-        c: bytes[count - 1] as char,
-        line: left.line,
-        begin: (end - 1) as u32,
-        end: end as u32,
-    };
-    flags.leading_whitespace = true;
-    let rest = Left {
-        text: &left.text[count..],
-        line: left.line,
-        at: end,
-    };
-    inner.go(rest, last);
-}
-
-// Passes the comment at the front if it is plain text, and returns whether it did.
-#[inline(always)]
-fn skip_comment(inner: &mut LexerCharIterator<'_>, flags: &mut Flags) -> bool
-    ensures same { seen_of flags.new inner.new ≡ seen_of flags.old inner.old }
-    ensures at_end { comments_at_end flags.new inner.new ≡ comments_at_end flags.old inner.old }
-    ensures places { places_left flags.new inner.new ≡ places_left flags.old inner.old }
-{
-    let left = inner.left();
-    let Some(comment) = plain_comment(left.text.as_bytes()) else {
-        return false;
-    };
-    let mark = Spot {
-        c: COMMENT_SENTINEL_VALUE,
-        line: left.line,
-        begin: left.at as u32,
-        end: (left.at + 1) as u32,
-    };
-    flags.leading_whitespace = true;
-    flags.had_comments = true;
-    let rest = Left {
-        text: &left.text[comment.taken..],
-        line: left.line + comment.newlines as u32,
-        at: left.at + comment.taken,
-    };
-    inner.go(rest, mark);
-    true
-}
-
-// Passes the comment at the front, and blanks after it.
-#[inline(never)]
-fn skip_comments(inner: &mut LexerCharIterator<'_>, flags: &mut Flags)
-    ensures same { seen_of flags.new inner.new ≡ seen_of flags.old inner.old }
-    ensures at_end { comments_at_end flags.new inner.new ≡ comments_at_end flags.old inner.old }
-    ensures places { places_left flags.new inner.new ≡ places_left flags.old inner.old }
-{
-    if skip_comment(inner, flags) {
-        skip_spaces(inner, flags);
-    } else {
-        skip_blanks(inner, flags);
-    }
-}
-
-// Passes the spaces and comments before the next item.
-#[inline(always)]
-fn skip_spaces_and_comments(inner: &mut LexerCharIterator<'_>, flags: &mut Flags)
-    ensures same { seen_of flags.new inner.new ≡ seen_of flags.old inner.old }
-    ensures at_end { comments_at_end flags.new inner.new ≡ comments_at_end flags.old inner.old }
-    ensures places { places_left flags.new inner.new ≡ places_left flags.old inner.old }
-{
-    skip_spaces(inner, flags);
-    if begins_comment(inner.left().text.as_bytes()) {
-        skip_comments(inner, flags);
-    }
-}
-
-// Passes the spaces at the front, and the comments and blanks after them. It is a function of its own, since most words
-// come without a comment.
-#[inline(never)]
-fn pass_comments(inner: &mut LexerCharIterator<'_>, flags: &mut Flags)
-    ensures same { seen_of flags.new inner.new ≡ seen_of flags.old inner.old }
-    ensures at_end { comments_at_end flags.new inner.new ≡ comments_at_end flags.old inner.old }
-    ensures places { places_left flags.new inner.new ≡ places_left flags.old inner.old }
-{
-    skip_spaces_and_comments(inner, flags);
-}
-
-// Passes the spaces at the front, which there are if `spaced` says so. Most are passed with the word after them.
-#[inline(always)]
-fn pass_spaces(inner: &mut LexerCharIterator<'_>, flags: &mut Flags, spaced: bool)
-    ensures same { seen_of flags.new inner.new ≡ seen_of flags.old inner.old }
-    ensures at_end { comments_at_end flags.new inner.new ≡ comments_at_end flags.old inner.old }
-    ensures places { places_left flags.new inner.new ≡ places_left flags.old inner.old }
-{
-    if spaced {
-        pass_comments(inner, flags);
-    }
+// A lexer in the midst of a source: the characters to come, what the flags of the next token will be, and the place of
+// the item that was taken last.
+#[derive(Drop)]
+struct LexerState<'a> {
+    inner: LexerCharIterator<'a>,
+    flags: Flags,
+    place: Location,
 }
 
 // What is left after spaces, which weren't passed.
@@ -201,184 +85,6 @@ struct Front<'a> {
     left: Left<'a>,
     // whether there are spaces before it
     spaced: bool,
-}
-
-// What is left after the spaces at the front.
-#[inline(always)]
-fn front_of<'a>(inner: &LexerCharIterator<'a>) -> Front<'a>
-    ensures { IsAfterSpaces result.left.line result.left.at result.left.text.now result.spaced inner.now }
-{
-    let left = inner.left();
-    let count = spaces_length(left.text.as_bytes());
-    if count == 0 {
-        return Front {
-            left,
-            spaced: false,
-        };
-    }
-    Front {
-        left: Left {
-            text: &left.text[count..],
-            line: left.line,
-            at: left.at + count,
-        },
-        spaced: true,
-    }
-}
-
-// Passes the spaces and comments before the next item, but not spaces alone. Returns what is left after these.
-#[inline(always)]
-fn find_front<'a>(inner: &mut LexerCharIterator<'a>, flags: &mut Flags) -> Front<'a>
-    ensures same { seen_of flags.new inner.new ≡ seen_of flags.old inner.old }
-    ensures at_end { comments_at_end flags.new inner.new ≡ comments_at_end flags.old inner.old }
-    ensures places { places_left flags.new inner.new ≡ places_left flags.old inner.old }
-    ensures front { IsAfterSpaces result.left.line result.left.at result.left.text.now result.spaced inner.new }
-{
-    let front = front_of(inner);
-    if !begins_comment(front.left.text.as_bytes()) {
-        return front;
-    }
-    pass_comments(inner, flags);
-    Front {
-        left: inner.left(),
-        spaced: false,
-    }
-}
-
-// Takes the word of plain text at the front of what is left.
-#[inline(always)]
-fn take_word<'a>(
-    inner: &mut LexerCharIterator<'a>,
-    flags: &mut Flags,
-    place: &mut Location,
-    front: Front<'a>,
-    word: Word,
-) -> PlainItem<'a>
-    requires front { IsAfterSpaces front.left.line front.left.at front.left.text.now front.spaced inner.now }
-    requires word { IsFirstWord front.left.text.now word }
-    ensures form { result.form ≡ word.form }
-    ensures spelling { result.spelling.now ≡ take word.taken front.entry.left.text.now }
-    ensures lexed { IsLexed flags.old inner.old (Ok (Some (Ok (token_of result)))) flags.new inner.new }
-    ensures placed { IsPlaced flags.old inner.old place.old flags.new inner.new place.new }
-    ensures comments { flags.new.had_comments ≡ flags.old.had_comments }
-{
-    let left = front.left;
-    let taken = word.taken;
-    let end = left.at + taken;
-    let spelling = &left.text[..taken];
-    let last = Spot {
-        c: left.text.as_bytes()[taken - 1] as char,
-        line: left.line,
-        begin: (end - 1) as u32,
-        end: end as u32,
-    };
-    *place = Location {
-        start: left.at as u32,
-        end: last.end,
-        line: left.line,
-    };
-    let item = PlainItem {
-        form: word.form,
-        spelling,
-        location: *place,
-        leading_whitespace: flags.leading_whitespace | front.spaced,
-        start_of_line: flags.start_of_line,
-    };
-    flags.leading_whitespace = false;
-    flags.start_of_line = false;
-    let rest = Left {
-        text: &left.text[taken..],
-        line: left.line,
-        at: end,
-    };
-    inner.go(rest, last);
-    item
-}
-
-// Whether the word at the front of the text is no `#`, and no name that is known.
-#[inline(always)]
-fn is_unknown<N: KnownNames>(names: &N, text: &str, word: Word) -> bool
-    requires { IsFirstWord text.now word }
-    ensures { IsTrue result → IsUnknown (N.knows names.now) word.form (take word.taken text.now) }
-{
-    match word.form {
-        Form::Hash => false,
-        Form::Identifier => !names.is_known(&text[..word.taken]),
-        _ => true,
-    }
-}
-
-// The next item if it is a word of ASCII text, else `None`.
-#[inline(always)]
-fn lex_plain(
-    alloc: Global,
-    inner: &mut LexerCharIterator<'_>,
-    flags: &mut Flags,
-    place: &mut Location,
-) -> Result<Option<LexerItem>, AllocError>
-    ensures lexed { IsPlainLexed flags.old inner.old result flags.new inner.new }
-    ensures placed { IfOk result (λ o. MatchOption o (place.new ≡ place.old)
-        (λ _. IsPlaced flags.old inner.old place.old flags.new inner.new place.new)) }
-{
-    let left = inner.left();
-    let Some(word) = plain_word(left.text) else {
-        return Ok(None);
-    };
-    let front = Front {
-        left,
-        spaced: false,
-    };
-    let item = take_word(inner, flags, place, front, word);
-    Ok(Some(Ok(Token {
-        value: plain_value(alloc, item.form, item.spelling)?,
-        location: item.location,
-        leading_whitespace: item.leading_whitespace,
-        start_of_line: item.start_of_line,
-    })))
-}
-
-// The next item if it is a newline of ASCII text, else `None`.
-#[inline(always)]
-fn lex_newline(
-    inner: &mut LexerCharIterator<'_>,
-    flags: &mut Flags,
-    place: &mut Location,
-) -> Option<LexerItem>
-    ensures lexed { IsNewlineLexed flags.old inner.old result flags.new inner.new }
-    ensures placed { MatchOption result (place.new ≡ place.old)
-        (λ _. IsPlaced flags.old inner.old place.old flags.new inner.new place.new) }
-    ensures newline { IfSome result (λ newline. is_newline_lexeme newline ≡ true) }
-{
-    let left = inner.left();
-    let Some(taken) = newline_length(left.text.as_bytes()) else {
-        return None;
-    };
-    let last = Spot {
-        c: '\n',
-        line: left.line,
-        begin: left.at as u32,
-        end: (left.at + 1) as u32,
-    };
-    *place = Location {
-        start: last.begin,
-        end: last.end,
-        line: left.line,
-    };
-    let token = Token {
-        value: TokenValue::NewLine,
-        location: *place,
-        leading_whitespace: flags.leading_whitespace,
-        start_of_line: flags.start_of_line,
-    };
-    flags.leading_whitespace = true;
-    flags.start_of_line = true;
-    let rest = Left {
-        text: &left.text[taken..],
-        line: left.line + 1,
-        at: left.at + taken,
-    };
-    inner.go(rest, last);
-    Some(Ok(token))
 }
 
 // The newline that is added after a last line without one.
@@ -455,56 +161,295 @@ fn item_of(
     })
 }
 
-// The next item, or `None` at the end, read character by character.
-fn lex_by_characters(
-    alloc: Global,
-    inner: &mut LexerCharIterator<'_>,
-    flags: &mut Flags,
-    place: &mut Location,
-) -> Result<Option<LexerItem>, AllocError>
-    ensures lexed { IsLexed flags.old inner.old result flags.new inner.new }
-    ensures placed { OnOk result
-        (IsPlaced flags.old inner.old place.old flags.new inner.new place.new) }
-{
-    skip_blanks(inner, flags);
-    let Some(first) = inner.peek_spot() else {
-        let last = inner.last_consumed();
-        *place = place_at_end(*flags, last, *place);
-        return Ok(final_newline(last, flags));
-    };
-    let value = parse_word(alloc, inner)?;
-    let before = *flags;
-    let at_line_end = ends_line(&value);
-    flags.leading_whitespace = at_line_end;
-    flags.start_of_line = at_line_end;
-    let last = inner.last_consumed();
-    *place = Location {
-        start: first.begin,
-        end: last.end,
-        line: first.line,
-    };
-    Ok(Some(item_of(value, before, first, last)))
+impl<'a> LexerState<'a> {
+    // Passes the blanks before the next item.
+    fn skip_blanks(&mut self)
+        ensures same { SeesSame self.old self.new }
+        ensures stops { MatchOption (first_char self.new.inner) ⊤ (λ s. is_blank s.c ≡ false) }
+    {
+        'blanks: loop {
+            let Some(c) = self.inner.peek_char() else {
+                return;
+            };
+            if !is_blank_char(c) {
+                return;
+            }
+            self.inner.next_char();
+            self.flags.leading_whitespace = true;
+            self.flags.had_comments |= c == COMMENT_SENTINEL_VALUE;
+        }
+    }
+
+    // Passes the spaces of ASCII text before the next item.
+    #[inline(always)]
+    fn skip_spaces(&mut self)
+        ensures { SeesSame self.old self.new }
+    {
+        let left = self.inner.left();
+        let bytes = left.text.as_bytes();
+        let count = spaces_length(bytes);
+        if count == 0 {
+            return;
+        }
+        let end = left.at + count;
+        let last = Spot {
+            c: bytes[count - 1] as char,
+            line: left.line,
+            begin: (end - 1) as u32,
+            end: end as u32,
+        };
+        self.flags.leading_whitespace = true;
+        let rest = Left {
+            text: &left.text[count..],
+            line: left.line,
+            at: end,
+        };
+        self.inner.go(rest, last);
+    }
+
+    // Passes the comment at the front if it is plain text, and returns whether it did.
+    #[inline(always)]
+    fn skip_comment(&mut self) -> bool
+        ensures { SeesSame self.old self.new }
+    {
+        let left = self.inner.left();
+        let Some(comment) = plain_comment(left.text.as_bytes()) else {
+            return false;
+        };
+        let mark = Spot {
+            c: COMMENT_SENTINEL_VALUE,
+            line: left.line,
+            begin: left.at as u32,
+            end: (left.at + 1) as u32,
+        };
+        self.flags.leading_whitespace = true;
+        self.flags.had_comments = true;
+        let rest = Left {
+            text: &left.text[comment.taken..],
+            line: left.line + comment.newlines as u32,
+            at: left.at + comment.taken,
+        };
+        self.inner.go(rest, mark);
+        true
+    }
+
+    // Passes the spaces and comments before the next item. It is a function of its own, since most words come without
+    // a comment.
+    #[inline(never)]
+    fn skip_comments(&mut self)
+        ensures { SeesSame self.old self.new }
+    {
+        self.skip_spaces();
+        if !begins_comment(self.inner.left().text.as_bytes()) {
+            return;
+        }
+        if self.skip_comment() {
+            self.skip_spaces();
+        } else {
+            self.skip_blanks();
+        }
+    }
+
+    // What is left after the spaces at the front.
+    #[inline(always)]
+    fn front(&self) -> Front<'a>
+        ensures { IsAfterSpaces result.left.line result.left.at result.left.text.now result.spaced self.now.inner }
+    {
+        let left = self.inner.left();
+        let count = spaces_length(left.text.as_bytes());
+        if count == 0 {
+            return Front {
+                left,
+                spaced: false,
+            };
+        }
+        Front {
+            left: Left {
+                text: &left.text[count..],
+                line: left.line,
+                at: left.at + count,
+            },
+            spaced: true,
+        }
+    }
+
+    // Passes the spaces and comments before the next item, but not spaces alone. Returns what is left after these.
+    #[inline(always)]
+    fn find_front(&mut self) -> Front<'a>
+        ensures same { SeesSame self.old self.new }
+        ensures front { IsAfterSpaces result.left.line result.left.at result.left.text.now result.spaced
+            self.new.inner }
+    {
+        let front = self.front();
+        if !begins_comment(front.left.text.as_bytes()) {
+            return front;
+        }
+        self.skip_comments();
+        Front {
+            left: self.inner.left(),
+            spaced: false,
+        }
+    }
+
+    // The word of plain text at the front.
+    #[inline(always)]
+    fn word_at(&self, front: Front<'a>, word: Word) -> PlainItem<'a>
+        requires front { IsAfterSpaces front.left.line front.left.at front.left.text.now front.spaced
+            self.now.inner }
+        requires word { IsFirstWord front.left.text.now word }
+        ensures is { IsNextWord (lexed_at self.now) result }
+        ensures passes { CanPass (lexed_at self.now) result }
+    {
+        let left = front.left;
+        PlainItem {
+            form: word.form,
+            spelling: &left.text[..word.taken],
+            location: Location {
+                start: left.at as u32,
+                end: (left.at + word.taken) as u32,
+                line: left.line,
+            },
+            leading_whitespace: self.flags.leading_whitespace | front.spaced,
+            start_of_line: self.flags.start_of_line,
+            rest: &left.text[word.taken..],
+        }
+    }
+
+    // The next item if it is a word of plain text, else `None`. It isn't taken.
+    #[inline(always)]
+    fn peek_word(&mut self) -> Option<PlainItem<'a>>
+        ensures same { SeesSame self.old self.new }
+        ensures word { IfSome result (IsNextWord (lexed_at self.new)) }
+        ensures passes { IfSome result (CanPass (lexed_at self.new)) }
+    {
+        let front = self.find_front();
+        let Some(word) = plain_word(front.left.text) else {
+            if front.spaced {
+                self.skip_comments();
+            }
+            return None;
+        };
+        Some(self.word_at(front, word))
+    }
+
+    // Takes the word that comes next.
+    #[inline(always)]
+    fn pass_word(&mut self, word: &PlainItem<'a>)
+        requires { CanPass (lexed_at self.old) word.now }
+        ensures { lexed_at self.new ≡ after_first (lexed_at self.old) }
+    {
+        let Location { end, line, .. } = word.location;
+        let last = Spot {
+            c: word.spelling.as_bytes()[word.spelling.len() - 1] as char,
+            line,
+            begin: end - 1,
+            end,
+        };
+        self.flags.leading_whitespace = false;
+        self.flags.start_of_line = false;
+        self.place = word.location;
+        let rest = Left {
+            text: word.rest,
+            line,
+            at: end as usize,
+        };
+        self.inner.go(rest, last);
+    }
+
+    // The next item if it is a newline of ASCII text, else `None`.
+    #[inline(always)]
+    fn next_newline(&mut self) -> Option<LexerItem>
+        ensures lexed { MatchOption result (self.new ≡ self.old)
+            (λ newline. IsRead self.old (Ok (Some newline)) self.new) }
+        ensures newline { IfSome result (λ newline. is_newline_lexeme newline ≡ true) }
+    {
+        let left = self.inner.left();
+        let Some(taken) = newline_length(left.text.as_bytes()) else {
+            return None;
+        };
+        let last = Spot {
+            c: '\n',
+            line: left.line,
+            begin: left.at as u32,
+            end: (left.at + 1) as u32,
+        };
+        self.place = Location {
+            start: last.begin,
+            end: last.end,
+            line: left.line,
+        };
+        let token = Token {
+            value: TokenValue::NewLine,
+            location: self.place,
+            leading_whitespace: self.flags.leading_whitespace,
+            start_of_line: self.flags.start_of_line,
+        };
+        self.flags.leading_whitespace = true;
+        self.flags.start_of_line = true;
+        let rest = Left {
+            text: &left.text[taken..],
+            line: left.line + 1,
+            at: left.at + taken,
+        };
+        self.inner.go(rest, last);
+        Some(Ok(token))
+    }
+
+    // The next item, or `None` at the end, read character by character.
+    fn next_by_characters(&mut self, alloc: Global) -> Result<Option<LexerItem>, AllocError>
+        ensures { IsRead self.old result self.new }
+    {
+        self.skip_blanks();
+        let Some(first) = self.inner.peek_spot() else {
+            let last = self.inner.last_consumed();
+            self.place = place_at_end(self.flags, last, self.place);
+            return Ok(final_newline(last, &mut self.flags));
+        };
+        let value = parse_word(alloc, &mut self.inner)?;
+        let before = self.flags;
+        let at_line_end = ends_line(&value);
+        self.flags.leading_whitespace = at_line_end;
+        self.flags.start_of_line = at_line_end;
+        let last = self.inner.last_consumed();
+        self.place = Location {
+            start: first.begin,
+            end: last.end,
+            line: first.line,
+        };
+        Ok(Some(item_of(value, before, first, last)))
+    }
+
+    // The next item, or `None` at the end.
+    fn next(&mut self, alloc: Global) -> Result<Option<LexerItem>, AllocError>
+        ensures { IsRead self.old result self.new }
+    {
+        if let Some(word) = self.peek_word() {
+            self.pass_word(&word);
+            return Ok(Some(Ok(Token {
+                value: plain_value(alloc, word.form, word.spelling)?,
+                location: word.location,
+                leading_whitespace: word.leading_whitespace,
+                start_of_line: word.start_of_line,
+            })));
+        }
+        if let Some(newline) = self.next_newline() {
+            return Ok(Some(newline));
+        }
+        self.next_by_characters(alloc)
+    }
 }
 
-// The next item, or `None` at the end.
-fn lex(
-    alloc: Global,
-    inner: &mut LexerCharIterator<'_>,
-    flags: &mut Flags,
-    place: &mut Location,
-) -> Result<Option<LexerItem>, AllocError>
-    ensures lexed { IsLexed flags.old inner.old result flags.new inner.new }
-    ensures placed { OnOk result
-        (IsPlaced flags.old inner.old place.old flags.new inner.new place.new) }
+// Whether the word is no `#`, and no name that is known.
+#[inline(always)]
+fn is_unknown<N: KnownNames>(names: &N, word: &PlainItem<'_>) -> bool
+    requires { IsAscii word.now.spelling.now }
+    ensures { IsTrue result → IsUnknown (N.knows names.now) word.now.form word.now.spelling.now }
 {
-    skip_spaces_and_comments(inner, flags);
-    if let Some(item) = lex_plain(alloc, inner, flags, place)? {
-        return Ok(Some(item));
+    match word.form {
+        Form::Hash => false,
+        Form::Identifier => !names.is_known(word.spelling),
+        _ => true,
     }
-    if let Some(newline) = lex_newline(inner, flags, place) {
-        return Ok(Some(newline));
-    }
-    lex_by_characters(alloc, inner, flags, place)
 }
 
 /// An iterator of the items of a source: tokens with places and flags, and errors.
@@ -528,10 +473,8 @@ fn lex(
 #[derive(Drop)]
 pub struct Lexer<'a> {
     alloc: Global,
-    inner: LexerCharIterator<'a>,
-    flags: Flags,
+    state: LexerState<'a>,
     spent: bool,
-    place: Location,
 }
 
 impl<'a> Model for Lexer<'a> {
@@ -541,7 +484,7 @@ impl<'a> Model for Lexer<'a> {
 
     ghost use Rattle.pp_lexer.specs.inner.Passing.{lexed};
 
-    ghost view = { λ s. lexed s.flags s.inner s.place s.spent };
+    ghost view = { λ s. lexed s.state.flags s.state.inner s.state.place s.spent };
 }
 
 impl<'a> Lexer<'a> {
@@ -553,14 +496,16 @@ impl<'a> Lexer<'a> {
     {
         Lexer {
             alloc,
-            inner: LexerCharIterator::new(input),
-            flags: Flags {
-                leading_whitespace: true,
-                start_of_line: true,
-                had_comments: false,
+            state: LexerState {
+                inner: LexerCharIterator::new(input),
+                flags: Flags {
+                    leading_whitespace: true,
+                    start_of_line: true,
+                    had_comments: false,
+                },
+                place: NOWHERE,
             },
             spent: false,
-            place: NOWHERE,
         }
     }
 
@@ -580,7 +525,7 @@ impl<'a> Lexer<'a> {
     pub fn had_comments(&self) -> bool
         ensures { result ≡ self.now.had_comments }
     {
-        self.flags.had_comments
+        self.state.flags.had_comments
     }
 
     /// Returns the place of the item that `next` returned last, also of an error: the byte offsets and the 1-based line
@@ -589,7 +534,48 @@ impl<'a> Lexer<'a> {
     pub fn place(&self) -> Location
         ensures { result ≡ self.now.place }
     {
-        self.place
+        self.state.place
+    }
+
+    /// Returns whether an allocation failed. Then `next` returns `None`.
+    #[inline(always)]
+    pub fn is_spent(&self) -> bool
+        ensures { result ≡ self.now.spent }
+    {
+        self.spent
+    }
+
+    /// Ends the lexer, as an allocation that failed does.
+    pub fn spend(&mut self)
+        ensures { self.new ≡ record self.old { spent = true } }
+    {
+        self.spent = true;
+    }
+
+    /// Returns the next item without its memory, if it is a word of plain text: an identifier, a decimal or hexadecimal
+    /// number, a punctuator or a `#` of ASCII characters that no line continuation cuts. It isn't taken:
+    /// [`Lexer::pass_word`] takes it. Otherwise it returns `None`: at a newline, an error and the end, and after an
+    /// `OutOfMemory`. `next` returns these. Comments before the next item may have been passed, which
+    /// [`Lexer::had_comments`] says.
+    #[inline(always)]
+    pub fn peek_word(&mut self) -> Option<PlainItem<'a>>
+        ensures same { PassesBlanks self.old self.new }
+        ensures word { IfSome result (IsNextWord self.new) }
+        ensures passes { IfSome result (CanPass self.new) }
+    {
+        if self.spent {
+            return None;
+        }
+        self.state.peek_word()
+    }
+
+    /// Takes the word that `peek_word` returned, if nothing was taken since.
+    #[inline(always)]
+    pub fn pass_word(&mut self, word: &PlainItem<'a>)
+        requires { CanPass self.old word.now }
+        ensures { self.new ≡ after_first self.old }
+    {
+        self.state.pass_word(word);
     }
 
     /// The next item without its memory, if it is a word of plain text: an identifier, a decimal or hexadecimal number
@@ -600,24 +586,12 @@ impl<'a> Lexer<'a> {
     pub fn next_plain(&mut self) -> Option<PlainItem<'a>>
         ensures { IsNextPlain self.old result self.new }
     {
-        if self.spent {
-            return None;
-        }
-        let front = find_front(&mut self.inner, &mut self.flags);
-        let Some(word) = plain_word(front.left.text) else {
-            pass_spaces(&mut self.inner, &mut self.flags, front.spaced);
-            return None;
-        };
+        let word = self.peek_word()?;
         if matches!(word.form, Form::Hash) {
             return None;
         }
-        Some(take_word(
-            &mut self.inner,
-            &mut self.flags,
-            &mut self.place,
-            front,
-            word,
-        ))
+        self.pass_word(&word);
+        Some(word)
     }
 
     /// Does the same as `next_plain`, but returns `None` at an identifier that is known, too, and takes no item then.
@@ -625,10 +599,12 @@ impl<'a> Lexer<'a> {
     pub fn next_unknown<N: KnownNames>(&mut self, names: &N) -> Option<PlainItem<'a>>
         ensures { IsNextUnknown (N.knows names.now) self.old result self.new }
     {
-        if self.spent {
+        let word = self.peek_word()?;
+        if !is_unknown(names, &word) {
             return None;
         }
-        self.next_unknown_unspent(names)
+        self.pass_word(&word);
+        Some(word)
     }
 
     /// Does the same as `next_unknown`, if no allocation failed before. It is private to the repository.
@@ -637,21 +613,7 @@ impl<'a> Lexer<'a> {
         requires { self.old.spent ≡ false }
         ensures { IsNextUnknown (N.knows names.now) self.old result self.new }
     {
-        let front = find_front(&mut self.inner, &mut self.flags);
-        let Some(word) = plain_word(front.left.text) else {
-            pass_spaces(&mut self.inner, &mut self.flags, front.spaced);
-            return None;
-        };
-        if !is_unknown(names, front.left.text, word) {
-            return None;
-        }
-        Some(take_word(
-            &mut self.inner,
-            &mut self.flags,
-            &mut self.place,
-            front,
-            word,
-        ))
+        self.next_unknown(names)
     }
 
     /// Passes the next item if it is a newline of plain text, with no space or comment before it, and returns whether
@@ -663,7 +625,7 @@ impl<'a> Lexer<'a> {
         if self.spent {
             return false;
         }
-        self.pass_newline_unspent()
+        self.state.next_newline().is_some()
     }
 
     /// Does the same as `pass_newline`, if no allocation failed before. It is private to the repository.
@@ -672,7 +634,7 @@ impl<'a> Lexer<'a> {
         requires { self.old.spent ≡ false }
         ensures { PassesNewline self.old result self.new }
     {
-        lex_newline(&mut self.inner, &mut self.flags, &mut self.place).is_some()
+        self.pass_newline()
     }
 
     // The next item.
@@ -682,12 +644,7 @@ impl<'a> Lexer<'a> {
         if self.spent {
             return None;
         }
-        let Ok(item) = lex(
-            self.alloc,
-            &mut self.inner,
-            &mut self.flags,
-            &mut self.place,
-        ) else {
+        let Ok(item) = self.state.next(self.alloc) else {
             self.spent = true;
             return Some(Err(out_of_memory()));
         };

@@ -178,10 +178,10 @@ placed_before f g h r p q old mid new same e x = record {
   rest = x.rest ∙ ap places_after_first same;
 }
 
--- nor does it where memory may be refused
-pub on_ok_placed : {T E : Type 0} (answer : Result T E) (P Q : Type 0) → (P → Q) → OnOk answer P → OnOk answer Q
-on_ok_placed (Ok value) P Q go h = go h
-on_ok_placed (Err error) P Q go h = tt
+-- if memory was refused, there is none
+pub placed_refused : {T E : Type 0} (answer : Result T E) (P : Type 0) → IsErr answer → OnOk answer P
+placed_refused (Ok _) P h = cc
+placed_refused (Err _) P h = tt
 
 placed_at : (f : Flags) (ss : List Spot) (last : Spot) (q : Reading) (first : Spot) (r : Answer) (old : Location) → Some first ≡ first_of ss
     → MatchOption (first_of ss) ⊤ (λ s. is_blank s.c ≡ false)

@@ -1,26 +1,22 @@
 -- What a lexer gives at a plain word, and how it passes spaces.
-use Rattle.std.proofs.Common.{◌≡◌, ℕ, Bool, zero, suc, ◌+◌, ◌-◌, ◌<◌, ◌≤◌, List, [], ◌∷◌, ◌++◌, length, take, drop, get_or, true, false, ◌||◌, refl, sym, ◌∙◌, ap, subst, arith, inl, inr, Option, Some, None, Result, Ok, Err, IsErr, MatchOption}
+use Rattle.std.proofs.Common.{◌≡◌, ℕ, Bool, zero, suc, ◌+◌, ◌-◌, ◌<◌, ◌≤◌, List, [], ◌∷◌, ◌++◌, length, take, drop, get_or, true, false, ◌||◌, refl, sym, ◌∙◌, ap, subst, arith, inl, Option, Some, None, Ok, MatchOption}
 use Rattle.std.specs.Bool.{⊤}
 use Rattle.std.specs.List.{list_all, list_any}
 use Rattle.std.specs.Str.{IsUtf8}
-use Rattle.std.specs.declared.alloc.AllocError.{AllocError}
 use Rattle.pp_lexer.specs.declared.token.Location.{Location}
 use Rattle.pp_lexer.specs.declared.lexer.char_iterator.Spot.{Spot}
 use Rattle.pp_lexer.specs.declared.lexer.item.TokenValue.{TokenValue}
 use Rattle.pp_lexer.specs.declared.lexer.Flags.{Flags}
 use Rattle.pp_lexer.specs.inner.Fronts.{spots_from, run}
-use Rattle.pp_lexer.specs.Items.{Lexeme, is_comment}
-use Rattle.pp_lexer.specs.Lexed.{first_item}
-use Rattle.pp_lexer.specs.inner.Passing.{seen_from, seen_of, comments_at_end, places_from, places_left, lexed, IsPlaced, IsLexed}
-use Rattle.pp_lexer.specs.LexerToken.{holds_memory}
-use Rattle.pp_lexer.specs.inner.PlainWords.{is_space, IsPlainWord, IsPlainLexed}
+use Rattle.pp_lexer.specs.Items.{is_comment}
+use Rattle.pp_lexer.specs.inner.Passing.{seen_from, seen_of, comments_at_end, places_from, places_left, IsPlaced, IsLexed}
+use Rattle.pp_lexer.specs.inner.PlainWords.{is_space, IsPlainWord}
 use Rattle.pp_lexer.specs.Reading.{Reading, letters, first_char, advanced_of, advanced}
 use Rattle.pp_lexer.specs.Segments.{segments}
 use Rattle.pp_lexer.specs.Words.{is_blank, word_at}
-use Rattle.pp_lexer.specs.Outcome.{takes_memory}
 use Rattle.std.proofs.lemmas.List.{length-take-le}
 use Rattle.pp_lexer.proofs.characters.FrontsLemmas.{plain_front}
-use Rattle.pp_lexer.proofs.items.LexLemmas.{lexed_front, lexed_refused, placed_front}
+use Rattle.pp_lexer.proofs.items.LexLemmas.{lexed_front, placed_front}
 use Rattle.pp_lexer.proofs.characters.PlainFrontsLemmas.{all_plain, split_at, advanced_run, front_plain, front_first, after_front}
 use Rattle.pp_lexer.proofs.characters.SpacesLemmas.{space_plain, spaced, spaces_seen, spaces_places, spaces_at_end}
 
@@ -134,13 +130,6 @@ module _ (f : Flags) (r : Reading) (line at : ℕ) (text : List ℕ) (e : r.rest
         placed_front f r r q first last (Ok value) false old here (no_blank_first first (first_char r) here w.no_blank) refl
         (inl (ap (λ o. Ok o.value) (sym word))) (there q k) (ap (λ x. x.last) (sym k)) (sym w.no_newline)
 
-    -- memory was refused
-    pub refused_plain : (err : AllocError) (answer : Result (Option Lexeme) AllocError) → IsErr answer → holds_memory value ≡ true → IsLexed f r answer f r
-    unfolding first
-    refused_plain err answer h m =
-        lexed_refused f r r r first err answer here (no_blank_first first (first_char r) here w.no_blank) refl h
-        (inr (refl, ap (λ ss. takes_memory (word_at (letters ss)).value) e ∙ ap (λ o. takes_memory o.value) (w.word line at) ∙ m))
-
   module _ (u : IsUtf8 text) (q : Reading) (n : ℕ) (more : 0 < n) (le : n ≤ length text) (passes : list_all is_space (take n text) ≡ true)
       (k : q ≡ record {
         rest = spots_from line (at + n) (drop n text);
@@ -162,20 +151,3 @@ module _ (f : Flags) (r : Reading) (line at : ℕ) (text : List ℕ) (e : r.rest
     spaces_comments =
         ap (comments_at_end (spaced f)) moved ∙ sym (spaces_passed f line at n text r.last u more le passes).at_end
         ∙ ap (λ ss. f.had_comments || list_any (λ g. is_comment g.kind) (segments ss)) (sym e)
-
--- an error stays one
-pub lexed_err : (f g : Flags) (r q : Reading) (err : AllocError) (answer : Result (Option Lexeme) AllocError) → IsLexed f r (Err err) g q
-    → IsErr answer → IsLexed f r answer g q
-lexed_err f g r q err answer (inl x) h = inl (record { value = h; needed = x.needed; comments = x.comments })
-lexed_err f g r q err answer (inr x) h = let e : Err err ≡ Ok (first_item (seen_of f r)) = x.value in cc
-
-pub plain_refused : (f : Flags) (r : Reading) (answer : Result (Option Lexeme) AllocError) → IsErr answer
-    → ((err : AllocError) → IsLexed f r (Err err) f r) → IsPlainLexed f r answer f r
-plain_refused f r (Ok o) h k = cc
-plain_refused f r (Err err) h k = k err
-
--- where the same items are to come, a lexer differs by the comments that were passed alone
-pub lexed_same : (f g : Flags) (r q : Reading) (place : Location) (spent : Bool) → seen_of g q ≡ seen_of f r
-    → comments_at_end g q ≡ comments_at_end f r → places_left g q ≡ places_left f r
-    → lexed g q place spent ≡ record (lexed f r place spent) { had_comments = g.had_comments }
-lexed_same f g r q place spent same at_end places = rw (same, at_end, places) refl

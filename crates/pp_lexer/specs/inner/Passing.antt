@@ -1,6 +1,6 @@
 -- A lexer in the midst of a text: those facts of what it has passed on which the items to come depend.
 use Rattle.std.specs.Prelude.{◌≡◌, Bool, true, false, ◌||◌, ◌⊎◌, IsTrue, IsErr, if◌then◌else◌, List, [], ◌∷◌, ◌++◌}
-use Rattle.std.specs.Prelude.{Option, Result, Ok, Err}
+use Rattle.std.specs.Prelude.{Option, Result, Ok, Err, OnOk}
 use Rattle.std.specs.List.{list_any}
 use Rattle.std.specs.declared.alloc.AllocError.{AllocError}
 use Rattle.pp_lexer.specs.declared.token.PreprocessorError.{PreprocessorError}
@@ -8,6 +8,7 @@ use Rattle.pp_lexer.specs.declared.lexer.item.TokenValue.{TokenValue}
 use Rattle.pp_lexer.specs.declared.lexer.item.TokenValue.TheVariants.{NewLine}
 use Rattle.pp_lexer.specs.declared.lexer.char_iterator.Spot.{Spot}
 use Rattle.pp_lexer.specs.declared.lexer.Flags.{Flags}
+use Rattle.pp_lexer.specs.declared.lexer.LexerState.{LexerState}
 use Rattle.pp_lexer.specs.declared.token.Location.{Location}
 use Rattle.pp_lexer.specs.Location.{nowhere}
 use Rattle.pp_lexer.specs.Reading.{Reading}
@@ -93,6 +94,17 @@ lexed f r place spent = record {
   places = places_left f r;
 }
 
+-- the same, if memory didn't run out
+abbrev pub lexed_at : LexerState → Lexed
+lexed_at s = lexed s.flags s.inner s.place false
+
+-- the same items are to come, and none was taken
+pub record SeesSame (old new : LexerState) : Type 0 where
+  pub items : seen_of new.flags new.inner ≡ seen_of old.flags old.inner
+  pub at_end : comments_at_end new.flags new.inner ≡ comments_at_end old.flags old.inner
+  pub places : places_left new.flags new.inner ≡ places_left old.flags old.inner
+  pub place : new.place ≡ old.place
+
 -- the place of the first item was noted, or the end was met
 pub record IsPlaced (f : Flags) (r : Reading) (old : Location) (g : Flags) (q : Reading) (new : Location) : Type 0 where
   pub place : new ≡ first_place (places_left f r) old
@@ -115,3 +127,8 @@ pub record IsLexTaken (f : Flags) (r : Reading) (g : Flags) (q : Reading)
 
 abbrev pub IsLexed : Flags → Reading → Result (Option Lexeme) AllocError → Flags → Reading → Type 0
 IsLexed f r answer g q = IsLexRefused f r g answer ⊎ IsLexTaken f r g q answer
+
+-- the first item was read with its place, or the end was met
+pub record IsRead (old : LexerState) (answer : Result (Option Lexeme) AllocError) (new : LexerState) : Type 0 where
+  pub lexed : IsLexed old.flags old.inner answer new.flags new.inner
+  pub placed : OnOk answer (IsPlaced old.flags old.inner old.place new.flags new.inner new.place)

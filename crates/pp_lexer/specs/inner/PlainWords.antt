@@ -1,10 +1,8 @@
 -- Words, spaces and newlines at the front of a plain text, by their bytes.
 use Rattle.std.specs.Prelude.{◌≡◌, ℕ, ◌+◌, ◌<◌, ◌≤◌, Bool, true, false, ◌||◌, ◌&&◌, ◌==◌, List, [], ◌∷◌, ◌++◌, length}
-use Rattle.std.specs.Prelude.{take, drop, slice_index, is_some, if◌then◌else◌, Option, Some, None, Result, Ok, Err}
-use Rattle.std.specs.Prelude.{MatchResult, MatchOption}
+use Rattle.std.specs.Prelude.{take, drop, slice_index, is_some, if◌then◌else◌, Option, Some, None, Ok}
 use Rattle.std.specs.Char.{is_ascii_alphabetic, is_ascii_alphanumeric}
 use Rattle.std.specs.Str.{IsAscii, IsCharBoundary}
-use Rattle.std.specs.declared.alloc.AllocError.{AllocError}
 use Rattle.pp_lexer.specs.declared.token.Punct.{Punct as Punctuator}
 use Rattle.pp_lexer.specs.declared.token.Punct.TheVariants.{AddAssign, SubAssign, MulAssign, DivAssign, ModAssign}
 use Rattle.pp_lexer.specs.declared.token.Punct.TheVariants.{AndAssign, XorAssign, OrAssign, Increment, Decrement}
@@ -17,15 +15,13 @@ use Rattle.pp_lexer.specs.declared.token.Punct.TheVariants.{Percent, Pipe, Caret
 use Rattle.pp_lexer.specs.declared.lexer.item.TokenValue.{TokenValue}
 use Rattle.pp_lexer.specs.declared.lexer.plain.Word.{Word}
 use Rattle.pp_lexer.specs.declared.lexer.plain.comment.Comment.{Comment}
-use Rattle.pp_lexer.specs.declared.lexer.Flags.{Flags}
 use Rattle.pp_lexer.specs.inner.Fronts.{spots_from, run}
-use Rattle.pp_lexer.specs.Items.{Lexeme, is_newline}
+use Rattle.pp_lexer.specs.Items.{is_newline}
 use Rattle.pp_lexer.specs.PlainItems.{value_of}
 use Rattle.pp_lexer.specs.Segments.{item}
 use Rattle.pp_lexer.specs.Numbers.{is_decimal, is_point, is_sign}
-use Rattle.pp_lexer.specs.inner.Passing.{IsLexed}
 use Rattle.pp_lexer.specs.Punctuators.{punct_of}
-use Rattle.pp_lexer.specs.Reading.{Reading, letters}
+use Rattle.pp_lexer.specs.Reading.{letters}
 use Rattle.pp_lexer.specs.Words.{is_blank, word_at}
 
 -- a blank that is no comment
@@ -168,14 +164,3 @@ pub record IsPlainComment (text : List ℕ) (comment : Comment) : Type 0 where
       → spots_from line at text
       ≡ record { c = 13; line = line; begin = at; end = at + 1 }
       ∷ spots_from (line + comment.newlines) (at + comment.taken) (drop comment.taken text)
-
--- the next item is given, or memory ran out, or nothing changed
-abbrev pub IsPlainLexed : Flags → Reading → Result (Option Lexeme) AllocError → Flags → Reading → Type 0
-IsPlainLexed f r answer g q =
-    MatchResult answer
-    (λ o. MatchOption o ((g ≡ f) × (q ≡ r)) (λ item. IsLexed f r (Ok (Some item)) g q))
-    (λ e. IsLexed f r (Err e) g q)
-
--- a newline is given, or nothing changed
-abbrev pub IsNewlineLexed : Flags → Reading → Option Lexeme → Flags → Reading → Type 0
-IsNewlineLexed f r answer g q = MatchOption answer ((g ≡ f) × (q ≡ r)) (λ item. IsLexed f r (Ok (Some item)) g q)

@@ -23,6 +23,8 @@ pub struct PlainItem<'a> {
     pub leading_whitespace: bool,
     /// Whether only blanks and comments come before it on its line.
     pub start_of_line: bool,
+    /// What is left of the source after it.
+    pub rest: &'a str,
 }
 
 /// The spelling without its last byte.

@@ -5,7 +5,7 @@ use Rattle.pp_lexer.specs.inner.PlainWords.{is_space}
 use Rattle.pp_lexer.proofs.characters.PlainFrontsLemmas.{all_plain, cut_after_plain}
 use Rattle.pp_lexer.proofs.characters.SpacesLemmas.{space_plain}
 use Rattle.pp_lexer.proofs.items.AfterSpacesLemmas.{after_none, after_some}
-use Rattle.pp_lexer.proofs.lexer.front_of.Goals as goal
+use Rattle.pp_lexer.proofs.lexer.LexerState.front.Goals as goal
 
 pub range_from-requires : goal.range_from-requires
 range_from-requires c = λ some.
@@ -18,7 +18,7 @@ range_from-requires c = λ some.
     cut_after_plain n text u some le (all_plain is_space space_plain (take n text) passes)
 
 pub returns-then-count-eq0 : goal.returns-then-count-eq0
-returns-then-count-eq0 c = after_none c.left-left.result.line c.left-left.result.at c.left-left.result.text.now c.args.inner.now c.left-left.ensures
+returns-then-count-eq0 c = after_none c.left-left.result.line c.left-left.result.at c.left-left.result.text.now c.args.self.now.inner c.left-left.ensures
 
 pub returns : goal.returns
 returns c =
@@ -29,5 +29,5 @@ returns c =
     let le : n ≤ length text = omega (arith, ap length c.as_bytes.ensures.value) in
     let passes : list_all is_space (take n text) ≡ true = ap (λ t. list_all is_space (take n t)) (sym c.as_bytes.ensures.value)
     ∙ c.spaces_length-count.ensures.passes in
-    after_some c.left-left.result.line c.left-left.result.at n text c.range_from.result.now c.args.inner.now c.left-left.ensures u some le passes
+    after_some c.left-left.result.line c.left-left.result.at n text c.range_from.result.now c.args.self.now.inner c.left-left.ensures u some le passes
     c.range_from.ensures.value

@@ -1,7 +1,7 @@
-use Rattle.std.proofs.Common.{subst}
+use Rattle.std.proofs.Common.{subst, refl}
 use Rattle.pp_lexer.specs.inner.PlainWords.{IsPlainComment}
 use Rattle.pp_lexer.proofs.items.PassedCommentsLemmas.{comment_passed}
-use Rattle.pp_lexer.proofs.lexer.skip_comment.Goals as goal
+use Rattle.pp_lexer.proofs.lexer.LexerState.skip_comment.Goals as goal
 
 pub range_from-requires : goal.range_from-requires
 range_from-requires c = λ some.
@@ -13,7 +13,7 @@ pub returns : goal.returns
 returns c =
     let w : IsPlainComment c.left-left.result.text.now c.in-Some.comment =
     subst (λ t. IsPlainComment t c.in-Some.comment) c.as_bytes.ensures.value c.in-Some.ensures in
-    let b = comment_passed c.args.flags.now c.args.inner.now c.go.new.self c.left-left.result.line c.left-left.result.at
+    let b = comment_passed c.args.self.now.flags c.args.self.now.inner c.go.new.self c.left-left.result.line c.left-left.result.at
     c.left-left.result.text.now c.range_from.result.now c.in-Some.comment c.left-left.ensures.rest_is w c.range_from.ensures.value
     c.go.ensures in
-    record { same = b.same; at_end = b.at_end; places = b.places }
+    record { items = b.same; at_end = b.at_end; places = b.places; place = refl }

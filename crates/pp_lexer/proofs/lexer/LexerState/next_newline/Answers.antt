@@ -1,0 +1,25 @@
+use Rattle.std.proofs.Common.{subst}
+use Rattle.pp_lexer.specs.inner.PlainWords.{IsPlainNewline}
+use Rattle.pp_lexer.proofs.characters.NewlinesLemmas.{lexed_newline, placed_newline}
+use Rattle.pp_lexer.proofs.lexer.LexerState.next_newline.Goals as goal
+
+pub range_from-requires : goal.range_from-requires
+range_from-requires c = λ some.
+    let w : IsPlainNewline c.left-left.result.text.now c.in-Some.taken =
+    subst (λ t. IsPlainNewline t c.in-Some.taken) c.as_bytes.ensures.value c.in-Some.ensures in
+    w.cut
+
+pub returns-clause-lexed : goal.returns-clause-lexed
+returns-clause-lexed c =
+    let f = c.args.self.now.flags in
+    let r = c.args.self.now.inner in
+    let line = c.left-left.result.line in
+    let at = c.left-left.result.at in
+    let text = c.left-left.result.text.now in
+    let n = c.in-Some.taken in
+    let e = c.left-left.ensures.rest_is in
+    let w : IsPlainNewline text n = subst (λ t. IsPlainNewline t n) c.as_bytes.ensures.value c.in-Some.ensures in
+    record {
+      lexed = lexed_newline f r c.go.new.self line at n text c.range_from.result.now e w c.range_from.ensures.value c.go.ensures;
+      placed = placed_newline f r c.go.new.self line at n text c.range_from.result.now c.args.self.now.place e w c.range_from.ensures.value c.go.ensures;
+    }
