@@ -89,19 +89,35 @@ impl OpenBlock {
     }
 }
 
+// Whether the text is live in the innermost of these blocks.
+fn is_live(blocks: &Vec<OpenBlock>) -> bool
+    ensures { result ≡ spec.is_live_in (spec.last_block blocks.now.items) }
+{
+    match blocks.last() {
+        Some(block) => block.live_around && block.chosen,
+        None => true,
+    }
+}
+
 /// The blocks that are open, the innermost last.
 #[derive(Drop)]
 pub struct Blocks {
     open: Vec<OpenBlock>,
+    // Whether the text is live in the innermost one.
+    live: bool,
 }
 
 impl Model for Blocks {
     ghost use Rattle.std.specs.Prelude.{List};
+    ghost use Rattle.std.specs.Prelude.{◌≡◌};
     ghost use Rattle.pp_macros.specs.declared.blocks.OpenBlock.{OpenBlock};
+    ghost use Rattle.pp_macros.specs.inner.OpenBlocks.{is_live_in, last_block};
 
     ghost Value = { List OpenBlock };
 
     ghost view = { λ b. b.open.items };
+
+    ghost invariant = { λ b. b.live ≡ is_live_in (last_block b.open.items) };
 }
 
 impl Blocks {
@@ -111,6 +127,7 @@ impl Blocks {
     {
         Blocks {
             open: Vec::new(alloc),
+            live: true,
         }
     }
 
@@ -126,10 +143,7 @@ impl Blocks {
     pub fn are_live(&self) -> bool
         ensures { result ≡ spec.is_live_in (spec.last_block self.now) }
     {
-        match self.open.last() {
-            Some(block) => block.live_around && block.chosen,
-            None => true,
-        }
+        self.live
     }
 
     /// Opens a block in the innermost one.
@@ -137,6 +151,7 @@ impl Blocks {
         ensures { OnOk result (self.new ≡ self.old ++ block ∷ []) }
     {
         self.open.push(block)?;
+        self.live = is_live(&self.open);
         Ok(())
     }
 
@@ -145,7 +160,9 @@ impl Blocks {
         ensures is { result ≡ spec.last_block self.old }
         ensures outer { self.new ≡ spec.outer_blocks self.old }
     {
-        self.open.pop()
+        let closed = self.open.pop();
+        self.live = is_live(&self.open);
+        closed
     }
 
     /// Replaces the innermost block.
@@ -157,5 +174,6 @@ impl Blocks {
         if let Some(last) = self.open.last_mut() {
             *last = block;
         }
+        self.live = is_live(&self.open);
     }
 }
