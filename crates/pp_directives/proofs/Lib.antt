@@ -8,6 +8,7 @@ pub mod ContentLemmas
 pub mod CommentsAfterLemmas
 pub mod SourceActsLemmas
 pub mod NotedLemmas
+pub mod PlainWordLemmas
 pub mod SourceStepLemmas
 pub mod ConditionActsLemmas
 pub mod LineTurnLemmas

@@ -1,7 +1,6 @@
 -- One step of a source, from its first token.
 use Rattle.std.proofs.Common.{◌≡◌, ◌⊎◌, ℕ, ◌+◌, ◌<◌, Bool, true, false, List, [], ◌∷◌, length, drop, Option, Some, None, Result, Ok, Err, inl, inr, refl, sym, ◌∙◌, ap, subst, arith}
 use Rattle.std.specs.Prelude.{MatchBool, if◌then◌else◌, ℤ}
-use Rattle.std.proofs.lemmas.Bool.{false_from_ne_true}
 use Rattle.std.proofs.lemmas.List.{drop-drop}
 use Rattle.pp_lexer.specs.Items.{Lexeme}
 use Rattle.pp_lexer.specs.Lexed.{Seen}
@@ -25,7 +24,7 @@ use Rattle.pp_macros.specs.inner.LineReading.{HasTaken, as_next, next_token}
 use Rattle.pp_macros.specs.inner.OpenBlocks.{facts_among, is_live_among, BlockChange, unchanged, block_change, block_change_at}
 use Rattle.pp_macros.specs.declared.blocks.OpenBlock.{OpenBlock}
 use Rattle.pp_macros.specs.inner.Source.{Source, Pauses, Makes, MakesMove, IsRefusedStep, StepsSource}
-use Rattle.pp_directives.specs.inner.SourceActs.{GivesNoted, word_note, word_change, name_move, word_move}
+use Rattle.pp_directives.specs.inner.SourceActs.{GivesNoted, StepsDirective, word_note, word_change, name_move, word_move}
 use Rattle.pp_macros.specs.inner.SourceLexed.{SourceLexed, EndKeepsPlaces}
 use Rattle.pp_model.specs.Moves.{Effect, fails, passes, Move, failing, directive_move, move_at, BlockFacts, passing}
 use Rattle.pp_model.specs.inner.Moves.{taking_more}
@@ -136,25 +135,13 @@ fewer_after : (rest after : List Seen) (token : LexerToken) → next_token rest 
 fewer_after [] after token e d = cc
 fewer_after (s ∷ rest) after token e d = omega (arith, ap length d)
 
--- a lexer that gives a token is not spent
-gives_token : (next : Option LexerToken) (token : LexerToken) → next ≡ Some token → ◌≡◌ {A = Result (Option LexerToken) Halt} (Ok next) (Ok None) → ⊥
-gives_token (Some other) token e f = cc
-gives_token None token e f = cc
-
 -- the lexer gave a token, which is after the source now
 module _ (definitions : List Defined) (blocks : List OpenBlock)
-    (line_offset : ℤ) (has_text has_directive dead : Bool) (old mid : SourceLexed) (next : Option LexerToken) (token : LexerToken) (is : next ≡ Some token)
-    (spent : old.spent ≡ true → ◌≡◌ {A = Result (Option LexerToken) Halt} (Ok next) (Ok None) × (mid ≡ old))
-    (gave : old.spent ≡ false → next_token old.rest ≡ Ok next) (took : old.spent ≡ false → HasTaken 1 old mid) where
-  unspent : old.spent ≡ false
-  unspent = false_from_ne_true old.spent (λ all. gives_token next token is (spent all).0)
-
-  gave_token : next_token old.rest ≡ Ok (Some token)
-  gave_token = gave unspent ∙ ap Ok is
-
+    (line_offset : ℤ) (has_text has_directive dead : Bool) (old mid : SourceLexed) (token : LexerToken) (unspent : old.spent ≡ false)
+    (gave : next_token old.rest ≡ Ok (Some token)) (took : HasTaken 1 old mid) where
   -- the source shows this
   shown : sight_of old.rest ≡ token_sight token mid.rest
-  shown = token_shown old.rest token gave_token ∙ ap (token_sight token) (sym (took unspent).rest)
+  shown = token_shown old.rest token gave ∙ ap (token_sight token) (sym took.rest)
 
   steps_by : (step : Step Token) (new : Source) → IsRefusedStep (source_of old definitions blocks line_offset has_text has_directive dead) step
       ⊎ Makes (note_at (is_live_among dead blocks) (token_sight token mid.rest)) (block_change_at (token_sight token mid.rest))
@@ -163,24 +150,22 @@ module _ (definitions : List Defined) (blocks : List OpenBlock)
       → StepsSource (source_of old definitions blocks line_offset has_text has_directive dead) step new
   steps_by step new h = steps_unspent (source_of old definitions blocks line_offset has_text has_directive dead) step new unspent (rw shown h)
 
-  pub step_directive : (result : Result (Option Token) Halt) (new : Source) → token.value ≡ Hash → token.start_of_line ≡ true
-      → GivesNoted (word_note (is_live_among dead blocks) (first_token token.location mid.rest)) (word_change (first_token token.location mid.rest))
-      (word_move (is_live_among dead blocks) (facts_among blocks) (first_token token.location mid.rest) (drop 1 mid.rest))
-      (source_of mid definitions blocks line_offset has_text has_directive dead) result new
-      → StepsSource (source_of old definitions blocks line_offset has_text has_directive dead) (step_of result) new
-  step_directive result new v s acts =
-      let taken = (took unspent).rest in
-      let made = word_makes definitions blocks line_offset has_text has_directive dead old mid new taken
-      (fewer_after old.rest mid.rest token gave_token taken) (is_live_among dead blocks) (facts_among blocks)
-      (first_token token.location mid.rest) result acts in
-      steps_by (step_of result) new (rw (hash_sight token mid.rest v s) made)
+  pub step_directive : (step : Step Token) (new : Source) → token.value ≡ Hash → token.start_of_line ≡ true
+      → StepsDirective token.location (source_of mid definitions blocks line_offset has_text has_directive dead) step new
+      → StepsSource (source_of old definitions blocks line_offset has_text has_directive dead) step new
+  step_directive step new v s acts =
+      let made = word_makes definitions blocks line_offset has_text has_directive dead old mid new took.rest
+      (fewer_after old.rest mid.rest token gave took.rest) (is_live_among dead blocks) (facts_among blocks)
+      (first_token token.location mid.rest) acts.given acts.gives in
+      subst (λ (x : Step Token). StepsSource (source_of old definitions blocks line_offset has_text has_directive dead) x new) (sym acts.is)
+      (steps_by (step_of acts.given) new (rw (hash_sight token mid.rest v s) made))
 
   -- in dead text a token that begins no directive is passed
   pub step_passes : is_live_among dead blocks ≡ false → (token.value ≡ Hash → token.start_of_line ≡ false)
       → StepsSource (source_of old definitions blocks line_offset has_text has_directive dead) (Err Continue)
       (source_of mid definitions blocks line_offset has_text has_directive dead)
   step_passes is_dead begins_none =
-      let t = took unspent in
+      let t = took in
       steps_by (Err Continue) (source_of mid definitions blocks line_offset has_text has_directive dead)
       (inr (rw is_dead (dead_token (source_of old definitions blocks line_offset has_text has_directive dead)
       (source_of mid definitions blocks line_offset has_text has_directive dead) token.value token.location token.leading_whitespace token.start_of_line mid.rest old.rest (facts_among blocks) begins_none (
@@ -203,19 +188,16 @@ module _ (definitions : List Defined) (blocks : List OpenBlock) (line_offset : �
       go (Ok token) e = cc
       go (Err fault) e = cc
 
-  pub step_ends : (next : Option LexerToken) → next ≡ None → (old.spent ≡ true → ◌≡◌ {A = Result (Option LexerToken) Halt} (Ok next) (Ok None)
-      × (mid ≡ old)) → (old.spent ≡ false → next_token old.rest ≡ Ok next) → (old.spent ≡ false → HasTaken 1 old mid)
+  pub step_ends : old.spent ≡ false → (next : Option LexerToken) → next ≡ None → next_token old.rest ≡ Ok next → HasTaken 1 old mid
       → EndKeepsPlaces (Ok next) old mid → (step : Step Token) (new : Source)
       → StepsSource (source_of mid definitions blocks line_offset has_text has_directive dead) step new
       → StepsSource (source_of old definitions blocks line_offset has_text has_directive dead) step new
-  step_ends next none spent gave took ended step new h = subst (λ (s : Source). StepsSource s step new) (go old.spent refl) h
+  step_ends unspent next none gave took ended step new h = subst (λ (s : Source). StepsSource s step new) same h
     where
       stays : (mid.places ≡ old.places) × (mid.error_place ≡ old.error_place)
       stays = rw none at ended
 
-      go : (b : Bool) → old.spent ≡ b
-          → source_of mid definitions blocks line_offset has_text has_directive dead ≡ source_of old definitions blocks line_offset has_text has_directive dead
-      go true e = ap (λ (l : SourceLexed). source_of l definitions blocks line_offset has_text has_directive dead) (spent e).1
-      go false e =
-          let empty = nothing_left old.rest (gave e ∙ ap (λ (o : Option LexerToken). Ok o) none) in
-          same_source ((took e).rest ∙ ap (drop 1) empty ∙ sym empty) stays.0 stays.1 ((took e).spent ∙ sym e)
+      same : source_of mid definitions blocks line_offset has_text has_directive dead ≡ source_of old definitions blocks line_offset has_text has_directive dead
+      same =
+          let empty = nothing_left old.rest (gave ∙ ap (λ (o : Option LexerToken). Ok o) none) in
+          same_source (took.rest ∙ ap (drop 1) empty ∙ sym empty) stays.0 stays.1 (took.spent ∙ sym unspent)

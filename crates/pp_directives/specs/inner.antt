@@ -11,3 +11,4 @@ pub mod DefineReading
 pub mod LineHalts
 pub mod IfParsing
 pub mod Starting
+pub mod TokenTaking

@@ -11,8 +11,8 @@ ghost use Rattle.pp_model.specs.Conversions.{conversion};
 ghost use Rattle.pp_macros.specs.Item.{as_step};
 ghost use Rattle.pp_directives.specs.WordTokens.{word_token};
 
-use pp_lexer::lexer::{self, PlainItem, plain_value};
-use pp_lexer::token::{Token, TokenValue};
+use pp_lexer::lexer::{self, Form, PlainItem, without_suffix};
+use pp_lexer::token::{Float, Integer, Text, Token, TokenValue};
 use pp_macros::step::{Step, StepExit};
 use pp_model::conversion::convert_lexer_token;
 use std::alloc::{AllocError, Global};
@@ -26,6 +26,15 @@ pub fn convert_lexer_token_to_step(token: lexer::Token) -> Step<Token>
     convert_lexer_token(token).map_err(StepExit::Error)
 }
 
+// The text with this spelling.
+#[inline(always)]
+fn text_of(alloc: Global, spelling: &str) -> Result<Text, AllocError>
+    requires { IsAscii spelling.now }
+    ensures { IfOk result (λ text. text ≡ spelling.now) }
+{
+    Ok(Text::from(String::from_str(alloc, spelling)?))
+}
+
 /// The token of a word of plain text. The error is that its text could not be allocated.
 #[inline(always)]
 pub fn word_token(alloc: Global, item: PlainItem<'_>) -> Result<Token, AllocError>
@@ -35,12 +44,28 @@ pub fn word_token(alloc: Global, item: PlainItem<'_>) -> Result<Token, AllocErro
     ensures word { IfOk result (λ token. token ≡ word_token item.entry) }
     ensures holds { IfOk result (λ token. HoldsOrdinary token.value) }
 {
-    let value = match plain_value(alloc, item.form, item.spelling)? {
-        lexer::TokenValue::Ident(name) => TokenValue::Ident(name),
-        lexer::TokenValue::Integer(integer) => TokenValue::Integer(integer),
-        lexer::TokenValue::Float(float) => TokenValue::Float(float),
-        lexer::TokenValue::Punct(punct) => TokenValue::Punct(punct),
-        lexer::TokenValue::Hash | lexer::TokenValue::NewLine => unreachable!(),
+    let value = match item.form {
+        Form::Identifier => TokenValue::Ident(text_of(alloc, item.spelling)?),
+        Form::Integer(value) => TokenValue::Integer(Integer {
+            value,
+            signed: true,
+            width: 32,
+        }),
+        Form::Unsigned(value) => TokenValue::Integer(Integer {
+            value,
+            signed: false,
+            width: 32,
+        }),
+        Form::Float => TokenValue::Float(Float {
+            text: text_of(alloc, item.spelling)?,
+            width: 32,
+        }),
+        Form::SuffixedFloat => TokenValue::Float(Float {
+            text: text_of(alloc, without_suffix(item.spelling))?,
+            width: 32,
+        }),
+        Form::Punct(punct) => TokenValue::Punct(punct),
+        Form::Hash => unreachable!(),
     };
     Ok(Token {
         value,

@@ -15,7 +15,7 @@ ghost use Rattle.pp_macros.specs.inner.Defined.{meaning_of};
 ghost use Rattle.pp_macros.specs.Held.{HoldsOrdinary};
 ghost use Rattle.pp_macros.specs.Item.{as_step};
 ghost use Rattle.pp_macros.specs.inner.Reader.{of_source, ReadsOnto, ReadsRun};
-ghost use Rattle.pp_directives.specs.inner.PlainText.{IsInText, StepsPlain, GivesWord, GivesBare, GivesApart, PausesAtNewline};
+ghost use Rattle.pp_directives.specs.inner.PlainText.{IsInText, GivesWord, GivesBare, GivesApart, PausesAtNewline};
 ghost use Rattle.pp_directives.specs.WordTokens.{word_value};
 ghost use Rattle.pp_macros.specs.inner.Turns.{macro_of_value};
 ghost use Rattle.pp_directives.specs.inner.ReadNames.{as_named};
@@ -23,20 +23,20 @@ ghost use Rattle.pp_macros.specs.inner.OpenBlocks.{last_block, facts_among, is_l
 ghost use Rattle.pp_directives.specs.inner.SettingContent.{SetsContent};
 ghost use Rattle.pp_macros.specs.inner.Source.{StepsSource, unreported_of};
 ghost use Rattle.pp_directives.specs.inner.LineEntries.{entries_move};
-ghost use Rattle.pp_directives.specs.inner.SourceActs.{Acts, ActsAsItem, ActsNoted, Gives, GivesNoted, is_as, without_item, word_change, word_move, word_note, define_move};
+ghost use Rattle.pp_directives.specs.inner.SourceActs.{Acts, GivesDirective, StepsDirective, ActsAsItem, ActsNoted, Gives, GivesNoted, is_as, without_item, word_change, word_move, word_note, define_move};
 ghost use Rattle.pp_directives.specs.inner.Starting.{source_start};
 ghost use Rattle.pp_model.specs.Moves as moves;
 ghost use Rattle.pp_macros.specs.inner.Unreported.{Unreported, Reports, ExitReports, StepReports};
 
 use crate::content::content_tokens;
-use crate::convert::{convert_lexer_token_to_step, word_token};
+use crate::convert::convert_lexer_token_to_step;
 use crate::line_value::{condition, line_number};
 use crate::lines::{
     DefineLine, define_line, ended_line, endif_end, first_name, first_token, line_reads,
     line_tokens, only_name, skip_line,
 };
-use crate::live_names::{LineName, LiveNames, OtherNames};
 use crate::source_lexer::SourceLexer;
+use crate::words::{gives_itself, is_apart, opens_bare};
 use pp_lexer::lexer::{self, Form, PlainItem};
 use pp_lexer::token::{
     Extension, Location, Pragma, PreprocessorError, Text, Token, TokenValue, Version, out_of_memory,
@@ -567,12 +567,7 @@ impl<'a> DirectiveProcessor<'a> {
     // The item that a directive gives, if it gives one, after its number sign.
     fn read_directive(&mut self, hash: Location) -> Result<Option<Token>, Halt>
         requires { self.old.spent ≡ false }
-        ensures gives { GivesNoted
-            (word_note (is_live_among self.old.dead_for_good self.old.blocks)
-            (first_token hash self.old.rest)) (word_change (first_token hash self.old.rest))
-            (word_move (is_live_among self.old.dead_for_good self.old.blocks)
-            (facts_among self.old.blocks) (first_token hash self.old.rest)
-            (drop 1 self.old.rest)) self.old result self.new }
+        ensures gives { GivesDirective hash self.old result self.new }
         ensures holds { IfOk result (λ given. IfSome given (λ token. HoldsOrdinary token.value)) }
         ensures errors { Reports result (unreported_of self.old) (unreported_of self.new) }
     {
@@ -599,13 +594,11 @@ impl<'a> DirectiveProcessor<'a> {
 
     // Reports the innermost block that is open at the end of the source or, without one, the end.
     fn end(&mut self) -> StepExit
-        requires { self.old.spent ≡ false → self.old.rest ≡ [] }
+        requires unspent { self.old.spent ≡ false }
+        requires end { self.old.rest ≡ [] }
         ensures reads { StepsSource self.old (Err result) self.new }
         ensures errors { ExitReports result (unreported_of self.old) (unreported_of self.new) }
     {
-        if self.lexer.is_spent() {
-            return StepExit::Finished;
-        }
         match self.blocks.pop() {
             Some(block) => StepExit::Error((PreprocessorError::UnfinishedBlock, block.word)),
             None => StepExit::Finished,
@@ -620,12 +613,13 @@ impl<'a> DirectiveProcessor<'a> {
         ensures gives { GivesWord self.old result self.new }
         ensures stays { IsInText self.new }
     {
-        let names = LiveNames {
-            definitions: &self.definitions,
-        };
-        let item = self.lexer.next_unknown_unspent(&names)?;
+        let word = self.lexer.peek_word()?;
+        if !gives_itself(&word, &self.definitions) {
+            return None;
+        }
+        self.lexer.pass_word(&word);
         self.has_text = true;
-        Some(item)
+        Some(word)
     }
 
     /// The next word of plain text before memory is taken for it, if it is in live text and is the name of a macro
@@ -634,16 +628,16 @@ impl<'a> DirectiveProcessor<'a> {
     pub fn next_bare(&mut self) -> Option<PlainItem<'a>>
         ensures { GivesBare self.old result self.new }
     {
-        let live_text = self.is_live();
-        if !live_text {
+        if !self.is_in_text() {
             return None;
         }
-        let names = OtherNames {
-            definitions: &self.definitions,
-        };
-        let item = self.lexer.next_unknown(&names)?;
+        let word = self.lexer.peek_word()?;
+        if !opens_bare(&word, &self.definitions) {
+            return None;
+        }
+        self.lexer.pass_word(&word);
         self.has_text = true;
-        Some(item)
+        Some(word)
     }
 
     /// The macro that the word is the name of, if it is defined.
@@ -660,30 +654,31 @@ impl<'a> DirectiveProcessor<'a> {
         }
     }
 
-    // The token of a word of plain text, if one comes first in live text and isn't `__LINE__`. Otherwise nothing
-    // changes.
+    // The token of a word of plain text, if one comes first and isn't `__LINE__`. Otherwise nothing changes.
     #[inline(always)]
     fn next_apart(&mut self) -> Result<Option<Token>, AllocError>
-        ensures { IfOk result (λ next. GivesApart self.old next self.new) }
+        requires { IsInText self.old }
+        ensures gives { IfOk result (λ next. GivesApart self.old next self.new) }
+        ensures stays { IfOk result (λ _. IsInText self.new) }
     {
-        let in_live_text = self.is_live();
-        if !in_live_text {
-            return Ok(None);
-        }
-        let Some(item) = self.lexer.next_unknown(&LineName) else {
+        let Some(word) = self.lexer.peek_word() else {
             return Ok(None);
         };
-        let token = word_token(self.alloc, item)?;
+        if !is_apart(&word) {
+            return Ok(None);
+        }
+        let token = self.lexer.take_word(self.alloc, word)?;
         self.has_text = true;
         Ok(Some(token))
     }
 
-    // Reads a word of plain text onto the end of the tokens, if one comes first in live text and isn't `__LINE__`.
-    // Returns whether it did. Otherwise nothing changes.
+    // Reads such a token onto the end of the tokens, and returns whether there was one.
     #[inline(always)]
     fn push_word(&mut self, tokens: &mut Vec<Read>) -> Result<bool, AllocError>
-        ensures { IfOk result (λ pushed. ReadsOnto (of_source self.old) tokens.old.items pushed
+        requires { IsInText self.old }
+        ensures onto { IfOk result (λ pushed. ReadsOnto (of_source self.old) tokens.old.items pushed
             (of_source self.new) tokens.new.items) }
+        ensures stays { IfOk result (λ _. IsInText self.new) }
     {
         let Some(token) = self.next_apart()? else {
             return Ok(false);
@@ -698,6 +693,9 @@ impl<'a> DirectiveProcessor<'a> {
         ensures { IfOk result (λ found. ReadsRun (of_source self.old) tokens.old.items found
             (of_source self.new) tokens.new.items) }
     {
+        if !self.is_in_text() {
+            return Ok(false);
+        }
         'words: while self.push_word(tokens)? {
             if ends_at_parenthesis(tokens) {
                 return Ok(true);
@@ -714,36 +712,32 @@ impl<'a> DirectiveProcessor<'a> {
         ensures pauses { PausesAtNewline self.old result self.new }
         ensures stays { IsInText self.new }
     {
-        self.lexer.pass_newline_unspent()
+        self.lexer.pass_newline()
     }
 
-    // A step at a word of plain text, if one comes first: a token in live text, and a pause without memory in dead
-    // text. A newline of plain text is a pause too.
-    #[inline(always)]
-    fn step_plain(&mut self) -> Option<Step<Token>>
-        ensures reads { StepsPlain self.old result self.new }
-        ensures holds { IfSome result (λ step. IfOk step (λ token. HoldsOrdinary token.value)) }
+    // A step at a directive, after its number sign.
+    fn step_directive(&mut self, hash: Location) -> Step<Token>
+        requires { self.old.spent ≡ false }
+        ensures reads { StepsDirective hash self.old result self.new }
+        ensures holds { IfOk result (λ token. HoldsOrdinary token.value) }
+        ensures errors { StepReports result (unreported_of self.old) (unreported_of self.new) }
     {
-        let Some(item) = self.lexer.next_plain() else {
-            return self.lexer.pass_newline().then_some(Err(StepExit::Continue));
-        };
-        if !self.is_live() {
-            return Some(Err(StepExit::Continue));
+        match self.read_directive(hash)? {
+            Some(item) => Ok(item),
+            None => Err(StepExit::Continue),
         }
-        let Ok(token) = word_token(self.alloc, item) else {
-            self.lexer.spend();
-            return Some(Err(StepExit::Error(out_of_memory())));
-        };
-        self.has_text = true;
-        Some(Ok(token))
     }
 
     // A step at any item, or at the end.
     fn step_any(&mut self) -> Step<Token>
+        requires { self.old.spent ≡ false }
         ensures reads { StepsSource self.old result self.new }
         ensures holds { IfOk result (λ token. HoldsOrdinary token.value) }
         ensures errors { StepReports result (unreported_of self.old) (unreported_of self.new) }
     {
+        if self.lexer.pass_newline() {
+            return Err(StepExit::Continue);
+        }
         let Some(token) = self.lexer.next_token()? else {
             return Err(self.end());
         };
@@ -755,10 +749,7 @@ impl<'a> DirectiveProcessor<'a> {
             lexer::TokenValue::Hash if token.start_of_line => {
                 let hash = token.location;
                 drop(token);
-                match self.read_directive(hash)? {
-                    Some(item) => Ok(item),
-                    None => Err(StepExit::Continue),
-                }
+                self.step_directive(hash)
             }
             _ if self.is_live() => self.give_token(token),
             _ => {
@@ -782,9 +773,27 @@ impl<'a> DirectiveProcessor<'a> {
         ensures holds { IfOk result (λ token. HoldsOrdinary token.value) }
         ensures errors { StepReports result (unreported_of self.old) (unreported_of self.new) }
     {
-        if let Some(step) = self.step_plain() {
-            return step;
+        if self.lexer.is_spent() {
+            return Err(StepExit::Finished);
         }
-        self.step_any()
+        let Some(word) = self.lexer.peek_word() else {
+            return self.step_any();
+        };
+        if matches!(word.form, Form::Hash) {
+            if !word.start_of_line {
+                return self.step_any();
+            }
+            self.lexer.pass_word(&word);
+            return self.step_directive(word.location);
+        }
+        if !self.is_live() {
+            self.lexer.pass_word(&word);
+            return Err(StepExit::Continue);
+        }
+        let Ok(token) = self.lexer.take_word(self.alloc, word) else {
+            return Err(StepExit::Error(out_of_memory()));
+        };
+        self.has_text = true;
+        Ok(token)
     }
 }

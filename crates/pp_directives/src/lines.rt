@@ -15,11 +15,10 @@ ghost use Rattle.pp_macros.specs.inner.ParameterReading.{function_at};
 ghost use Rattle.pp_macros.specs.inner.SourceLexed.{unreported_at};
 ghost use Rattle.pp_macros.specs.inner.Unreported.{Reports};
 
-use crate::convert::word_token;
 use crate::parameters::parameters;
 use crate::source_lexer::SourceLexer;
 use crate::token_list::{LineReads, TokenList};
-use pp_lexer::lexer;
+use pp_lexer::lexer::{self, Form};
 use pp_lexer::token::{Location, PreprocessorError, Punct, Text, Token, Tokens};
 use pp_macros::define::Define;
 use pp_macros::halt::Halt;
@@ -97,7 +96,8 @@ fn pass_token(lexer: &mut SourceLexer<'_>) -> Result<bool, Halt>
     ensures errors { Reports result (unreported_at lexer.old) (unreported_at lexer.new) }
     ensures fault { spec.FaultTakesSome result lexer.old lexer.new }
 {
-    if lexer.next_plain().is_some() {
+    if let Some(word) = lexer.peek_word() {
+        lexer.pass_word(&word);
         return Ok(true);
     }
     match lexer.next_token()? {
@@ -149,16 +149,16 @@ fn line_token(token: Option<lexer::Token>) -> Result<Option<Token>, Halt>
 // The next token of the line, if it is a word of plain text. Otherwise no token is taken.
 #[inline(always)]
 fn plain_token(alloc: Global, lexer: &mut SourceLexer<'_>) -> Result<Option<Token>, AllocError>
+    requires { lexer.old.spent ≡ false }
     ensures { IfOk result (λ next. GivesLineToken lexer.old next lexer.new) }
 {
-    let Some(item) = lexer.next_plain() else {
+    let Some(word) = lexer.peek_word() else {
         return Ok(None);
     };
-    let Ok(token) = word_token(alloc, item) else {
-        lexer.spend();
-        return Err(AllocError);
-    };
-    Ok(Some(token))
+    if matches!(word.form, Form::Hash) {
+        return Ok(None);
+    }
+    Ok(Some(lexer.take_word(alloc, word)?))
 }
 
 /// The next token of the line, or `None` if the line ends.

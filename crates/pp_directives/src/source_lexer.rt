@@ -1,27 +1,26 @@
-//! The lexer of a source, which knows whether it is spent.
+//! The lexer of a source, which keeps the place of an error.
 
-ghost use Rattle.std.specs.Prelude.{◌≡◌, ◌≢◌, ◌-◌, ◌^◌, ◌<◌, length, [], false, true, None, Ok, IfOk, IfSome};
-ghost use Rattle.pp_lexer.specs.Lexed.{start_of, comments_before};
+ghost use Rattle.std.specs.Prelude.{◌≡◌, ◌≢◌, ◌-◌, ◌^◌, ◌<◌, length, false, None, IfOk, IfSome};
+ghost use Rattle.pp_lexer.specs.Lexed.{start_of};
 ghost use Rattle.pp_lexer.specs.Spots.{spots_of};
-ghost use Rattle.pp_directives.specs.inner.PlainText.{GivesPlain, GivesUnknown, PassesNewline};
-ghost use Rattle.pp_macros.specs.inner.LineReading as spec;
-ghost use Rattle.pp_macros.specs.inner.SourceLexed.{beginning, unreported_at, EndKeepsPlaces};
-ghost use Rattle.pp_macros.specs.inner.Unreported.{Reports};
+ghost use Rattle.pp_lexer.specs.declared.lexer.plain.Form.TheVariants.{Hash};
+ghost use Rattle.pp_directives.specs.inner.PlainText.{IsPeeked, PassesBlanks, PassesWord, TakesWordToken, PassesNewline};
+ghost use Rattle.pp_directives.specs.inner.TokenTaking.{TakesToken};
+ghost use Rattle.pp_macros.specs.inner.SourceLexed.{beginning};
 
-use pp_lexer::lexer::{self, KnownNames, Lexer, PlainItem};
-use pp_lexer::token::Location;
+use crate::convert::word_token;
+use pp_lexer::lexer::{self, Lexer, PlainItem};
+use pp_lexer::token::{Location, Token};
 use pp_macros::halt::Halt;
 use pp_macros::step::is_out_of_memory;
-use std::alloc::Global;
+use std::alloc::{AllocError, Global};
 use std::marker::Model;
 
-/// The lexer of a source. It is spent once an allocation failed. It keeps the place of an error that was read until the
-/// error is reported.
+/// The lexer of a source. It keeps the place of an error that was read until the error is reported.
 #[derive(Drop)]
 pub struct SourceLexer<'a> {
     lexer: Lexer<'a>,
     error_place: Option<Location>,
-    spent: bool,
 }
 
 impl<'a> Model for SourceLexer<'a> {
@@ -31,9 +30,16 @@ impl<'a> Model for SourceLexer<'a> {
 
     ghost Value = { SourceLexed };
 
-    ghost view = { λ s. record { rest = s.lexer.rest; places = s.lexer.places; error_place = s.error_place; had_comments = s.lexer.had_comments; at_end = s.lexer.at_end; spent = s.spent } };
+    ghost view = { λ s. record {
+      rest = s.lexer.rest;
+      places = s.lexer.places;
+      error_place = s.error_place;
+      had_comments = s.lexer.had_comments;
+      at_end = s.lexer.at_end;
+      spent = s.lexer.spent;
+    } };
 
-    ghost invariant = { λ s. s.spent ≡ false → (s.lexer.spent ≡ false) × AreEnded s.lexer.rest
+    ghost invariant = { λ s. s.lexer.spent ≡ false → AreEnded s.lexer.rest
         × HavePlaces s.lexer.rest s.lexer.places };
 }
 
@@ -48,15 +54,15 @@ impl<'a> SourceLexer<'a> {
         SourceLexer {
             lexer: Lexer::new(alloc, input),
             error_place: None,
-            spent: false,
         }
     }
 
     /// Whether an allocation failed.
+    #[inline(always)]
     pub fn is_spent(&self) -> bool
         ensures { result ≡ self.now.spent }
     {
-        self.spent
+        self.lexer.is_spent()
     }
 
     /// Whether there is a comment before the token that was read last or, after the end was reached, before the end.
@@ -76,94 +82,61 @@ impl<'a> SourceLexer<'a> {
         place
     }
 
-    /// The next token before memory is taken for it, if it is a word of plain text. Otherwise no token is taken.
+    /// The next token before memory is taken for it, if it is a word of plain text. It isn't taken.
     #[inline(always)]
-    pub fn next_plain(&mut self) -> Option<PlainItem<'a>>
-        ensures gives { GivesPlain self.old result self.new }
-        ensures comments { IfSome result (λ item. self.new.had_comments
-            ≡ comments_before self.old.rest self.old.at_end) }
-        ensures left { IfSome result (λ item. self.new.rest ≢ []) }
-    {
-        if self.spent {
-            return None;
-        }
-        self.lexer.next_plain()
-    }
-
-    /// Does the same as `next_plain`, but gives nothing at an identifier that is known, too.
-    #[inline(always)]
-    pub fn next_unknown<N: KnownNames>(&mut self, names: &N) -> Option<PlainItem<'a>>
-        ensures { GivesUnknown (N.knows names.now) self.old result self.new }
-    {
-        if self.spent {
-            return None;
-        }
-        self.lexer.next_unknown(names)
-    }
-
-    /// Does the same as `next_unknown`, if no allocation failed before.
-    #[inline(always)]
-    pub fn next_unknown_unspent<N: KnownNames>(&mut self, names: &N) -> Option<PlainItem<'a>>
+    pub fn peek_word(&mut self) -> Option<PlainItem<'a>>
         requires { self.old.spent ≡ false }
-        ensures gives { GivesUnknown (N.knows names.now) self.old result self.new }
-        ensures unspent { self.new.spent ≡ false }
+        ensures same { PassesBlanks self.old self.new }
+        ensures word { IfSome result (IsPeeked self.new) }
     {
-        self.lexer.next_unknown_unspent(names)
+        self.lexer.peek_word()
     }
 
-    /// Passes the next token if it is a newline of plain text, and returns whether it did. Otherwise it changes
-    /// nothing. No allocation may have failed before.
+    /// Takes the word that `peek_word` gave.
     #[inline(always)]
-    pub fn pass_newline_unspent(&mut self) -> bool
-        requires { self.old.spent ≡ false }
-        ensures passes { PassesNewline self.old result self.new }
-        ensures unspent { self.new.spent ≡ false }
+    pub fn pass_word(&mut self, word: &PlainItem<'a>)
+        requires { IsPeeked self.old word.now }
+        ensures { PassesWord self.old word.now self.new }
     {
-        self.lexer.pass_newline_unspent()
+        self.lexer.pass_word(word);
+    }
+
+    /// Takes the word that `peek_word` gave, which is no `#`, as a token. The error is that its text could not be
+    /// allocated; then the lexer is spent.
+    #[inline(always)]
+    pub fn take_word(&mut self, alloc: Global, word: PlainItem<'a>) -> Result<Token, AllocError>
+        requires peeked { IsPeeked self.old word }
+        requires no_hash { word.form ≢ Hash }
+        ensures { IfOk result (λ token. TakesWordToken self.old word.entry token self.new) }
+    {
+        self.pass_word(&word);
+        let Ok(token) = word_token(alloc, word) else {
+            self.lexer.spend();
+            return Err(AllocError);
+        };
+        Ok(token)
     }
 
     /// Passes the next token if it is a newline of plain text, and returns whether it did. Otherwise it changes
     /// nothing.
     #[inline(always)]
     pub fn pass_newline(&mut self) -> bool
+        requires { self.old.spent ≡ false }
         ensures { PassesNewline self.old result self.new }
     {
-        if self.spent {
-            return false;
-        }
         self.lexer.pass_newline()
     }
 
-    /// Ends the lexer: an allocation failed.
-    pub fn spend(&mut self)
-        ensures { self.new ≡ record self.old { spent = true } }
-    {
-        self.spent = true;
-    }
-
-    /// The next token, or nothing at the end. A spent lexer is at its end, and stays as it is.
+    /// The next token, or nothing at the end.
     pub fn next_token(&mut self) -> Result<Option<lexer::Token>, Halt>
-        ensures is { self.old.spent ≡ false
-            → spec.Meets (λ t. t) result (spec.next_token self.old.rest) }
-        ensures takes { self.old.spent ≡ false → spec.TakesItems 1 self.old result self.new }
-        ensures fault { self.old.spent ≡ false → spec.FaultTakesSome result self.old self.new }
-        ensures comments { IfOk result (λ token. self.old.spent ≡ false → self.new.had_comments
-            ≡ comments_before self.old.rest self.old.at_end) }
-        ensures left { IfOk result (λ token. spec.LeavesSome token self.new.rest) }
-        ensures ended { EndKeepsPlaces result self.old self.new }
-        ensures errors { Reports result (unreported_at self.old) (unreported_at self.new) }
-        ensures refused { spec.RefusedWithin result self.old.rest }
-        ensures spent { self.old.spent ≡ true → (result ≡ Ok None) × (self.new ≡ self.old) }
+        requires { self.old.spent ≡ false }
+        ensures { TakesToken self.old result self.new }
     {
-        if self.spent {
-            return Ok(None);
-        }
         match self.lexer.next() {
             None => Ok(None),
             Some(Ok(token)) => Ok(Some(token)),
             Some(Err(error)) => {
-                self.spent = is_out_of_memory(&error.0);
-                if self.spent {
+                if is_out_of_memory(&error.0) {
                     drop(error);
                     return Err(Halt::OutOfMemory);
                 }

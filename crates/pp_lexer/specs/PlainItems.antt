@@ -1,6 +1,6 @@
 -- A word of plain text that a lexer gives before memory is taken for it (docs/RULES.md, Tokens).
-use Rattle.std.specs.Prelude.{◌≡◌, ◌≢◌, ℕ, ◌-◌, Bool, true, false, List, [], ◌∷◌, length, take, Option, Some, Ok, Err}
-use Rattle.std.specs.Prelude.{MatchBool, MatchOption, pos, ⊤}
+use Rattle.std.specs.Prelude.{◌≡◌, ℕ, ◌-◌, Bool, true, false, List, [], ◌∷◌, length, take, Some, Ok, Err}
+use Rattle.std.specs.Prelude.{MatchBool, pos}
 use Rattle.std.specs.Str.{IsAscii}
 use Rattle.pp_lexer.specs.declared.lexer.item.Token.{Token}
 use Rattle.pp_lexer.specs.declared.lexer.item.TokenValue.{TokenValue}
@@ -44,37 +44,9 @@ pub record IsNextWord (l : Lexed) (word : PlainItem) : Type 0 where
   pub is : first_item l.rest ≡ Some (Ok (token_of word))
   pub ascii : IsAscii word.spelling.now
 
--- the first item to come is this word, which is no `#` and is spelled in ASCII, and it was taken
-pub record IsPlainGiven (old : Lexed) (item : PlainItem) (new : Lexed) : Type 0 where
-  pub unspent : old.spent ≡ false
-  pub is : first_item old.rest ≡ Some (Ok (token_of item))
-  pub no_hash : item.form ≢ HashForm
-  pub ascii : IsAscii item.spelling.now
-  pub state : new ≡ after_first old
-
 -- the same items are to come; comments before the first of them may have been passed
 abbrev pub PassesBlanks : Lexed → Lexed → Type 0
 PassesBlanks old new = new ≡ record old { had_comments = new.had_comments }
-
--- one call of `next_plain`: a word, or no item was taken
-abbrev pub IsNextPlain : Lexed → Option PlainItem → Lexed → Type 0
-IsNextPlain old answer new = MatchOption answer (PassesBlanks old new) (λ item. IsPlainGiven old item new)
-
--- the word is no `#`, and no identifier that is known
-abbrev pub IsUnknown : (List ℕ → Bool) → Form → List ℕ → Type 0
-IsUnknown knows Identifier w = knows w ≡ false
-IsUnknown knows HashForm w = ⊥
-IsUnknown knows _ w = ⊤
-
--- the first item to come is this word, which was taken
-pub record IsUnknownGiven (knows : List ℕ → Bool) (old : Lexed) (item : PlainItem) (new : Lexed) : Type 0 where
-  pub given : IsPlainGiven old item new
-  pub unknown : IsUnknown knows item.form item.spelling.now
-
--- one call of `next_unknown`: a word, or no item was taken
-abbrev pub IsNextUnknown : (List ℕ → Bool) → Lexed → Option PlainItem → Lexed → Type 0
-IsNextUnknown knows old answer new =
-    MatchOption answer (PassesBlanks old new) (λ item. IsUnknownGiven knows old item new)
 
 -- the item is a newline
 abbrev pub is_newline_lexeme : Lexeme → Bool

@@ -3,9 +3,8 @@
 //! [`CharsAndLine`], [`SkipBackslashNewline`] and [`ReplaceComments`] give the characters after phases 4 and 5, 6
 //! and 7, each with its line. [`Lexer`] gives the tokens. The rules are those of docs/RULES.md, Characters and Tokens.
 
-ghost use Rattle.std.specs.Prelude.{◌≡◌, ◌-◌, ◌^◌, ◌<◌, ◌+◌, ◌↔◌, length, Ok, Some, true, false, if◌then◌else◌, ⊤, IsTrue, IsSome, IfSome, MatchOption};
+ghost use Rattle.std.specs.Prelude.{◌≡◌, ◌-◌, ◌^◌, ◌<◌, ◌+◌, ◌↔◌, length, Ok, Some, true, false, if◌then◌else◌, ⊤, IsSome, IfSome, MatchOption};
 ghost use Rattle.std.specs.Iterator.{at_most};
-ghost use Rattle.std.specs.Str.{IsAscii};
 ghost use Rattle.pp_lexer.specs.Reading.{first_char};
 ghost use Rattle.pp_lexer.specs.Spots.{spots_of};
 ghost use Rattle.pp_lexer.specs.Words.{is_blank};
@@ -14,7 +13,7 @@ ghost use Rattle.pp_lexer.specs.Lexed.{start_of, first_item, after_first_item, a
 ghost use Rattle.pp_lexer.specs.inner.Passing.{is_newline_result, newline_seen, lexeme_seen, newline_places, lexed_at, SeesSame, IsRead};
 ghost use Rattle.pp_lexer.specs.inner.AfterSpaces.{IsAfterSpaces};
 ghost use Rattle.pp_lexer.specs.inner.PlainWords.{IsFirstWord};
-ghost use Rattle.pp_lexer.specs.PlainItems.{is_newline_lexeme, IsUnknown, IsNextPlain, IsNextUnknown, IsNextWord, PassesBlanks, PassesNewline};
+ghost use Rattle.pp_lexer.specs.PlainItems.{is_newline_lexeme, IsNextWord, PassesBlanks, PassesNewline};
 
 use crate::token::{Location, NOWHERE, PreprocessorError, out_of_memory};
 use std::alloc::{AllocError, Global};
@@ -25,7 +24,6 @@ mod chars_and_line;
 mod comments;
 mod identifier;
 mod item;
-mod known_names;
 pub mod laws;
 mod look_ahead;
 mod number;
@@ -43,7 +41,6 @@ pub use chars_and_line::CharsAndLine;
 use chars_and_line::Left;
 pub use comments::Comments;
 pub use item::{LexerItem, Token, TokenValue};
-pub use known_names::KnownNames;
 pub use plain::Form;
 use plain::{Word, begins_comment, newline_length, plain_comment, plain_word, spaces_length};
 pub use plain_item::{PlainItem, plain_value, without_suffix};
@@ -439,19 +436,6 @@ impl<'a> LexerState<'a> {
     }
 }
 
-// Whether the word is no `#`, and no name that is known.
-#[inline(always)]
-fn is_unknown<N: KnownNames>(names: &N, word: &PlainItem<'_>) -> bool
-    requires { IsAscii word.now.spelling.now }
-    ensures { IsTrue result → IsUnknown (N.knows names.now) word.now.form word.now.spelling.now }
-{
-    match word.form {
-        Form::Hash => false,
-        Form::Identifier => !names.is_known(word.spelling),
-        _ => true,
-    }
-}
-
 /// An iterator of the items of a source: tokens with places and flags, and errors.
 ///
 /// Blanks and comments are skipped. Each item is the longest word at its place: a newline, `#`, an identifier, a number
@@ -554,18 +538,16 @@ impl<'a> Lexer<'a> {
 
     /// Returns the next item without its memory, if it is a word of plain text: an identifier, a decimal or hexadecimal
     /// number, a punctuator or a `#` of ASCII characters that no line continuation cuts. It isn't taken:
-    /// [`Lexer::pass_word`] takes it. Otherwise it returns `None`: at a newline, an error and the end, and after an
-    /// `OutOfMemory`. `next` returns these. Comments before the next item may have been passed, which
-    /// [`Lexer::had_comments`] says.
+    /// [`Lexer::pass_word`] takes it. At a newline, an error and the end, which `next` returns, it returns `None`.
+    /// Comments before the next item may have been passed, which [`Lexer::had_comments`] says. No allocation may have
+    /// failed ([`Lexer::is_spent`]).
     #[inline(always)]
     pub fn peek_word(&mut self) -> Option<PlainItem<'a>>
+        requires { self.old.spent ≡ false }
         ensures same { PassesBlanks self.old self.new }
         ensures word { IfSome result (IsNextWord self.new) }
         ensures passes { IfSome result (CanPass self.new) }
     {
-        if self.spent {
-            return None;
-        }
         self.state.peek_word()
     }
 
@@ -578,44 +560,6 @@ impl<'a> Lexer<'a> {
         self.state.pass_word(word);
     }
 
-    /// The next item without its memory, if it is a word of plain text: an identifier, a decimal or hexadecimal number
-    /// or a punctuator of ASCII characters that no line continuation cuts. Otherwise it returns `None` and takes no
-    /// item: at a newline, a `#`, an error and the end, and after an `OutOfMemory`. `next` returns these. Comments
-    /// before the next item may have been passed then, which [`Lexer::had_comments`] says.
-    #[inline(always)]
-    pub fn next_plain(&mut self) -> Option<PlainItem<'a>>
-        ensures { IsNextPlain self.old result self.new }
-    {
-        let word = self.peek_word()?;
-        if matches!(word.form, Form::Hash) {
-            return None;
-        }
-        self.pass_word(&word);
-        Some(word)
-    }
-
-    /// Does the same as `next_plain`, but returns `None` at an identifier that is known, too, and takes no item then.
-    #[inline(always)]
-    pub fn next_unknown<N: KnownNames>(&mut self, names: &N) -> Option<PlainItem<'a>>
-        ensures { IsNextUnknown (N.knows names.now) self.old result self.new }
-    {
-        let word = self.peek_word()?;
-        if !is_unknown(names, &word) {
-            return None;
-        }
-        self.pass_word(&word);
-        Some(word)
-    }
-
-    /// Does the same as `next_unknown`, if no allocation failed before. It is private to the repository.
-    #[inline(always)]
-    pub fn next_unknown_unspent<N: KnownNames>(&mut self, names: &N) -> Option<PlainItem<'a>>
-        requires { self.old.spent ≡ false }
-        ensures { IsNextUnknown (N.knows names.now) self.old result self.new }
-    {
-        self.next_unknown(names)
-    }
-
     /// Passes the next item if it is a newline of plain text, with no space or comment before it, and returns whether
     /// it did. Otherwise it changes nothing.
     #[inline(always)]
@@ -626,15 +570,6 @@ impl<'a> Lexer<'a> {
             return false;
         }
         self.state.next_newline().is_some()
-    }
-
-    /// Does the same as `pass_newline`, if no allocation failed before. It is private to the repository.
-    #[inline(always)]
-    pub fn pass_newline_unspent(&mut self) -> bool
-        requires { self.old.spent ≡ false }
-        ensures { PassesNewline self.old result self.new }
-    {
-        self.pass_newline()
     }
 
     // The next item.

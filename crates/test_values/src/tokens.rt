@@ -196,23 +196,30 @@ fn laws_and_limits(rt: HostRuntime) {
     assert!(rt; EXPANSION_LIMIT == 128);
 }
 
-fn is_word(item: Option<lexer::PlainItem<'_>>, spelling: &str, start: u32) -> bool {
-    match item {
-        Some(word) => word.spelling == spelling && word.location.start == start,
-        None => false,
+// Whether this word comes next. It is passed.
+fn is_passed(items: &mut lexer::Lexer<'_>, spelling: &str, start: u32) -> bool {
+    if items.is_spent() {
+        return false;
     }
+    let Some(word) = items.peek_word() else {
+        return false;
+    };
+    items.pass_word(&word);
+    word.spelling == spelling && word.location.start == start
 }
 
-// The words are given before memory is taken for their values; `#`, the newline and the end are not.
+// The words are given before memory is taken for their values; the newline and the end are not.
 #[test]
 fn plain_words_are_given(rt: HostRuntime) -> Result<(), Fail> {
     let Some(mut items) = lexer::Lexer::try_new(rt.alloc(), "a /* b */ 12u\n#") else {
         return Ok(());
     };
-    assert!(rt; is_word(items.next_plain(), "a", 0));
-    assert!(rt; is_word(items.next_plain(), "12u", 10));
-    assert!(rt; items.had_comments() && items.pass_newline());
-    assert!(rt; items.next_plain().is_none() && !items.pass_newline());
+    assert!(rt; is_passed(&mut items, "a", 0));
+    assert!(rt; is_passed(&mut items, "12u", 10));
+    assert!(rt; !is_passed(&mut items, "", 14) && items.had_comments() && items.pass_newline());
+    assert!(rt; is_passed(&mut items, "#", 15) && !items.pass_newline());
+    items.spend();
+    assert!(rt; items.is_spent() && items.next().is_none());
     Ok(())
 }
 

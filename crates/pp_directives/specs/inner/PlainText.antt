@@ -1,13 +1,17 @@
 -- A word of plain text, before memory is taken for it.
 use Rattle.std.specs.Prelude.{◌≡◌, ◌≢◌, ℕ, Bool, true, false, not, ◌&&◌, ◌||◌, is_some, List, Option, Some, None, Ok}
-use Rattle.std.specs.Prelude.{Err, MatchBool, MatchOption, IsTrue, []}
+use Rattle.std.specs.Prelude.{Err, MatchBool, MatchOption, IsTrue, [], ⊤}
 use Rattle.std.specs.Str.{IsAscii}
-use Rattle.pp_lexer.specs.PlainItems.{token_of, begins_newline, IsUnknown}
-use Rattle.pp_lexer.specs.declared.lexer.plain.Form.TheVariants.{Hash}
+use Rattle.pp_lexer.specs.Kept.{CanPass}
+use Rattle.pp_lexer.specs.Location.{nowhere}
+use Rattle.pp_lexer.specs.PlainItems.{token_of, begins_newline, IsNextWord}
+use Rattle.pp_lexer.specs.declared.lexer.plain.Form.TheVariants.{Hash, Identifier}
+use Rattle.pp_lexer.specs.declared.lexer.plain.Form.{Form}
 use Rattle.pp_lexer.specs.declared.lexer.plain_item.PlainItem.{PlainItem}
 use Rattle.pp_macros.specs.inner.LineReading.{HasTaken, next_token, next_line_token}
 use Rattle.pp_macros.specs.inner.SourceLexed.{SourceLexed, unreported_at}
 use Rattle.pp_directives.specs.WordTokens.{word_value, word_token}
+use Rattle.pp_model.specs.Conversions.{conversion}
 use Rattle.pp_model.specs.Names.{is_identifier, is_same_name, line_name}
 use Rattle.pp_model.specs.Definitions.{Definition}
 use Rattle.pp_macros.specs.inner.Defined.{Defined, meaning_of}
@@ -18,23 +22,44 @@ use Rattle.pp_macros.specs.inner.Source.{Source, StepsSource, unreported_of}
 use Rattle.pp_macros.specs.inner.Unreported.{StepReports}
 use Rattle.pp_macros.specs.Held.{HoldsOrdinary}
 use Rattle.pp_macros.specs.Item.{Step}
-use Rattle.pp_lexer.specs.Lexed.{comments_before}
+use Rattle.pp_lexer.specs.Lexed.{Lexed, comments_before}
 use Rattle.pp_lexer.specs.TokenValue.{is_ordinary}
 use Rattle.pp_lexer.specs.declared.token.Token.{Token}
 
--- the next token is this word, which is no `#`, and it was taken
-pub record TakesPlain (old : SourceLexed) (item : PlainItem) (new : SourceLexed) : Type 0 where
-  pub unspent : old.spent ≡ false
-  pub is : next_token old.rest ≡ Ok (Some (token_of item))
-  pub no_hash : item.form ≢ Hash
-  pub ascii : IsAscii item.spelling.now
+-- the lexer, whatever place it noted last
+abbrev pub lexed_of : SourceLexed → Lexed
+lexed_of l = record {
+  rest = l.rest;
+  had_comments = l.had_comments;
+  at_end = l.at_end;
+  spent = l.spent;
+  place = nowhere;
+  places = l.places;
+}
+
+-- this word comes next, and can be passed
+pub record IsPeeked (l : SourceLexed) (word : PlainItem) : Type 0 where
+  pub next : IsNextWord (lexed_of l) word
+  pub passes : CanPass (lexed_of l) word
+
+-- nothing was taken, but comments in front of the next token may have been passed
+abbrev pub PassesBlanks : SourceLexed → SourceLexed → Type 0
+PassesBlanks old new = new ≡ record old { had_comments = new.had_comments }
+
+-- the next token is this word, and it was taken
+pub record PassesWord (old : SourceLexed) (word : PlainItem) (new : SourceLexed) : Type 0 where
+  pub is : next_token old.rest ≡ Ok (Some (token_of word))
   pub takes : HasTaken 1 old new
   pub errors : unreported_at new ≡ unreported_at old
+  pub comments : new.had_comments ≡ comments_before old.rest old.at_end
+  pub left : new.rest ≢ []
 
--- a word of plain text was taken, or nothing was; but comments in front of the next token may have been passed
-abbrev pub GivesPlain : SourceLexed → Option PlainItem → SourceLexed → Type 0
-GivesPlain old answer new =
-    MatchOption answer (new ≡ record old { had_comments = new.had_comments }) (λ item. TakesPlain old item new)
+-- it was, and this is its token
+pub record TakesWordToken (old : SourceLexed) (word : PlainItem) (token : Token) (new : SourceLexed) : Type 0 where
+  pub passes : PassesWord old word new
+  pub is : token ≡ word_token word
+  pub converted : conversion (token_of word) ≡ Ok token
+  pub holds : HoldsOrdinary token.value
 
 -- the next token of a line is this token, and it was taken
 pub record TakesLineToken (old : SourceLexed) (token : Token) (new : SourceLexed) : Type 0 where
@@ -49,17 +74,6 @@ pub record TakesLineToken (old : SourceLexed) (token : Token) (new : SourceLexed
 abbrev pub GivesLineToken : SourceLexed → Option Token → SourceLexed → Type 0
 GivesLineToken old answer new =
     MatchOption answer (new ≡ record old { had_comments = new.had_comments }) (λ token. TakesLineToken old token new)
-
--- such a word that isn't a known identifier
-pub record TakesUnknown (knows : List ℕ → Bool) (old : SourceLexed) (item : PlainItem) (new : SourceLexed)
-    : Type 0 where
-  pub takes : TakesPlain old item new
-  pub unknown : IsUnknown knows item.form item.spelling.now
-
-abbrev pub GivesUnknown : (List ℕ → Bool) → SourceLexed → Option PlainItem → SourceLexed → Type 0
-GivesUnknown knows old answer new =
-    MatchOption answer (new ≡ record old { had_comments = new.had_comments })
-    (λ item. TakesUnknown knows old item new)
 
 -- the next token is a newline, and it was taken
 pub record TakesNewline (old new : SourceLexed) : Type 0 where
@@ -77,18 +91,10 @@ pub record IsStep (old : Source) (step : Step Token) (new : Source) : Type 0 whe
   pub reads : StepsSource old step new
   pub errors : StepReports step (unreported_of old) (unreported_of new)
 
--- a step at a word of plain text, or nothing changed
-abbrev pub StepsPlain : Source → Option (Step Token) → Source → Type 0
-StepsPlain old answer new = MatchOption answer (new ≡ old) (λ step. IsStep old step new)
-
 -- the text is live, and memory didn't run out
 pub record IsInText (source : Source) : Type 0 where
   pub live : is_live_among source.dead_for_good source.blocks ≡ true
   pub unspent : source.spent ≡ false
-
--- a name that is `__LINE__`, or is defined
-abbrev pub opens : List Defined → List ℕ → Bool
-opens definitions name = is_same_name name line_name || is_some (meaning_of definitions name)
 
 -- A step at a word of plain text before memory is taken for it. If no macro is open, the word is given as it is.
 pub record TakesWord (old : Source) (item : PlainItem) (new : Source) : Type 0 where
@@ -101,6 +107,12 @@ pub record TakesWord (old : Source) (item : PlainItem) (new : Source) : Type 0 w
 -- such a word, or nothing changed
 abbrev pub GivesWord : Source → Option PlainItem → Source → Type 0
 GivesWord old answer new = MatchOption answer (new ≡ old) (λ item. TakesWord old item new)
+
+-- the word is no `#`, and no identifier that is known
+abbrev pub IsUnknown : (List ℕ → Bool) → Form → List ℕ → Type 0
+IsUnknown knows Identifier w = knows w ≡ false
+IsUnknown knows Hash w = ⊥
+IsUnknown knows _ w = ⊤
 
 -- a definition of a macro without parentheses
 abbrev pub is_bare : Option Definition → Bool

@@ -1,6 +1,6 @@
 -- What a directive does once its word or its number sign has been read.
-use Rattle.std.specs.Prelude.{◌≡◌, ◌≤◌, ◌+◌, Bool, false, not, if◌then◌else◌, List, length, Option, Some, None, Result}
-use Rattle.std.specs.Prelude.{Ok, Err, ⊤}
+use Rattle.std.specs.Prelude.{◌≡◌, ◌≤◌, ◌+◌, Bool, false, not, if◌then◌else◌, List, length, drop, Option, Some, None}
+use Rattle.std.specs.Prelude.{Result, Ok, Err, ⊤}
 use Rattle.pp_lexer.specs.Lexed.{Seen}
 use Rattle.pp_lexer.specs.declared.lexer.item.Token.{Token as LexerToken}
 use Rattle.pp_lexer.specs.declared.token.PreprocessorError.TheVariants.{DefineRedefined}
@@ -8,6 +8,8 @@ use Rattle.pp_lexer.specs.declared.token.Token.{Token}
 use Rattle.pp_model.specs.Calls.{Fault}
 use Rattle.pp_model.specs.Conversions.{is_newline, identifier_of, refused_token}
 use Rattle.pp_model.specs.Definitions.{Definition, IsSameDefinition}
+use Rattle.pp_lexer.specs.declared.token.Location.{Location}
+use Rattle.pp_model.specs.Lines.{first_token}
 use Rattle.pp_model.specs.Names.{Name}
 use Rattle.pp_model.specs.Sights.{directive_of}
 use Rattle.pp_model.specs.inner.Sights.{directive_sight}
@@ -18,9 +20,10 @@ use Rattle.pp_macros.specs.inner.Source.{Source, Condition, LineNumber, Makes}
 use Rattle.pp_model.specs.Moves.{Effect, fails, defines, decides, renumbers, Move, failing, directive_move}
 use Rattle.pp_model.specs.Moves.{BlockFacts, passing}
 use Rattle.pp_model.specs.inner.Moves.{taking_more}
-use Rattle.pp_macros.specs.inner.OpenBlocks.{BlockChange, unchanged, block_change_at}
+use Rattle.pp_macros.specs.inner.OpenBlocks.{BlockChange, unchanged, block_change_at, facts_among, is_live_among}
 use Rattle.pp_macros.specs.inner.SourceMoves.{Note, unnoted, note_at}
 use Rattle.pp_macros.specs.inner.Turns.{as_pause}
+use Rattle.pp_macros.specs.Halting.{step_of}
 use Rattle.pp_macros.specs.declared.halt.Halt.{Halt}
 use Rattle.pp_macros.specs.declared.halt.Halt.TheVariants as halt
 use Rattle.pp_macros.specs.declared.step.StepExit.TheVariants.{Continue}
@@ -99,6 +102,20 @@ name_move live block token None after =
 abbrev pub word_move : Bool → Option BlockFacts → Result LexerToken Fault → List Seen → Move
 word_move live block (Ok token) after = name_move live block token (identifier_of token.value) after
 word_move live block (Err fault) after = failing fault
+
+-- what a directive of this source does and gives after its number sign, which is at `hash`
+abbrev pub GivesDirective : Location → Source → Result (Option Token) Halt → Source → Type 0
+GivesDirective hash old result new =
+    let live = is_live_among old.dead_for_good old.blocks in
+    let first = first_token hash old.rest in
+    GivesNoted (word_note live first) (word_change first)
+    (word_move live (facts_among old.blocks) first (drop 1 old.rest)) old result new
+
+-- and this as a step
+pub record StepsDirective (hash : Location) (old : Source) (step : Step Token) (new : Source) : Type 0 where
+  pub given : Result (Option Token) Halt
+  pub gives : GivesDirective hash old given new
+  pub is : step ≡ step_of given
 
 -- a `#define`, once its line is read
 abbrev pub define_move : Named → Move

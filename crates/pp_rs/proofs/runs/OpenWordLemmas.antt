@@ -2,7 +2,6 @@
 use Rattle.std.proofs.Common.{◌≡◌, Bool, true, false, not, ℕ, [], ◌∷◌, List, refl, ap, Option, Some, None, Ok, Err}
 use Rattle.std.specs.Prelude.{unwrap_or}
 use Rattle.std.proofs.lemmas.Bool.{and_parts, not-true}
-use Rattle.pp_lexer.specs.PlainItems.{IsUnknown}
 use Rattle.pp_lexer.specs.declared.lexer.plain.Form.{Form}
 use Rattle.pp_lexer.specs.declared.lexer.plain.Form.TheVariants.{Identifier, Hash}
 use Rattle.pp_model.specs.Definitions.{Definition}
@@ -13,7 +12,7 @@ use Rattle.pp_macros.specs.inner.Reader.{of_source}
 use Rattle.pp_macros.specs.inner.Source.{Source}
 use Rattle.pp_macros.specs.inner.Turns.{macro_of_value, opened_by}
 use Rattle.pp_directives.specs.WordTokens.{word_value, word_token}
-use Rattle.pp_directives.specs.inner.PlainText.{is_bare, opens_bare, TakesBare}
+use Rattle.pp_directives.specs.inner.PlainText.{is_bare, opens_bare, IsUnknown, TakesBare}
 use Rattle.pp_lexer.specs.declared.lexer.plain_item.PlainItem.{PlainItem}
 use Rattle.pp_model.specs.Emitting.{expansion_limit}
 use Rattle.pp_macros.specs.inner.Expander.{Expander}

@@ -11,8 +11,8 @@ content-preserved-in_ok-push c =
     let n = c.in_ok-token.ensures in
     let t = c.in_ok-convert_lexer_token.ensures in
     let items = c.in_ok-push.ensures.items in
-    let taken = n.takes before.unspent in
-    let next = rw c.in-Some.is at n.is before.unspent in
+    let taken = n.takes in
+    let next = rw c.in-Some.is at n.is in
     record {
       whole = content-more _ _ c.in-Some.token next taken.rest _ _ _ _ (sym c.is_newline.ensures ∙ c.if-not-is_newline.true) (sym t.is) items before.whole;
       unspent = taken.spent;

@@ -17,16 +17,16 @@ list_place rest after (Some token) next opens place = paren_place rest after tok
 pub returns-then-opens_parameters-clause-takes : goal.returns-then-opens_parameters-clause-takes
 returns-then-opens_parameters-clause-takes c =
     let n = c.in_ok-token.ensures in
-    let taken = n.takes c.requires in
+    let taken = n.takes in
     takes_after c.function_after.result 1 _ _ _ _ _ taken c.function_after.ensures.takes
-    (list_place c.args.lexer.now.rest c.next_token.new.self.rest c.in_ok-token.token (n.is c.requires)
+    (list_place c.args.lexer.now.rest c.next_token.new.self.rest c.in_ok-token.token n.is
     (sym c.opens_parameters.ensures ∙ c.if-opens_parameters.true) taken.rest)
 
 pub returns-clause-takes : goal.returns-clause-takes
 returns-clause-takes c =
     let n = c.in_ok-token.ensures in
-    let taken = n.takes c.requires in
+    let taken = n.takes in
     let first = c.in_ok-first.first in
     takes_after (Ok c.in_ok-body.body) 1 _ _ _ _ _ taken c.in_ok-body.ensures.takes
-    (line_place-next c.args.lexer.now.rest first (ap (λ r. r >>= line_token) (n.is c.requires) ∙ c.in_ok-first.ensures.is)
+    (line_place-next c.args.lexer.now.rest first (ap (λ r. r >>= line_token) n.is ∙ c.in_ok-first.ensures.is)
     ∙ ap (λ r. drop (length_after first r) r) (sym taken.rest))

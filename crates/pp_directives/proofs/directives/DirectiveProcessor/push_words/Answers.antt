@@ -4,16 +4,28 @@ use Rattle.pp_macros.proofs.taking.RunLemmas.{flat_more, read_falls}
 use Rattle.pp_directives.proofs.directives.DirectiveProcessor.push_words.Goals as goal
 
 pub words-init : goal.words-init
-words-init c = none_read _ _ refl refl
+words-init c = record { flat = none_read _ _ refl refl; in_text = c.if-not-is_in_text.ensures {u = tt} refl }
 
 pub words-preserved : goal.words-preserved
 words-preserved c =
     let onto : IsReadOnto (of_source c.words.self) c.words.tokens.items (of_source c.push_word.new.self) c.push_word.new.tokens.items
-    = rw c.if-branch.true at (c.in_ok-push_word.ensures {u = tt}) in
-    flat_more _ _ _ _ _ _ _ c.words.invariant onto (c.ends_at_parenthesis.ensures _ onto.read (c.deref.ensures.value ∙ onto.is)) c.if-ends_at_parenthesis.false
+    = rw c.if-branch.true at c.in_ok-push_word.ensures.onto in
+    record {
+      flat = flat_more _ _ _ _ _ _ _ c.words.invariant.flat onto (c.ends_at_parenthesis.ensures _ onto.read (c.deref.ensures.value ∙ onto.is))
+          c.if-ends_at_parenthesis.false;
+      in_text = c.in_ok-push_word.ensures.stays;
+    }
 
 pub words-smaller : goal.words-smaller
 words-smaller c =
     let onto : IsReadOnto (of_source c.words.self) c.words.tokens.items (of_source c.push_word.new.self) c.push_word.new.tokens.items
-    = rw c.if-branch.true at (c.in_ok-push_word.ensures {u = tt}) in
+    = rw c.if-branch.true at c.in_ok-push_word.ensures.onto in
     read_falls _ _ _ _ onto
+
+pub returns-then-not-is_in_text : goal.returns-then-not-is_in_text
+returns-then-not-is_in_text c = record {
+  between = of_source c.args.self.now;
+  some = c.args.tokens.now.items;
+  flat = none_read _ _ refl refl;
+  last = (refl, refl);
+}

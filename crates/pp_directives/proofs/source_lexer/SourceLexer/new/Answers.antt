@@ -1,8 +1,7 @@
-use Rattle.std.proofs.Common.{refl}
 use Rattle.pp_lexer.specs.Spots.{spots_of}
 use Rattle.pp_directives.proofs.EndedLemmas.{start_ended}
 use Rattle.pp_directives.proofs.UnreportedLemmas.{start_has_places}
 use Rattle.pp_directives.proofs.source_lexer.SourceLexer.new.Goals as goal
 
 pub invariant_of-result : goal.invariant_of-result
-invariant_of-result c = rw c.new.ensures (λ e. (refl, start_ended (spots_of c.args.input.now), start_has_places (spots_of c.args.input.now)))
+invariant_of-result c = rw c.new.ensures (λ e. (start_ended (spots_of c.args.input.now), start_has_places (spots_of c.args.input.now)))

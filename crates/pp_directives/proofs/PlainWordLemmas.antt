@@ -1,0 +1,52 @@
+-- A word of plain text that comes next is passed.
+use Rattle.std.proofs.Common.{◌≡◌, ◌≢◌, ℕ, false, List, [], ◌∷◌, length, drop, refl, sym, ◌∙◌, ap, Option, Ok}
+use Rattle.pp_lexer.specs.Kept.{CanPass}
+use Rattle.pp_lexer.specs.Lexed.{Seen, Lexed, after_first_item, after_first, comments_before}
+use Rattle.pp_lexer.specs.PlainItems.{value_of, token_of, IsNextWord}
+use Rattle.pp_lexer.specs.declared.lexer.item.TokenValue.{TokenValue}
+use Rattle.pp_lexer.specs.declared.lexer.plain.Form.{Form}
+use Rattle.pp_lexer.specs.declared.lexer.plain.Form.TheVariants.{Identifier, Integer, Unsigned, Float, SuffixedFloat, Punct, Hash}
+use Rattle.pp_lexer.specs.declared.lexer.plain_item.PlainItem.{PlainItem}
+use Rattle.pp_lexer.specs.declared.token.Location.{Location}
+use Rattle.pp_model.specs.Conversions.{is_newline}
+use Rattle.pp_model.specs.Lines.{ends_line}
+use Rattle.pp_macros.specs.inner.LineReading.{next_token}
+use Rattle.pp_macros.specs.inner.SourceLexed.{SourceLexed, unreported_at}
+use Rattle.pp_directives.specs.inner.Lined.{AreEnded}
+use Rattle.pp_directives.specs.inner.PlainText.{lexed_of, IsPeeked, PassesBlanks, PassesWord}
+
+-- the state of a source's lexer
+abbrev pub source_lexed : Lexed → Option Location → SourceLexed
+source_lexed l error_place = record {
+  rest = l.rest;
+  places = l.places;
+  error_place = error_place;
+  had_comments = l.had_comments;
+  at_end = l.at_end;
+  spent = l.spent;
+}
+
+-- the place that was noted last makes no difference
+pub next_anywhere : (l : Lexed) (place : Location) (word : PlainItem) → IsNextWord l word → IsNextWord (record l { place = place }) word
+next_anywhere l place word h = record { unspent = h.unspent; is = h.is; ascii = h.ascii }
+
+pub pass_anywhere : (l : Lexed) (place : Location) (word : PlainItem) → CanPass l word → CanPass (record l { place = place }) word
+pass_anywhere l place word h = record {
+  items = h.items;
+  places = h.places;
+  at_end = h.at_end;
+  some = h.some;
+  sized = h.sized;
+  room = h.room;
+  lines = h.lines;
+}
+
+-- comments before it were passed first
+pub passed_before : (old mid new : SourceLexed) (word : PlainItem) → PassesBlanks old mid → PassesWord mid word new → PassesWord old word new
+passed_before old mid new word same h = record {
+  is = ap (λ l. next_token l.rest) (sym same) ∙ h.is;
+  takes = record { rest = h.takes.rest ∙ ap (λ l. drop 1 l.rest) same; spent = h.takes.spent };
+  errors = h.errors ∙ ap unreported_at same;
+  comments = h.comments ∙ ap (λ l. comments_before l.rest l.at_end) same;
+  left = h.left;
+}
