@@ -166,7 +166,7 @@ impl<'a> DirectiveProcessor<'a> {
             (content_tokens (items_of content.now)) self.old result self.new }
     {
         let body = content_tokens(self.alloc, content)?;
-        let define = Define::object_like(self.alloc, body);
+        let define = Define::object_like(self.alloc, body)?;
         let name = Text::from(String::from_str(self.alloc, name)?);
         self.definitions.set(name, define)?;
         Ok(())

@@ -335,7 +335,7 @@ fn definition(alloc: Global, word: Location, lexer: &mut SourceLexer<'_>) -> Res
     }
     let first = line_token(token)?;
     let body = line_tokens_from(alloc, first, lexer)?;
-    Ok(Define::object_like(alloc, body))
+    Ok(Define::object_like(alloc, body)?)
 }
 
 /// Reads a `#define` line, after its word.

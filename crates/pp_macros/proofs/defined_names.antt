@@ -7,4 +7,4 @@ pub mod FoundNamesLemmas
 pub mod SharedNamesLemmas
 pub mod DefinitionsLemmas
 pub mod ParameterNamesLemmas
-pub mod RolesLemmas
+pub mod BodyLemmas

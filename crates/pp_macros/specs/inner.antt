@@ -31,4 +31,4 @@ pub mod Seeking
 pub mod Finishing
 pub mod ParameterReading
 pub mod ParameterPositions
-pub mod Roles
+pub mod Bodies

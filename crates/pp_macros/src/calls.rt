@@ -190,7 +190,6 @@ fn out_of_memory_step() -> Step<Taken>
 // The macro that the token of the innermost frame opens when it is taken, painted or not.
 #[inline(always)]
 fn opened_by<'l, L: MeLexer>(
-    processor: &MacroProcessor,
     lexer: &'l L,
     ahead: &Ahead<'_>,
     painted: bool,
@@ -202,7 +201,7 @@ fn opened_by<'l, L: MeLexer>(
         return None;
     }
     match ahead.value() {
-        TokenValue::Ident(name) => lexer.get_define(processor.number_ahead(), name.as_str()),
+        TokenValue::Ident(name) => lexer.get_define(ahead.number(), name.as_str()),
         _ => None,
     }
 }
@@ -646,7 +645,7 @@ impl Expander {
             return Ok(Turn::Other);
         }
         let painted = self.paints(lexer, &ahead);
-        let Some(found) = opened_by(&self.processor, lexer, &ahead, painted) else {
+        let Some(found) = opened_by(lexer, &ahead, painted) else {
             return Ok(Turn::Token { painted });
         };
         if found.define().is_function_like() {

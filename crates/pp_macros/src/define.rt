@@ -1,57 +1,59 @@
 //! Macros.
 
-ghost use Rattle.std.specs.Prelude.{◌≡◌, ◌↔◌, ◌∷◌, true, List, IsTrue, All, IfOk, OnOk, OnErr, drop, length, slice_get};
+ghost use Rattle.std.specs.Prelude.{◌≡◌, ◌↔◌, ◌∷◌, ◌<◌, ◌^◌, true, List, [], IsTrue, All};
+ghost use Rattle.std.specs.Prelude.{IfOk, IfSome, MatchOption, drop, length};
 ghost use Rattle.pp_lexer.specs.declared.token.Token.{Token};
 ghost use Rattle.pp_lexer.specs.TokenValue.{is_ordinary};
 ghost use Rattle.pp_lexer.specs.Spelling.{values_of};
+ghost use Rattle.pp_model.specs.Names.{Name};
 ghost use Rattle.pp_model.specs.Definitions.{IsSameDefinition, object_like};
-ghost use Rattle.pp_model.specs.SpliceList.{parameter_of};
 ghost use Rattle.pp_macros.specs.inner.Marks.{mark_of};
-ghost use Rattle.pp_macros.specs.inner.Roles.{AreSeen, role_ahead, role_named, roles_of};
+ghost use Rattle.pp_macros.specs.inner.Bodies.{AreEntries, AreSeen, IsEntry, IsEntryAt, body_of, is_same_entry, token_of};
 
 use crate::macros::{MacroId, Macros};
 use crate::marks::mark_of;
 use crate::parameter_names::ParameterNames;
-use pp_lexer::token::{Text, Token, TokenValue};
+use pp_lexer::token::{Location, Text, Token, TokenValue};
 use std::alloc::{AllocError, Global};
 use std::marker::Model;
 
-/// What a token of a body is.
-#[derive(Clone, Copy)]
-pub enum Role {
-    /// Itself: it is no parameter.
-    Itself,
-    /// The parameter at this position, which the rest of the body has again.
-    Parameter(usize),
-    /// The parameter at this position, which the rest of the body has not.
-    LastParameter(usize),
+/// An entry of a body.
+#[derive(Drop)]
+pub enum BodyEntry {
+    /// A token that is no parameter, and the number of the macro that it names, if it named one when the line was read.
+    Token(Token, Option<MacroId>),
+    /// A parameter.
+    Parameter {
+        /// Its position among the parameters.
+        position: usize,
+        /// The place of its name in the body.
+        location: Location,
+        /// Whether the rest of the body hasn't it again.
+        is_last: bool,
+    },
 }
 
-/// The definition of a macro. Each token of its body has its role beside it.
+/// The definition of a macro.
 #[derive(Drop)]
 pub struct Define {
     function_like: bool,
     parameters: Vec<Text>,
-    body: Vec<Token>,
-    // for each token of the body its role; empty for a macro without parentheses
-    roles: Vec<Role>,
-    // for each token of the body the number of the macro that it names, if it named one when the line was read; empty
-    // if none did
-    numbers: Vec<Option<MacroId>>,
+    body: Vec<BodyEntry>,
 }
 
 impl Model for Define {
-    ghost use Rattle.std.specs.Prelude.{All, IsTrue};
-    ghost use Rattle.pp_lexer.specs.TokenValue.{is_ordinary};
     ghost use Rattle.pp_model.specs.Definitions.{Definition};
-    ghost use Rattle.pp_macros.specs.inner.Roles.{HasRoles};
+    ghost use Rattle.pp_macros.specs.inner.Bodies.{AreEntries, body_of};
 
     ghost Value = { Definition };
 
-    ghost view = { λ d. record { function_like = d.function_like; parameters = d.parameters.items; body = d.body.items } };
+    ghost view = { λ d. record {
+      function_like = d.function_like;
+      parameters = d.parameters.items;
+      body = body_of d.parameters.items d.body.items;
+    } };
 
-    ghost invariant = { λ d. All (λ token. IsTrue (is_ordinary token.value)) d.body.items
-        × HasRoles d.parameters.items d.body.items d.roles.items };
+    ghost invariant = { λ d. AreEntries d.parameters.items d.body.items };
 }
 
 /// A macro: a name and its definition.
@@ -75,11 +77,24 @@ impl Model for Macro {
     ghost invariant = { λ m. m.mark ≡ mark_of m.name };
 }
 
-// Whether both lists have equal values, places aside.
-fn have_same_values(old: &[Token], new: &[Token]) -> bool
-    ensures { IsTrue result ↔ (values_of old.now ≡ values_of new.now) }
+// Whether both are the same token, numbers and places aside, or the same parameter.
+fn is_same_entry(old: &BodyEntry, new: &BodyEntry) -> bool
+    ensures { result ≡ is_same_entry old.now new.now }
 {
-    old.len() == new.len() && old.iter().zip(new).all(|(a, b)| a.value == b.value)
+    match (old, new) {
+        (BodyEntry::Token(a, _), BodyEntry::Token(b, _)) => a.value == b.value,
+        (BodyEntry::Parameter { position: a, .. }, BodyEntry::Parameter { position: b, .. }) => a
+            == b,
+        _ => false,
+    }
+}
+
+// Whether the bodies of two macros with the same parameters have equal values, places aside.
+fn have_same_values(old: &[BodyEntry], new: &[BodyEntry]) -> bool
+    ensures { (parameters : List Name) → AreEntries parameters old.now → AreEntries parameters new.now
+        → IsTrue result ↔ (values_of (body_of parameters old.now) ≡ values_of (body_of parameters new.now)) }
+{
+    old.len() == new.len() && old.iter().zip(new).all(|(a, b)| is_same_entry(a, b))
 }
 
 // Whether the names are the same, in the same order.
@@ -90,76 +105,56 @@ fn are_same_names(old: &[Text], new: &[Text]) -> bool
     old == new
 }
 
-// The tokens, without room for more: a macro is kept much longer than its line is read.
-fn without_room(tokens: Vec<Token>) -> Vec<Token>
-    ensures { result.items ≡ tokens.items }
-{
-    let mut tokens = tokens;
-    tokens.shrink_to_fit();
-    tokens
-}
-
-// The role of a token before the rest of its body. `seen` marks the parameters that the rest has, and afterwards
-// that of the token too.
-fn role_before(parameters: &ParameterNames, token: &Token, seen: &mut [bool]) -> Role
+// The entry for a token before the rest of its body. `seen` marks the parameters that the rest has, and afterwards that
+// of the token too.
+fn entry_before(parameters: &ParameterNames, token: Token, seen: &mut [bool]) -> BodyEntry
     requires { length seen.old ≡ length parameters.now }
-    ensures role { (rest : List Token) → AreSeen parameters.now rest seen.old
-        → result ≡ role_named parameters.now rest (parameter_of parameters.now token.now.value) }
+    ensures token { token_of parameters.now result ≡ token }
+    ensures entry { (rest : List Token) → AreSeen parameters.now rest seen.old → IsTrue (is_ordinary token.value)
+        → IsEntry parameters.now result rest }
     ensures seen { (rest : List Token) → AreSeen parameters.now rest seen.old
-        → AreSeen parameters.now (token.now ∷ rest) seen.new }
+        → AreSeen parameters.now (token ∷ rest) seen.new }
 {
     let Some(position) = parameters.position_of(&token.value) else {
-        return Role::Itself;
+        return BodyEntry::Token(token, None);
     };
-    let again = seen[position];
+    let location = token.location;
+    let is_last = !seen[position];
     seen[position] = true;
-    if again {
-        Role::Parameter(position)
-    } else {
-        Role::LastParameter(position)
+    BodyEntry::Parameter {
+        position,
+        location,
+        is_last,
     }
 }
 
-// The roles of the tokens of a body.
-fn roles_in(
+// Gives back room of a long list, if more of it is free than used.
+fn give_back_room(tokens: &mut Vec<Token>)
+    ensures { tokens.new.items ≡ tokens.old.items }
+{
+    if tokens.capacity() / 2 > tokens.len() + 1024 {
+        tokens.shrink_to_fit();
+    }
+}
+
+// The entries for the tokens of a body.
+fn entries_of(
     alloc: Global,
     parameters: &ParameterNames,
-    body: &[Token],
-) -> Result<Vec<Role>, AllocError>
-    ensures { IfOk result (λ roles. roles.items ≡ roles_of parameters.now body.now) }
+    mut body: Vec<Token>,
+) -> Result<Vec<BodyEntry>, AllocError>
+    requires { All (λ token. IsTrue (is_ordinary token.value)) body.items }
+    ensures entries { IfOk result (λ entries. AreEntries parameters.now entries.items) }
+    ensures body { IfOk result (λ entries. body_of parameters.now entries.items ≡ body.items) }
 {
     let mut seen = vec![in alloc; false; parameters.len()]?;
-    let mut roles = vec![in alloc; Role::Itself; body.len()]?;
-    for i in (0..body.len()).rev() {
-        roles[i] = role_before(parameters, &body[i], &mut seen);
+    let mut entries = Vec::with_capacity(alloc, body.len())?;
+    while let Some(token) = body.pop() {
+        entries.push(entry_before(parameters, token, &mut seen))?;
+        give_back_room(&mut body);
     }
-    Ok(roles)
-}
-
-// The number of the macro that the token names, if it is one of these.
-#[inline(always)]
-fn number_of(macros: &Macros, token: &Token) -> Option<MacroId> {
-    match &token.value {
-        TokenValue::Ident(name) => macros.find(name.as_str()),
-        _ => None,
-    }
-}
-
-// For each token of a body the number of the macro that it names, if it is one of these. The list is empty if no token
-// names one.
-fn numbers_in(
-    alloc: Global,
-    macros: &Macros,
-    body: &[Token],
-) -> Result<Vec<Option<MacroId>>, AllocError> {
-    if !body.iter().any(|token| number_of(macros, token).is_some()) {
-        return Ok(Vec::new(alloc));
-    }
-    let mut numbers = Vec::with_capacity(alloc, body.len())?;
-    for token in body {
-        numbers.push(number_of(macros, token))?;
-    }
-    Ok(numbers)
+    entries.reverse();
+    Ok(entries)
 }
 
 impl Macro {
@@ -198,18 +193,16 @@ impl Macro {
 
 impl Define {
     /// A macro without parameters.
-    pub fn object_like(alloc: Global, body: Vec<Token>) -> Define
+    pub fn object_like(alloc: Global, body: Vec<Token>) -> Result<Define, AllocError>
         requires { All (λ token. IsTrue (is_ordinary token.value)) body.items }
-        ensures { result ≡ object_like body.items }
+        ensures { IfOk result (λ define. define ≡ object_like body.items) }
     {
-        let body = without_room(body);
-        Define {
+        let parameters = ParameterNames::new(alloc);
+        Ok(Define {
             function_like: false,
-            parameters: Vec::new(alloc),
-            body,
-            roles: Vec::new(alloc),
-            numbers: Vec::new(alloc),
-        }
+            body: entries_of(alloc, &parameters, body)?,
+            parameters: parameters.into_names(),
+        })
     }
 
     /// A macro with these parameters.
@@ -225,14 +218,10 @@ impl Define {
           body = body.items;
         }) }
     {
-        let roles = roles_in(alloc, &parameters, &body)?;
-        let body = without_room(body);
         Ok(Define {
             function_like: true,
+            body: entries_of(alloc, &parameters, body)?,
             parameters: parameters.into_names(),
-            body,
-            roles,
-            numbers: Vec::new(alloc),
         })
     }
 
@@ -250,42 +239,34 @@ impl Define {
         &self.parameters
     }
 
-    /// The tokens that replace the macro.
-    pub fn body(&self) -> &[Token]
-        ensures is { result.now ≡ self.now.body }
-        ensures ordinary { All (λ token. IsTrue (is_ordinary token.value)) result.now }
-    {
-        &self.body
-    }
-
-    /// What the body's token at this position is. `Itself` after the body's end.
+    /// The number of entries of the body.
     #[inline(always)]
-    pub fn role_at(&self, position: usize) -> Role
-        ensures { result ≡ role_ahead self.now.parameters (drop position self.now.body) }
+    pub fn len(&self) -> usize
+        ensures { result ≡ length self.now.body }
     {
-        match self.roles.get(position) {
-            Some(role) => *role,
-            None => Role::Itself,
-        }
+        self.body.len()
     }
 
-    /// Notes the number of each of these macros that a token of the body names. If an allocation fails, nothing
-    /// changes.
-    pub fn note_numbers(&mut self, alloc: Global, macros: &Macros) -> Result<(), AllocError>
-        ensures ok { OnOk result (self.new ≡ self.old) }
-        ensures err { OnErr result (self.new ≡ self.old) }
-    {
-        self.numbers = numbers_in(alloc, macros, &self.body)?;
-        Ok(())
-    }
-
-    /// The number that was noted for the body's token at this position. It says where to look for the macro of the
-    /// token's name first.
+    /// The entry of the body at this position.
     #[inline(always)]
-    pub(crate) fn number_at(&self, position: usize) -> Option<MacroId> {
-        match self.numbers.get(position) {
-            Some(number) => *number,
-            None => None,
+    pub fn entry_at(&self, position: usize) -> Option<&BodyEntry>
+        ensures entry { MatchOption result (drop position self.now.body ≡ [])
+            (λ entry. IsEntryAt self.now position entry.now) }
+        ensures small { IfSome result (λ _. position < 2 ^ 63) }
+    {
+        self.body.get(position)
+    }
+
+    /// Notes the number of each of these macros that a token of the body names.
+    pub fn note_numbers(&mut self, macros: &Macros)
+        ensures { self.new ≡ self.old }
+    {
+        for entry in self.body.iter_mut() {
+            if let BodyEntry::Token(token, number) = entry {
+                if let TokenValue::Ident(name) = &token.value {
+                    *number = macros.find(name.as_str());
+                }
+            }
         }
     }
 

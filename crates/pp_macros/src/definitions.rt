@@ -98,7 +98,7 @@ impl Definitions {
         ensures ok { OnOk result (IsChanged name (Some define) self.old self.new) }
         ensures err { OnErr result (self.new ≡ self.old) }
     {
-        define.note_numbers(self.alloc, &self.macros)?;
+        define.note_numbers(&self.macros);
         if let Some(id) = self.macros.find(name.as_str()) {
             let new = shared(self.alloc, name, define)?;
             self.macros.replace(id, new);

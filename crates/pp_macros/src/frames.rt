@@ -1,16 +1,17 @@
 //! Frames: macros that are open, each with the positions up to which its body and its arguments
 //! were read.
 
-ghost use Rattle.std.specs.Prelude.{◌≡◌, ◌⊎◌, ◌<◌, ◌^◌, ◌++◌, ◌∷◌, [], IfOk, OnOk, IfSome, MatchOption, Some, None, Ok, Err, IsSome, option_map, slice_get, is_some};
+ghost use Rattle.std.specs.Prelude.{◌≡◌, ◌⊎◌, ◌++◌, ◌∷◌, [], IfOk, OnOk, IfSome, MatchOption};
+ghost use Rattle.std.specs.Prelude.{Some, None, Ok, Err, IsSome, is_some};
 ghost use Rattle.pp_lexer.specs.PreprocessorError.{out_of_memory};
 ghost use Rattle.pp_macros.specs.inner.Frames.{new_frame, advance};
 ghost use Rattle.pp_macros.specs.inner.Parts.{lists_of};
-ghost use Rattle.pp_macros.specs.Held.{HoldsOrdinary, AllHoldOrdinary};
+ghost use Rattle.pp_macros.specs.Held.{HoldsOrdinary};
 ghost use Rattle.pp_macros.specs.inner.Ahead.{given_by, frame_after};
 ghost use Rattle.pp_macros.specs.declared.step.StepExit.TheVariants.{Error};
 
 use crate::argument_lists::{ArgumentLists, OpenArguments, Part};
-use crate::define::{Macro, Role};
+use crate::define::{BodyEntry, Macro};
 use crate::macros::MacroId;
 use crate::step::{Step, StepExit};
 use pp_lexer::token::{Text, Token, TokenValue, out_of_memory};
@@ -24,6 +25,8 @@ use std::rc::Rc;
 pub struct Ahead<'a> {
     token: &'a Token,
     painted: bool,
+    // the number that was noted for it, in its body, if it is of one
+    noted: Option<&'a Option<MacroId>>,
 }
 
 impl<'a> Model for Ahead<'a> {
@@ -62,6 +65,12 @@ impl<'a> Ahead<'a> {
         ensures { result ≡ self.now.painted }
     {
         self.painted
+    }
+
+    /// The number that was noted for it, if it is of a body.
+    #[inline(always)]
+    pub(crate) fn number(&self) -> Option<MacroId> {
+        *self.noted?
     }
 
     /// Whether a copy of the token takes memory.
@@ -167,16 +176,6 @@ impl Model for Frame {
       arguments = f.arguments.lists;
       reading = f.arguments.reading;
     } };
-}
-
-/// The token at the position.
-pub fn token_at(tokens: &[Token], position: usize) -> Option<&Token>
-    requires { AllHoldOrdinary tokens.now }
-    ensures token { option_map (λ token. token.now) result ≡ slice_get tokens.now position }
-    ensures small { IfSome result (λ _. position < 2 ^ 63) }
-    ensures holds { IfSome result (λ token. HoldsOrdinary token.now.value) }
-{
-    tokens.get(position)
 }
 
 /// A copy of a token.
@@ -288,29 +287,17 @@ impl Frame {
             return Some(Ahead {
                 token: &read.token,
                 painted: read.painted,
+                noted: None,
             });
         }
-        let define = self.opened.define();
-        let Some(token) = token_at(define.body(), self.position) else {
-            return None;
-        };
-        match define.role_at(self.position) {
-            Role::Itself => Some(Ahead {
+        match self.opened.define().entry_at(self.position) {
+            Some(BodyEntry::Token(token, number)) => Some(Ahead {
                 token,
                 painted: false,
+                noted: Some(number),
             }),
-            Role::Parameter(_) => None,
-            Role::LastParameter(_) => None,
+            _ => None,
         }
-    }
-
-    /// The number that was noted for the token of the body that its next step gives.
-    #[inline(always)]
-    pub(crate) fn number_ahead(&self) -> Option<MacroId> {
-        if self.arguments.is_reading() {
-            return None;
-        }
-        self.opened.define().number_at(self.position)
     }
 
     /// Whether an argument is being read for the last time.
@@ -342,9 +329,8 @@ impl Frame {
             self.arguments.pass();
             return;
         }
-        if let Some(_) = token_at(self.opened.define().body(), self.position) {
-            self.position += 1;
-        }
+        prove!(self.position < self.opened.define().len());
+        self.position += 1;
     }
 
     /// Advances by a step that is a pause, and returns whether there was one. A frame at its end stays as it is.
@@ -359,22 +345,23 @@ impl Frame {
             self.arguments.end();
             return true;
         }
-        let define = self.opened.define();
-        let Some(_) = token_at(define.body(), self.position) else {
+        let Some(
+            BodyEntry::Parameter {
+                position,
+                is_last,
+                ..
+            },
+        ) = self.opened.define().entry_at(self.position)
+        else {
             return false;
         };
-        match define.role_at(self.position) {
-            Role::Itself => false,
-            Role::Parameter(index) => {
-                self.position += 1;
-                self.arguments.begin(index);
-                true
-            }
-            Role::LastParameter(index) => {
-                self.position += 1;
-                self.arguments.begin_last(index);
-                true
-            }
+        let (parameter, is_last) = (*position, *is_last);
+        self.position += 1;
+        if is_last {
+            self.arguments.begin_last(parameter);
+        } else {
+            self.arguments.begin(parameter);
         }
+        true
     }
 }

@@ -18,7 +18,7 @@ ghost use Rattle.pp_macros.specs.declared.step.StepExit.TheVariants.{Error, Cont
 use crate::argument_lists::ArgumentLists;
 use crate::define::Macro;
 use crate::frames::{Ahead, Frame, give};
-use crate::macros::{MacroId, is_text};
+use crate::macros::is_text;
 use crate::marks::Marks;
 use crate::open_names::OpenNames;
 use crate::reader::MeLexer;
@@ -261,15 +261,6 @@ impl MacroProcessor {
     {
         match self.frames.last() {
             Some(frame) => frame.token(),
-            None => None,
-        }
-    }
-
-    /// The number that was noted for the token that the innermost frame gives next.
-    #[inline(always)]
-    pub(crate) fn number_ahead(&self) -> Option<MacroId> {
-        match self.frames.last() {
-            Some(frame) => frame.number_ahead(),
             None => None,
         }
     }

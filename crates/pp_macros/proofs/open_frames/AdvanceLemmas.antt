@@ -6,10 +6,9 @@ use Rattle.pp_model.specs.Names.{Name, is_same_name}
 use Rattle.pp_model.specs.Definitions.{Definition}
 use Rattle.pp_model.specs.SpliceList.{parameter_of}
 use Rattle.pp_macros.specs.inner.Defined.{Defined, meaning_of, body_tokens}
-use Rattle.pp_macros.specs.inner.Frames.{Frame, Advance, advance, body_token, argument_at}
-use Rattle.pp_macros.specs.inner.Roles.{has_parameter, role_named}
+use Rattle.pp_macros.specs.inner.Frames.{Frame, Advance, advance, body_token, argument_at, arguments_left}
+use Rattle.pp_macros.specs.inner.Bodies.{has_parameter}
 use Rattle.pp_macros.specs.inner.Work.{token_steps, body_steps, steps_left}
-use Rattle.pp_macros.specs.declared.define.Role.TheVariants.{Parameter, LastParameter}
 use Rattle.pp_macros.proofs.open_frames.RoleLemmas.{steps_without}
 
 -- a frame after a step: fewer steps are left, and its name stays
@@ -40,7 +39,7 @@ frame name line parameters body arguments reading = record {
 token_lowers : (name : Name) (line : ℕ) (parameters : List Name) (token : Token) (rest : List Token) (arguments : List (List Read)) (p : Option ℕ)
     → parameter_of parameters token.value ≡ p
     → Advances (frame name line parameters (token ∷ rest) arguments None)
-    (body_token (frame name line parameters (token ∷ rest) arguments None) token rest (role_named parameters rest p))
+    (body_token (frame name line parameters (token ∷ rest) arguments None) token rest p)
 token_lowers name line parameters token rest arguments None e =
     let s : token_steps arguments (parameter_of parameters token.value) ≡ 1 = ap (token_steps arguments) e in
     record { lower = omega arith; name = refl }
@@ -51,7 +50,10 @@ token_lowers name line parameters token rest arguments (Some k) e = go (has_para
 
     go : (again : Bool) → has_parameter parameters rest k ≡ again
         → Advances (frame name line parameters (token ∷ rest) arguments None)
-        (body_token (frame name line parameters (token ∷ rest) arguments None) token rest (if again then Parameter k else LastParameter k))
+        (record {
+          gives = None;
+          after = frame name line parameters rest (arguments_left arguments k again) (Some (argument_at arguments k));
+        })
     go true is = record { lower = omega (arith, s); name = refl }
     go false is = record { lower = omega (arith, s, steps_without parameters arguments rest k is); name = refl }
 

@@ -10,10 +10,9 @@ use Rattle.pp_model.specs.inner.SpliceList.{followed_by}
 use Rattle.pp_model.specs.declared.splice.Entry.{Entry}
 use Rattle.pp_model.specs.declared.splice.Entry.TheVariants.{Plain, End}
 use Rattle.pp_macros.specs.Item.{Step}
-use Rattle.pp_macros.specs.inner.Frames.{Frame, body_token, advance, argument_at, reading_before, layer_before, flat, names_of, outermost_frame_line}
-use Rattle.pp_macros.specs.inner.Roles.{has_parameter, role_named}
+use Rattle.pp_macros.specs.inner.Frames.{Frame, body_token, advance, argument_at, arguments_left, reading_before, layer_before, flat, names_of, outermost_frame_line}
+use Rattle.pp_macros.specs.inner.Bodies.{has_parameter}
 use Rattle.pp_macros.specs.inner.Turns.{frame_move}
-use Rattle.pp_macros.specs.declared.define.Role.TheVariants.{Parameter, LastParameter}
 use Rattle.pp_macros.proofs.open_frames.RoleLemmas.{before_without}
 use Rattle.pp_macros.specs.declared.step.StepExit.TheVariants.{Error, Continue, Finished}
 
@@ -62,7 +61,7 @@ StepsList (Err Finished) old new = ⊥
 StepsList (Err (Error fault)) old new = ⊥
 
 body_steps : (f : Frame) (token : Token) (rest : List Token) (p : Option ℕ) (fs : List Frame) → let a =
-    frame_move fs (Some (body_token (record f { reading = None }) token rest (role_named f.parameters rest p))) in
+    frame_move fs (Some (body_token (record f { reading = None }) token rest p)) in
     StepsList a.gives (replacement f.arguments token p (body_before f.parameters f.arguments rest
     (End (record { name = f.name; line = f.line }) ∷ flat fs))) (flat a.after)
 body_steps f token rest None fs = refl
@@ -71,9 +70,9 @@ body_steps f token rest (Some k) fs = go (has_parameter f.parameters rest k) ref
     end : List Entry
     end = End (record { name = f.name; line = f.line }) ∷ flat fs
 
-    go : (again : Bool) → has_parameter f.parameters rest k ≡ again → let a =
-        frame_move fs (Some (body_token (record f { reading = None }) token rest (if again then Parameter k else LastParameter k))) in
-        StepsList a.gives (replacement f.arguments token (Some k) (body_before f.parameters f.arguments rest end)) (flat a.after)
+    go : (again : Bool) → has_parameter f.parameters rest k ≡ again
+        → after_marks (followed_by (argument_at f.arguments k) (body_before f.parameters f.arguments rest end))
+        ≡ after_marks (followed_by (argument_at f.arguments k) (body_before f.parameters (arguments_left f.arguments k again) rest end))
     go true is = refl
     go false is =
         ap (λ (entries : List Entry). after_marks (followed_by (argument_at f.arguments k) entries))

@@ -10,7 +10,7 @@ use Rattle.pp_model.specs.Names.{Name}
 use Rattle.pp_model.specs.SpliceList.{parameter_of, replacement, body_before}
 use Rattle.pp_model.specs.declared.splice.Entry.{Entry}
 use Rattle.pp_macros.specs.inner.Frames.{argument_at}
-use Rattle.pp_macros.specs.inner.Roles.{is_position, has_parameter}
+use Rattle.pp_macros.specs.inner.Bodies.{is_position, has_parameter}
 use Rattle.pp_macros.specs.inner.Work.{token_steps, body_steps}
 
 -- the other arguments are as they were

@@ -1,16 +1,14 @@
 -- Frames: macros that are open, each with what is left of its body and its arguments (docs/RULES.md, Expansion 4 and
 -- 9).
-use Rattle.std.specs.Prelude.{ℕ, List, [], ◌∷◌, map, set, Option, Some, None, unwrap_or, slice_get}
+use Rattle.std.specs.Prelude.{ℕ, Bool, true, false, List, [], ◌∷◌, map, set, Option, Some, None, unwrap_or, slice_get}
 use Rattle.pp_lexer.specs.declared.token.Token.{Token}
 use Rattle.pp_model.specs.declared.read.Read.{Read}
 use Rattle.pp_model.specs.Painting.{unpainted}
 use Rattle.pp_model.specs.Names.{Name}
 use Rattle.pp_model.specs.Definitions.{Definition}
-use Rattle.pp_model.specs.SpliceList.{body_before}
+use Rattle.pp_model.specs.SpliceList.{body_before, parameter_of}
 use Rattle.pp_model.specs.inner.SpliceList.{followed_by}
-use Rattle.pp_macros.specs.inner.Roles.{role_ahead}
-use Rattle.pp_macros.specs.declared.define.Role.{Role}
-use Rattle.pp_macros.specs.declared.define.Role.TheVariants.{Itself, Parameter, LastParameter}
+use Rattle.pp_macros.specs.inner.Bodies.{has_parameter}
 use Rattle.pp_model.specs.declared.splice.Entry.{Entry}
 use Rattle.pp_model.specs.declared.splice.Entry.TheVariants.{End}
 
@@ -44,17 +42,20 @@ pub record Advance : Type 0 where
 abbrev pub argument_at : List (List Read) → ℕ → List Read
 argument_at arguments k = unwrap_or (slice_get arguments k) []
 
--- A parameter in the body starts its argument, which is a pause. If the rest of the body hasn't that parameter, its
--- argument is needed no more, and is empty then. Any other token of the body is given.
-abbrev pub body_token : Frame → Token → List Token → Role → Advance
-body_token f token rest Itself = record { gives = Some (unpainted token); after = record f { body = rest } }
-body_token f token rest (Parameter k) =
-    record { gives = None; after = record f { body = rest; reading = Some (argument_at f.arguments k) } }
-body_token f token rest (LastParameter k) = record {
+-- the arguments that are left: if the rest of the body hasn't the parameter again, its argument is needed no more, and
+-- is empty then
+abbrev pub arguments_left : List (List Read) → ℕ → Bool → List (List Read)
+arguments_left arguments k true = arguments
+arguments_left arguments k false = set arguments k []
+
+-- a parameter in the body starts its argument, which is a pause; any other token is given
+abbrev pub body_token : Frame → Token → List Token → Option ℕ → Advance
+body_token f token rest None = record { gives = Some (unpainted token); after = record f { body = rest } }
+body_token f token rest (Some k) = record {
   gives = None;
   after = record f {
     body = rest;
-    arguments = set f.arguments k [];
+    arguments = arguments_left f.arguments k (has_parameter f.parameters rest k);
     reading = Some (argument_at f.arguments k);
   };
 }
@@ -62,7 +63,7 @@ body_token f token rest (LastParameter k) = record {
 -- one step of the body, or nothing at its end
 abbrev pub advance_body : Frame → List Token → Option Advance
 advance_body f [] = None
-advance_body f (token ∷ rest) = Some (body_token f token rest (role_ahead f.parameters (token ∷ rest)))
+advance_body f (token ∷ rest) = Some (body_token f token rest (parameter_of f.parameters token.value))
 
 -- the next token of the argument that is being read is given; its end is a pause
 abbrev pub advance_reading : Frame → Option (List Read) → Option Advance

@@ -22,7 +22,7 @@ returns-in-Some-clause-ok c =
     let found = found_at c.args.name (macro_names c.self.inside.macros) c.in-Some.id (sym is) in
     let change = is_set c.self.inside.macros c.self.inside.defined.items c.self.invariant.0 c.self.invariant.1 c.args.name c.in-Some.id found
     c.in_ok-new.new.value (ap (λ (d : Defined). d.name) c.in_ok-new.ensures) in
-    rw (← c.self.view_is, c.replace.ensures, c.number.ensures, ← (c.in_ok-note_numbers.ensures {u = tt}).ok, ← ap (λ (d : Defined). d.definition) c.in_ok-new.ensures) change
+    rw (← c.self.view_is, c.replace.ensures, c.number.ensures, ← c.note_numbers.ensures, ← ap (λ (d : Defined). d.definition) c.in_ok-new.ensures) change
 
 pub replace-requires : goal.replace-requires
 replace-requires c = rw (ap (λ (d : Defined). d.name) c.in_ok-new.ensures, ← c.as_str.ensures) (sym c.in-Some.ensures)
@@ -59,6 +59,6 @@ returns-clause-ok c =
       c.push_reserved.ensures.items,
       c.reserve.ensures.items,
       ← same,
-      ← (c.in_ok-note_numbers.ensures {u = tt}).ok,
+      ← c.note_numbers.ensures,
       ← ap (λ (d : Defined). d.definition) c.in_ok-new-2.ensures,
     ) change
