@@ -1,36 +1,33 @@
 //! Calls of function-like macros: taking, and the search for their arguments.
 
-ghost use Rattle.std.specs.Prelude.{◌≡◌, ◌⊎◌, ◌∷◌, ◌++◌, if◌then◌else◌, [], OnOk, OnErr, true, false, IfOk, IfSome, MatchOption, Ok, Err, Some, None, IsSome, is_some, option_map};
+ghost use Rattle.std.specs.Prelude.{◌≡◌, ◌⊎◌, ◌∷◌, ◌++◌, if◌then◌else◌, [], OnOk, true, false, IfOk, IfSome};
+ghost use Rattle.std.specs.Prelude.{Ok, Err, Some, None, IsSome, is_some, option_map};
 ghost use Rattle.pp_lexer.specs.PreprocessorError.{out_of_memory};
-ghost use Rattle.pp_model.specs.Painting.{unpainted, painted_among};
+ghost use Rattle.pp_model.specs.Painting.{unpainted};
 ghost use Rattle.pp_macros.specs.inner.Seeking.{FindsBy, Enters, FollowsToken};
 ghost use Rattle.pp_macros.specs.inner.Frames.{new_frame, names_of, outermost_frame_line};
 ghost use Rattle.pp_macros.specs.Held.{HoldsOrdinary};
 ghost use Rattle.pp_macros.specs.inner.Reading.{AllReadOrdinary};
-ghost use Rattle.pp_macros.specs.inner.Giving.{AdvancesTo, GivesEach, GivesNext, RefusesWithin, TurnsFrames, passed, token_ahead};
 ghost use Rattle.pp_macros.specs.inner.Idle.{is_idle};
-ghost use Rattle.pp_macros.specs.inner.CallTurns.{TurnsOrRefuses, TakesSomething, is_out_of_memory_step, paren_of, TakenHoldsOrdinary};
+ghost use Rattle.pp_macros.specs.inner.CallTurns.{TurnsOrRefuses, is_out_of_memory_step, paren_of, TakenHoldsOrdinary};
 ghost use Rattle.pp_macros.specs.inner.Expander.{StepsFetching, StepsTaking, TakesNext, TakesOnto, TakesRun, GathersNext, Satisfies, place_after, gathered_to, taken_as, is_pause};
-ghost use Rattle.pp_macros.specs.inner.Left.{IsSound};
-ghost use Rattle.pp_macros.specs.inner.Reader.{of_list};
-ghost use Rattle.pp_macros.specs.inner.Turns.{macro_of, macro_of_value, masks};
+ghost use Rattle.pp_macros.specs.inner.Turns.{macro_of, macro_of_value};
 ghost use Rattle.pp_lexer.specs.declared.token.TokenValue.TheVariants as value;
 ghost use Rattle.pp_macros.specs.declared.step.StepExit.TheVariants.{Error, Continue, Finished};
 ghost use Rattle.pp_macros.specs.declared.halt.Halt.TheVariants as halt;
 ghost use Rattle.pp_lexer.specs.declared.token.PreprocessorError.TheVariants.{UnexpectedEndOfInput};
 
+mod giving;
+
 use crate::argument_lists::ArgumentLists;
 use crate::define::{Define, Macro};
-use crate::frames::Ahead;
 use crate::halt::{Halt, halt_of};
-use crate::list_lexer::ListLexer;
 use crate::macro_processor::{MacroProcessor, gives_line_name};
 use crate::open_around::OpenAround;
 use crate::reader::MeLexer;
 use crate::spares::Spares;
 use crate::step::{Step, StepExit, is_out_of_memory};
 use pp_lexer::token::{Location, PreprocessorError, Text, Token, TokenValue, out_of_memory};
-use pp_model::names::is_line_name;
 use pp_model::parentheses::{Nesting, is_left_paren, nesting_of};
 use pp_model::read::Read;
 use std::alloc::{AllocError, Global};
@@ -187,25 +184,6 @@ fn out_of_memory_step() -> Step<Taken>
     Err(StepExit::Error(out_of_memory()))
 }
 
-// The macro that the token of the innermost frame opens when it is taken, painted or not.
-#[inline(always)]
-fn opened_by<'l, L: MeLexer>(
-    lexer: &'l L,
-    ahead: &Ahead<'_>,
-    painted: bool,
-) -> Option<&'l Rc<Macro>>
-    ensures { option_map (λ m. (m.now.value.name, m.now.value.definition)) result
-        ≡ macro_of (L.reader lexer.now) (record { token = ahead.now.token; painted = painted }) }
-{
-    if painted {
-        return None;
-    }
-    match ahead.value() {
-        TokenValue::Ident(name) => lexer.get_define(ahead.number(), name.as_str()),
-        _ => None,
-    }
-}
-
 // The macro that a token with this value opens when it is taken, painted or not.
 fn find_macro(
     lexer: &dyn MeLexer,
@@ -236,17 +214,6 @@ fn ended_after(paren: Location, tokens: &[Read]) -> Halt
         Some(read) => Halt::Fault((PreprocessorError::UnexpectedEndOfInput, read.token.location)),
         None => Halt::Fault((PreprocessorError::UnexpectedEndOfInput, paren)),
     }
-}
-
-// What one step of the open macros does.
-#[derive(Clone, Copy)]
-enum Turn {
-    // It is a pause, or opens a macro without parentheses.
-    Passed,
-    // It gives a token as it is in its list, painted or not. It isn't made yet.
-    Token { painted: bool },
-    // Anything else. It isn't made.
-    Other,
 }
 
 // The number of tokens to make room for when a call of this macro is gathered.
@@ -610,216 +577,6 @@ impl Expander {
             Ok(read) => self.follow(lexer, read),
             Err(exit) => Err(exit),
         }
-    }
-
-    // Whether a token that a frame gives is painted when it is taken.
-    #[inline(always)]
-    fn paints<L: MeLexer>(&self, lexer: &L, ahead: &Ahead<'_>) -> bool
-        ensures { result
-            ≡ (painted_among (masks self.now.frames (L.reader lexer.now)) ahead.now).painted }
-    {
-        match ahead.value() {
-            TokenValue::Ident(name) => {
-                ahead.is_painted()
-                    || self.processor.is_open(name.as_str())
-                    || lexer.is_hidden(name.as_str())
-            }
-            _ => ahead.is_painted(),
-        }
-    }
-
-    // One step of the open macros, if it is a pause or opens a macro without parentheses; otherwise nothing changes.
-    #[inline(always)]
-    fn turn<L: MeLexer>(&mut self, lexer: &L) -> Result<Turn, AllocError>
-        ensures turns { IfOk result (λ turn. TurnsFrames (L.reader lexer.now) self.old turn self.new) }
-        ensures refused { OnErr result (TakesSomething self.old (L.reader lexer.now)) }
-    {
-        if self.held.is_some() || self.processor.is_idle() {
-            return Ok(Turn::Other);
-        }
-        let Some(ahead) = self.processor.token() else {
-            self.processor.pass_pause();
-            return Ok(Turn::Passed);
-        };
-        if is_line_name(ahead.value()) {
-            return Ok(Turn::Other);
-        }
-        let painted = self.paints(lexer, &ahead);
-        let Some(found) = opened_by(lexer, &ahead, painted) else {
-            return Ok(Turn::Token { painted });
-        };
-        if found.define().is_function_like() {
-            return Ok(Turn::Other);
-        }
-        let line = ahead.line();
-        let opened = found.clone()?;
-        self.processor.pass_token();
-        self.open_bare(opened, line)?;
-        Ok(Turn::Passed)
-    }
-
-    /// Goes on in the open macros up to a token that is given as it is in its list: over parameters and ends, and names
-    /// of macros without parentheses, which open. Returns whether the token is painted, if there is one; `token` gives
-    /// it, and `pass` passes it. Stops at `__LINE__` and at the name of a macro with parentheses.
-    #[inline(always)]
-    pub fn advance<L: MeLexer>(&mut self, lexer: &L) -> Result<Option<bool>, AllocError>
-        requires { IsSound self.old (L.reader lexer.now) }
-        ensures advances { IfOk result (λ found. AdvancesTo (L.reader lexer.now) self.old found self.new) }
-        ensures refused { OnErr result (RefusesWithin (L.reader lexer.now) self.old) }
-    {
-        'turns: loop {
-            match self.turn(lexer)? {
-                Turn::Passed => {}
-                Turn::Token { painted } => return Ok(Some(painted)),
-                Turn::Other => return Ok(None),
-            }
-        }
-    }
-
-    /// The token that the innermost open macro has next in its list. There is none if its next step is a pause.
-    #[inline(always)]
-    pub fn token(&self) -> Option<&Token>
-        ensures token { option_map (λ token. token.now) result ≡ token_ahead self.now }
-    {
-        match self.processor.token() {
-            Some(ahead) => Some(ahead.token()),
-            None => None,
-        }
-    }
-
-    /// Passes the token that `token` gives.
-    #[inline(always)]
-    pub fn pass(&mut self)
-        requires { IsSome (token_ahead self.old) }
-        ensures { self.new ≡ passed self.old }
-    {
-        self.processor.pass_token();
-    }
-
-    /// Goes on as `advance` does, and gives a copy of the token that it finds, and passes it.
-    #[inline(always)]
-    pub fn give_next<L: MeLexer>(&mut self, lexer: &L) -> Result<Option<Token>, AllocError>
-        requires { IsSound self.old (L.reader lexer.now) }
-        ensures gives { IfOk result (λ given. GivesNext (L.reader lexer.now) self.old given self.new) }
-        ensures holds { IfOk result (λ given. IfSome given (λ token. HoldsOrdinary token.value)) }
-        ensures refused { OnErr result (RefusesWithin (L.reader lexer.now) self.old) }
-    {
-        if self.is_idle() {
-            return Ok(None);
-        }
-        self.give_ahead(lexer)
-    }
-
-    // Does the same if something is open or held.
-    #[inline(always)]
-    fn give_ahead<L: MeLexer>(&mut self, lexer: &L) -> Result<Option<Token>, AllocError>
-        requires { IsSound self.old (L.reader lexer.now) }
-        ensures gives { IfOk result (λ given. GivesNext (L.reader lexer.now) self.old given self.new) }
-        ensures holds { IfOk result (λ given. IfSome given (λ token. HoldsOrdinary token.value)) }
-        ensures refused { OnErr result (RefusesWithin (L.reader lexer.now) self.old) }
-    {
-        let Some(_) = self.advance(lexer)? else {
-            return Ok(None);
-        };
-        if self.processor.reads_last() {
-            if let Some(token) = self.take_last() {
-                return Ok(Some(token));
-            }
-        }
-        let Some(ahead) = self.processor.token() else {
-            unreachable!();
-        };
-        let token = ahead.copied_token(self.alloc)?;
-        self.processor.pass_token();
-        Ok(Some(token))
-    }
-
-    // Moves out the token that `token` gives, and passes it, if its list gives it for the last time. Otherwise nothing
-    // changes. It is a function of its own, so that the room for the token is cleared only if there may be one.
-    #[inline(always)]
-    fn take_last(&mut self) -> Option<Token>
-        ensures takes { MatchOption result (self.new ≡ self.old) (λ token. (token_ahead self.old ≡ Some token)
-            × (self.new ≡ passed self.old)) }
-        ensures holds { IfSome result (λ token. HoldsOrdinary token.value) }
-    {
-        match self.processor.take_token() {
-            Some(read) => Some(read.token),
-            None => None,
-        }
-    }
-
-    // Moves that token to the end of the items, painted or not, and passes it, if its list gives it for the last time.
-    // Returns whether it did. Otherwise nothing changes. It is a function of its own for the same reason.
-    #[inline(never)]
-    fn put_last(&mut self, painted: bool, items: &mut Vec<Read>) -> Result<bool, AllocError>
-        ensures passes { IfOk result (λ put. put ≡ true → self.new ≡ passed self.old) }
-        ensures puts { IfOk result (λ put. put ≡ true → (token : Token) → token_ahead self.old ≡ Some token
-            → items.new.items ≡ items.old.items ++ record { token = token; painted = painted } ∷ []) }
-        ensures stays { IfOk result (λ put. put ≡ false → (self.new ≡ self.old)
-            × (items.new.items ≡ items.old.items)) }
-    {
-        match self.processor.take_token() {
-            Some(read) => {
-                items.push(Read {
-                    token: read.token,
-                    painted,
-                })?;
-                Ok(true)
-            }
-            None => Ok(false),
-        }
-    }
-
-    // Whether the token that `token` gives is better moved to a list than copied: its list gives it for the last time,
-    // and a copy takes memory.
-    #[inline(always)]
-    fn moves_next(&self) -> bool {
-        if !self.processor.reads_last() {
-            return false;
-        }
-        match self.processor.token() {
-            Some(ahead) => ahead.takes_memory(),
-            None => false,
-        }
-    }
-
-    // Puts the token that `token` gives after the items, painted or not, and passes it. It is copied, unless its list
-    // gives it for the last time and a copy would take memory.
-    #[inline(always)]
-    fn put_token(&mut self, painted: bool, items: &mut Vec<Read>) -> Result<(), AllocError>
-        requires { IsSome (token_ahead self.old) }
-        ensures passes { OnOk result (self.new ≡ passed self.old) }
-        ensures puts { OnOk result ((token : Token) → token_ahead self.old ≡ Some token
-            → items.new.items ≡ items.old.items ++ record { token = token; painted = painted } ∷ []) }
-    {
-        if self.moves_next() && self.put_last(painted, items)? {
-            return Ok(());
-        }
-        let Some(ahead) = self.processor.token() else {
-            unreachable!();
-        };
-        ahead.put_copy(self.alloc, painted, items)?;
-        self.processor.pass_token();
-        Ok(())
-    }
-
-    /// Appends to the items what the open macros give, over a list: up to `__LINE__`, to the name of a macro with
-    /// parentheses, or to the end of all open macros.
-    pub fn give_frames(
-        &mut self,
-        list: &ListLexer<'_>,
-        items: &mut Vec<Read>,
-    ) -> Result<(), AllocError>
-        requires ordinary { AllReadOrdinary items.old.items }
-        requires sound { IsSound self.old (of_list list.now) }
-        ensures gives { OnOk result (GivesEach (of_list list.now) self.old items.old.items self.new
-            items.new.items) }
-        ensures holds { OnOk result (AllReadOrdinary items.new.items) }
-    {
-        'tokens: while let Some(painted) = self.advance(list)? {
-            self.put_token(painted, items)?;
-        }
-        Ok(())
     }
 
     /// The macros that are open here or around.

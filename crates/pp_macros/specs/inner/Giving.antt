@@ -11,8 +11,8 @@ use Rattle.pp_macros.specs.inner.CallTurns.{TurnsTo, TakesSomething}
 use Rattle.pp_macros.specs.inner.Expander.{Expander}
 use Rattle.pp_macros.specs.inner.Reader.{Reader}
 use Rattle.pp_macros.specs.declared.calls.Taken.TheVariants as taken
-use Rattle.pp_macros.specs.declared.calls.Turn.{Turn}
-use Rattle.pp_macros.specs.declared.calls.Turn.TheVariants as turn
+use Rattle.pp_macros.specs.declared.calls.giving.Turn.{Turn}
+use Rattle.pp_macros.specs.declared.calls.giving.Turn.TheVariants as turn
 use Rattle.pp_macros.specs.declared.step.StepExit.TheVariants.{Continue}
 
 -- the expander after a step of the innermost frame
