@@ -179,23 +179,29 @@ pub(crate) fn only_operator<'l>(line: &'l DirectiveLine<'_>, punct: Punct) -> Op
 }
 
 /// Why the text of an integer isn't read as one.
-pub(crate) fn of_integer(alloc: Global, text: &str) -> Result<Option<String>, AllocError> {
+pub(crate) fn of_integer(alloc: Global, text: &str) -> Result<String, AllocError> {
     let digits = text.strip_prefix("0x").or(text.strip_prefix("0X"));
-    if let Some(digits) = digits {
-        if digits.starts_with(|c: char| c.is_ascii_hexdigit()) {
-            return Ok(None);
-        }
-        let message = format!(in alloc; "no digits after `{}`", text.get(..2).unwrap_or(""))?;
-        return Ok(Some(message));
+    if digits.is_some_and(|digits| !digits.starts_with(|c: char| c.is_ascii_hexdigit())) {
+        return format!(in alloc; "no digits after `{}`", text.get(..2).unwrap_or(""));
     }
-    if !text.starts_with('0') {
-        return Ok(None);
-    }
-    match text.chars().find(|c| *c == '8' || *c == '9') {
-        Some(digit) => {
-            let message = format!(in alloc; "digit `{digit}` in an octal literal")?;
-            Ok(Some(message))
+    if digits.is_none() && text.starts_with('0') {
+        if let Some(digit) = text.chars().find(|c| *c == '8' || *c == '9') {
+            return format!(in alloc; "digit `{digit}` in an octal literal");
         }
-        None => Ok(None),
+    }
+    String::from_str(alloc, "integer out of range")
+}
+
+/// What a definition's line, or one that needs a name, ends without.
+pub(crate) fn of_early_end(alloc: Global, line: &DirectiveLine<'_>) -> Result<String, AllocError> {
+    match line.tokens().last() {
+        Some(last) if name_of(last).is_some() => {
+            String::from_str(alloc, "expected `,` or `)` before the end of the line")
+        }
+        Some(_) => String::from_str(
+            alloc,
+            "expected the name of a parameter before the end of the line",
+        ),
+        None => format!(in alloc; "no macro name in `#{}`", line.word()),
     }
 }

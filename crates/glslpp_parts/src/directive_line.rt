@@ -58,9 +58,9 @@ impl<'a> DirectiveLine<'a> {
         }
     }
 
-    /// Whether it is an `#if` or an `#elif`.
+    /// Whether it is an `#if`, an `#elif` or a `#line`.
     pub(crate) fn has_expression(&self) -> bool {
-        matches!(self.word(), "if" | "elif")
+        matches!(self.word(), "if" | "elif" | "line")
     }
 
     /// The tokens after the word.

@@ -5,7 +5,7 @@ ghost use Rattle.pp_rs.specs.Sentences.{sentence_of};
 ghost use Rattle.glslpp_parts.specs.Reports.{IsErrorMessage};
 
 use crate::causes::{
-    Cause, of_integer, of_unexpected_token, of_unfinished_expression, only_operator,
+    Cause, of_early_end, of_integer, of_unexpected_token, of_unfinished_expression, only_operator,
 };
 use crate::diagnostic::{Diagnostic, Note, Severity, Site};
 use crate::directive_line::DirectiveLine;
@@ -119,9 +119,15 @@ impl<'a> Explainer<'a> {
                 of_unexpected_token(self.alloc, line, place)?
             }
             (PreprocessorError::UnexpectedNewLine, Some(line)) => {
-                Some(format!(in self.alloc; "no macro name in `#{}`", line.word())?)
+                Some(of_early_end(self.alloc, line)?)
             }
-            (PreprocessorError::IntegerOverflow, _) => of_integer(self.alloc, place.here)?,
+            (PreprocessorError::IntegerOverflow, Some(line)) if line.word() == place.here => {
+                Some(format!(in self.alloc; "integer out of range in `#{}`", line.word())?)
+            }
+            (PreprocessorError::IntegerOverflow, _)
+                if place.here.starts_with(|c: char| c.is_ascii_digit()) => {
+                Some(of_integer(self.alloc, place.here)?)
+            }
             _ => None,
         };
         Ok(match message {

@@ -205,7 +205,7 @@ pub enum PreprocessorError {
     NotSupported64BitLiteral,
     /// Kept from the Rust crate. It is never returned.
     MacroNotDefined,
-    /// Macro calls are nested too deep.
+    /// Too many macro calls are nested.
     RecursionLimitReached,
     /// An expression divides by 0.
     DivisionByZero,
