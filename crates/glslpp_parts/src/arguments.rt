@@ -1,9 +1,11 @@
 //! The command line.
 
-ghost use Rattle.std.specs.Prelude.{◌≡◌, ◌≤◌, ◌++◌, ◌∷◌, [], false, IfOk, codes, length, map, not, option_map, unwrap_or};
+ghost use Rattle.std.specs.Prelude.{◌≡◌, ◌≤◌, ◌++◌, ◌∷◌, [], false, IfOk, codes, length, map, not, option_map};
+ghost use Rattle.std.specs.Prelude.{unwrap_or};
 ghost use Rattle.clap.specs.Words.{first_value, found_of, rule_of};
 ghost use Rattle.clap.specs.declared.builder.action.ArgAction.TheVariants.{Append, Set, SetTrue};
-ghost use Rattle.glslpp_parts.specs.Asked.{AreColours, AreWarnings, IsAsked, IsFlag, IsForm, IsLimit, files_or_input, words_of};
+ghost use Rattle.glslpp_parts.specs.Asked.{AreColours, AreWarnings, IsAsked, IsFlag, IsForm, IsLimit, files_or_input};
+ghost use Rattle.glslpp_parts.specs.Asked.{words_of};
 ghost use Rattle.glslpp_parts.specs.Options.{options, options_of, value_options, forms, flags, foreign, known_of};
 ghost use Rattle.glslpp_parts.specs.Options.{lettered, long_valued, message_options, named, nameless};
 ghost use Rattle.glslpp_parts.specs.inner.Adding.{IsOption};

@@ -3,7 +3,8 @@
 ghost use Rattle.std.specs.Prelude.{◌≡◌, All, Any, IsTrue, ◌↔◌, OnOk, IfOk, IfErr};
 ghost use Rattle.std.specs.List.{list_any};
 ghost use Rattle.pp_lexer.specs.Lines.{is_line_break};
-ghost use Rattle.glslpp_parts.specs.Definitions.{IsName, IsFreeName, is_builtin, IsOneLine, IsDefinable, IsTold, IsWithDefinition, AreAdded};
+ghost use Rattle.glslpp_parts.specs.Definitions.{IsName, IsFreeName, is_builtin, IsOneLine, IsDefinable, IsTold};
+ghost use Rattle.glslpp_parts.specs.Definitions.{IsWithDefinition, AreAdded};
 
 use crate::changes::{Change, Definition};
 use crate::columns::is_line_end_byte;

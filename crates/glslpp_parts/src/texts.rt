@@ -4,7 +4,8 @@
 //! library after blanks, at least one more than the first line of the source has bytes. Its tokens are then on line 1,
 //! and past the end of line 1 of the source.
 
-ghost use Rattle.std.specs.Prelude.{◌≡◌, ◌≤◌, ◌+◌, ◌-◌, ◌↔◌, ◌||◌, [], true, false, nat_lt, IsNone, IfSome, OnOk, IfOk, length, string_bytes};
+ghost use Rattle.std.specs.Prelude.{◌≡◌, ◌≤◌, ◌+◌, ◌-◌, ◌↔◌, ◌||◌, [], true, false, nat_lt, IsNone, IfSome, OnOk, IfOk};
+ghost use Rattle.std.specs.Prelude.{length, string_bytes};
 ghost use Rattle.std.proofs.Math.ListN.{replicate};
 ghost use Rattle.std.specs.List.{position_or_len};
 ghost use Rattle.pp_lexer.specs.Lines.{is_line_break};

@@ -4,7 +4,9 @@ ghost use Rattle.std.specs.Prelude.{◌≡◌, ◌-◌, ◌^◌, ◌<◌, ◌++�
 ghost use Rattle.std.specs.Str.{chars};
 ghost use Rattle.pp_lexer.specs.Respelling.{read_values};
 ghost use Rattle.glslpp_parts.specs.Reading.{values_ahead};
-ghost use Rattle.glslpp_parts.specs.Version.{after_newlines, version_line, after_hash, numbered, profile_of, is_word, version_of, is_es, has_high_precision, has_core, is_compatible, said, as_one, predefined};
+ghost use Rattle.glslpp_parts.specs.Version.{after_newlines, version_line, after_hash, numbered, profile_of, is_word};
+ghost use Rattle.glslpp_parts.specs.Version.{version_of, is_es, has_high_precision, has_core, is_compatible, said};
+ghost use Rattle.glslpp_parts.specs.Version.{as_one, predefined};
 
 use crate::changes::Change;
 use crate::reading::{Read, read_next};

@@ -2,7 +2,8 @@
 
 ghost use Rattle.std.specs.Prelude.{◌≡◌, All, IsTrue, OnOk, false, is_some, map};
 ghost use Rattle.std.specs.List.{list_any};
-ghost use Rattle.glslpp_parts.specs.Warnings.{name_of, is_asked, is_known, are_errors, warnings_of, is_on, no_warnings, mention, said, severity_of};
+ghost use Rattle.glslpp_parts.specs.Warnings.{name_of, is_asked, is_known, are_errors, warnings_of, is_on, no_warnings};
+ghost use Rattle.glslpp_parts.specs.Warnings.{mention, said, severity_of};
 
 use crate::diagnostic::Severity;
 use crate::failure::{Failure, failure_of};
