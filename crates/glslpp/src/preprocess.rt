@@ -4,7 +4,7 @@ ghost use Rattle.std.specs.Prelude.{◌≡◌, ℕ, ◌-◌, ◌^◌, ◌<◌, �
 ghost use Rattle.pp_rs.specs.TokenValue.{is_ordinary};
 
 use glslpp_parts::arguments::Arguments;
-use glslpp_parts::changes::kept_definitions;
+use glslpp_parts::changes::{Definition, kept_definitions};
 use glslpp_parts::comment_check::open_comment;
 use glslpp_parts::definitions::add_definitions;
 use glslpp_parts::diagnostic::{Diagnostic, Severity, Site};
@@ -72,7 +72,7 @@ struct Ended {
     errors: usize,
 }
 
-// Runs over a source.
+// Runs over a source, with the definitions of GLSL and of the command line that no later `-U` undoes.
 fn run_over(
     alloc: Global,
     reporter: Reporter<'_>,
@@ -82,12 +82,41 @@ fn run_over(
 ) -> Result<Ended, Failure>
     requires { length source.now < 2 ^ 32 - 1 }
 {
+    let version = declared_version(alloc, source)?;
+    let number = format!(in alloc; "{}", version.number)?;
+    let mut changes = Vec::new(alloc);
+    if arguments.is_predefining {
+        version.push_predefined(number.as_str(), &mut changes)?;
+    }
+    changes.extend_from_slice(arguments.changes.as_slice())?;
+    let definitions = kept_definitions(alloc, changes.as_slice())?;
+    run_with(
+        alloc,
+        reporter,
+        arguments,
+        source,
+        replaced,
+        definitions.as_slice(),
+    )
+}
+
+// Runs over a source with these definitions before it.
+fn run_with(
+    alloc: Global,
+    reporter: Reporter<'_>,
+    arguments: &Arguments<'_>,
+    source: &str,
+    replaced: &[usize],
+    definitions: &[Definition<'_>],
+) -> Result<Ended, Failure>
+    requires { length source.now < 2 ^ 32 - 1 }
+{
+    let findings = findings_backwards(alloc, source, arguments.warnings, definitions)?;
     let mut texts = Texts::new(alloc, source);
     let mut items = Preprocessor::new(alloc, source);
-    let defined = define(alloc, arguments, source, &mut items, &mut texts);
-    let ended = match defined {
+    let ended = match add_definitions(alloc, &mut items, &mut texts, definitions) {
         Ok(()) => run_over_items(
-            alloc, reporter, arguments, source, replaced, &mut items, &texts,
+            alloc, reporter, arguments, source, replaced, &mut items, &texts, findings,
         ),
         Err(failure) => Err(failure),
     };
@@ -104,10 +133,10 @@ fn run_over_items<'x>(
     replaced: &'x [usize],
     items: &mut Preprocessor<'_>,
     texts: &'x Texts<'x>,
+    findings: Vec<Diagnostic<'x>>,
 ) -> Result<Ended, Failure>
     requires { length source.now < 2 ^ 32 - 1 }
 {
-    let findings = findings_backwards(alloc, source, arguments.warnings)?;
     let explainer = Explainer::new(alloc, source, texts, replaced);
     let mut run = Run::new(alloc, reporter, arguments, texts, explainer, findings);
     run.read_to_end(items)?;
@@ -124,10 +153,11 @@ fn findings_backwards<'a>(
     alloc: Global,
     source: &'a str,
     warnings: Warnings,
+    definitions: &[Definition<'_>],
 ) -> Result<Vec<Diagnostic<'a>>, AllocError>
     requires { length source.now < 2 ^ 32 - 1 }
 {
-    let mut findings = inspect(alloc, source, warnings)?;
+    let mut findings = inspect(alloc, source, warnings, definitions)?;
     findings.reverse();
     Ok(findings)
 }
@@ -384,25 +414,4 @@ fn is_in_source(texts: &Texts<'_>, location: Location) -> bool {
         Some(spot) => spot.is_in_source,
         None => true,
     }
-}
-
-// Adds the definitions of GLSL and of the command line, without those that a later `-U` undoes.
-fn define(
-    alloc: Global,
-    arguments: &Arguments<'_>,
-    source: &str,
-    items: &mut Preprocessor<'_>,
-    texts: &mut Texts<'_>,
-) -> Result<(), Failure>
-    requires { length source.now < 2 ^ 32 - 1 }
-{
-    let version = declared_version(alloc, source)?;
-    let number = format!(in alloc; "{}", version.number)?;
-    let mut changes = Vec::new(alloc);
-    if arguments.is_predefining {
-        version.push_predefined(number.as_str(), &mut changes)?;
-    }
-    changes.extend_from_slice(arguments.changes.as_slice())?;
-    let definitions = kept_definitions(alloc, changes.as_slice())?;
-    add_definitions(alloc, items, texts, definitions.as_slice())
 }

@@ -7,7 +7,7 @@ use Rattle.glslpp_parts.specs.declared.diagnostic.Severity.{Severity}
 use Rattle.glslpp_parts.specs.declared.diagnostic.Severity.TheVariants.{Error, Warning as warning_severity}
 use Rattle.glslpp_parts.specs.declared.warning.Warning.{Warning}
 use Rattle.glslpp_parts.specs.declared.warning.Warning.TheVariants.{UnusedMacros, Guard, Comment, ExtraTokens}
-use Rattle.glslpp_parts.specs.declared.warning.Warning.TheVariants.{Space, Conflict, Reserved}
+use Rattle.glslpp_parts.specs.declared.warning.Warning.TheVariants.{Space, Conflict, Reserved, Undef}
 use Rattle.glslpp_parts.specs.declared.warning.Warnings.{Warnings}
 
 -- the name of a kind of warning after `-W`
@@ -19,6 +19,7 @@ name_of ExtraTokens = codes "extra-tokens"
 name_of Space = codes "space"
 name_of Conflict = codes "conflict"
 name_of Reserved = codes "reserved"
+name_of Undef = codes "undef"
 
 abbrev pub no_warnings : Warnings
 no_warnings = record {
@@ -29,6 +30,7 @@ no_warnings = record {
   space = false;
   conflict = false;
   reserved = false;
+  undef = false;
   are_errors = false;
 }
 
@@ -40,6 +42,7 @@ is_on warnings ExtraTokens = warnings.extra_tokens
 is_on warnings Space = warnings.space
 is_on warnings Conflict = warnings.conflict
 is_on warnings Reserved = warnings.reserved
+is_on warnings Undef = warnings.undef
 
 -- what a word after `-W` says of a name: that it is on or, with `no-`, that it is off
 abbrev pub mention : List ℕ → List ℕ → Option Bool
@@ -58,7 +61,7 @@ said name (word ∷ words) = later (said name words) (mention name word)
 -- what `-W` takes: the names of the kinds, and `error` and `all`
 abbrev pub names : List (List ℕ)
 names = codes "unused-macros" ∷ codes "guard" ∷ codes "comment" ∷ codes "extra-tokens" ∷ codes "space"
-    ∷ codes "conflict" ∷ codes "reserved" ∷ codes "error" ∷ codes "all" ∷ []
+    ∷ codes "conflict" ∷ codes "reserved" ∷ codes "undef" ∷ codes "error" ∷ codes "all" ∷ []
 
 -- a word that says something of one of these
 abbrev pub is_known : List ℕ → Bool
@@ -83,6 +86,7 @@ warnings_of words is_silent = record {
   space = is_asked words is_silent Space;
   conflict = is_asked words is_silent Conflict;
   reserved = is_asked words is_silent Reserved;
+  undef = is_asked words is_silent Undef;
   are_errors = are_errors words is_silent;
 }
 

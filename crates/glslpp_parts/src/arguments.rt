@@ -156,7 +156,7 @@ const OUTPUT_HELP: &str = "Write to the file, if no source has an error";
 
 const AFTER_HELP: &str = "\
 Without a file, or with `-`, the standard input is read.
-KIND is one of comment, conflict, extra-tokens, guard, reserved, space or unused-macros.
+KIND is one of comment, conflict, extra-tokens, guard, reserved, space, undef or unused-macros.
 Defined are __VERSION__, GL_ES, GL_FRAGMENT_PRECISION_HIGH, GL_core_profile and GL_compatibility_profile, as the
 #version of the source says. Comments are not kept, and a #line of the source is not printed.
 The status is 0 if all was printed, 1 at an error in a source, and 2 if a word is wrong or reading or writing failed.";

@@ -3,21 +3,25 @@
 ghost use Rattle.std.specs.Prelude.{◌≡◌, ◌-◌, ◌^◌, ◌<◌, [], IfOk, OnOk, length};
 ghost use Rattle.glslpp_parts.specs.Warnings.{no_warnings};
 
+use crate::changes::Definition;
 use crate::comment_check::{count_line_ends, is_continued, nested_comment};
 use crate::diagnostic::{Diagnostic, Note, Site};
 use crate::explainer::is_near;
 use crate::findings::Findings;
+use crate::undefined_names::find_undefined_names;
 use crate::used_names::UsedNames;
 use crate::warning::{Warning, Warnings};
 use pp_rs::lexer::{Comments, Lexer, Token, TokenValue};
 use pp_rs::token::{Location, PreprocessorError, Punct};
 use std::alloc::{AllocError, Global};
 
-/// Returns what the warnings find in a source, in its order. Without a warning nothing is read.
+/// Returns what the warnings find in a source, in its order, if these definitions are before it. Without a warning
+/// nothing is read.
 pub fn inspect<'a>(
     alloc: Global,
     source: &'a str,
     warnings: Warnings,
+    definitions: &[Definition<'_>],
 ) -> Result<Vec<Diagnostic<'a>>, AllocError>
     requires { length source.now < 2 ^ 32 - 1 }
     ensures { warnings ≡ no_warnings → IfOk result (λ found. found.items ≡ []) }
@@ -25,19 +29,23 @@ pub fn inspect<'a>(
     if !warnings.has_any() {
         return Ok(Vec::new(alloc));
     }
-    find(alloc, source, warnings)
+    find(alloc, source, warnings, definitions)
 }
 
 fn find<'a>(
     alloc: Global,
     source: &'a str,
     warnings: Warnings,
+    definitions: &[Definition<'_>],
 ) -> Result<Vec<Diagnostic<'a>>, AllocError>
     requires { length source.now < 2 ^ 32 - 1 }
 {
     let mut findings = Findings::new(alloc, source, warnings);
     if warnings.comment {
         inspect_comments(&mut findings, source)?;
+    }
+    if warnings.undef {
+        find_undefined_names(alloc, &mut findings, source, definitions)?;
     }
     let used = if warnings.unused_macros {
         UsedNames::of(alloc, source)?

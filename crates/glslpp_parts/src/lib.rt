@@ -29,6 +29,7 @@ pub mod report;
 mod search;
 pub mod source;
 pub mod texts;
+mod undefined_names;
 mod used_names;
 pub mod version;
 pub mod warning;

@@ -26,6 +26,8 @@ pub enum Warning {
     Conflict,
     /// A definition of a name of GLSL's own.
     Reserved,
+    /// A name in a condition that is not defined.
+    Undef,
 }
 
 // What makes warnings errors, and what asks for all kinds.
@@ -34,7 +36,7 @@ const ERROR: &str = "error";
 const ALL: &str = "all";
 
 // What `-W` takes, each also with `no-` before it.
-const NAMES: [&str; 9] = [
+const NAMES: [&str; 10] = [
     "unused-macros",
     "guard",
     "comment",
@@ -42,6 +44,7 @@ const NAMES: [&str; 9] = [
     "space",
     "conflict",
     "reserved",
+    "undef",
     ERROR,
     ALL,
 ];
@@ -59,6 +62,7 @@ impl Warning {
             Warning::Space => "space",
             Warning::Conflict => "conflict",
             Warning::Reserved => "reserved",
+            Warning::Undef => "undef",
         }
     }
 }
@@ -80,6 +84,8 @@ pub struct Warnings {
     pub conflict: bool,
     /// Those on names of GLSL's own.
     pub reserved: bool,
+    /// Those on names in conditions that are not defined.
+    pub undef: bool,
     /// Whether they are errors.
     pub are_errors: bool,
 }
@@ -99,6 +105,7 @@ impl Warnings {
             space: is_asked(words, is_silent, Warning::Space),
             conflict: is_asked(words, is_silent, Warning::Conflict),
             reserved: is_asked(words, is_silent, Warning::Reserved),
+            undef: is_asked(words, is_silent, Warning::Undef),
             are_errors: are_errors(words, is_silent),
         }
     }
@@ -115,6 +122,7 @@ impl Warnings {
             Warning::Space => self.space,
             Warning::Conflict => self.conflict,
             Warning::Reserved => self.reserved,
+            Warning::Undef => self.undef,
         }
     }
 
@@ -129,6 +137,7 @@ impl Warnings {
             || self.space
             || self.conflict
             || self.reserved
+            || self.undef
     }
 
     /// How grave they are.
@@ -209,11 +218,7 @@ fn says_any(word: &str, names: &[&str]) -> bool
 }
 
 fn refusal(alloc: Global, word: &str) -> Failure {
-    let cause = if word == "undef" {
-        format!(in alloc; "glslpp has no warning `-Wundef` yet")
-    } else {
-        format!(in alloc; "glslpp has no warning `-W{word}`")
-    };
+    let cause = format!(in alloc; "glslpp has no warning `-W{word}`");
     match (format!(in alloc; "-W{word}"), cause) {
         (Ok(subject), Ok(cause)) => failure_of(alloc, subject.as_str(), cause),
         _ => Failure::OutOfMemory,

@@ -22,7 +22,7 @@ complete -c glslpp -l max-errors -x -d 'Report at most N errors of a source, 0 f
 complete -c glslpp -l error-format -x -a 'text json' -d 'Write messages on a source as text, or as JSON, one a line'
 complete -c glslpp -l color -x -a 'auto always never' -d 'Use colours in messages'
 complete -c glslpp -l stdin-name -x -d 'Call the standard input so in messages'
-complete -c glslpp -s W -x -a 'all error comment conflict extra-tokens guard reserved space unused-macros no-comment no-conflict no-extra-tokens no-guard no-reserved no-space no-unused-macros' -d 'Warn of KIND, or of all kinds by `all`; no more by `no-KIND`; `error` makes warnings errors'
+complete -c glslpp -s W -x -a 'all error comment conflict extra-tokens guard reserved space undef unused-macros no-comment no-conflict no-extra-tokens no-guard no-reserved no-space no-undef no-unused-macros' -d 'Warn of KIND, or of all kinds by `all`; no more by `no-KIND`; `error` makes warnings errors'
 complete -c glslpp -s w -d 'Warn of nothing'
 complete -c glslpp -s E -d 'Do nothing, as -E of a compiler is what this is'
 complete -c glslpp -s S -x -d 'Do nothing, since no stage is told apart'
