@@ -4,8 +4,11 @@ use crate::diagnostic::{Note, Site};
 use crate::directive_line::{DirectiveLine, is_punct, name_of};
 use crate::place::Place;
 use pp_rs::lexer::{Token, TokenValue};
-use pp_rs::token::Punct;
+use pp_rs::token::{Punct, TokenValue as Value};
 use std::alloc::{AllocError, Global};
+
+// What a number or a punctuator in place of a name is told.
+const NAMES_ALONE: &str = "macro names must be identifiers";
 
 /// What caused an error: a sentence in place of the library's, its place, and what is said beside it.
 #[derive(Drop)]
@@ -74,43 +77,54 @@ fn open_parenthesis(tokens: &[Token]) -> Option<&Token> {
     None
 }
 
-/// Why a token isn't expected at a place of a directive's line.
+/// Why a token isn't expected at a place of a directive's line. `value` is the token as the library read it.
 pub(crate) fn of_unexpected_token<'a>(
     alloc: Global,
     line: &DirectiveLine<'a>,
     place: Place<'a>,
+    value: &Value,
 ) -> Result<Option<String>, AllocError> {
-    let Some(index) = line.index_of(place) else {
-        return Ok(None);
-    };
-    let Some((before, [token, ..])) = line.tokens().split_at_checked(index) else {
+    if line.word().is_empty() {
+        let message = format!(in alloc; "`{}` is no directive", place.here)?;
+        return Ok(Some(message));
+    }
+    let Some((before, token)) = line.split_at(place) else {
         return Ok(None);
     };
     let text = line.text_of(token);
     let message = match line.word() {
-        "if" | "elif" => return of_token_in_expression(alloc, before, token, text),
+        word @ ("if" | "elif" | "line") => {
+            let found = Unexpected {
+                word,
+                before,
+                token,
+                text,
+            };
+            return of_token_in_expression(alloc, &found, value);
+        }
         "else" if name_of(token) == Some("if") => {
             String::from_str(alloc, "`#else if` is no directive: use `#elif`")?
         }
         word @ ("else" | "endif") => format!(in alloc; "extra token `{text}` after `#{word}`")?,
         "define" | "undef" | "ifdef" | "ifndef" if before.is_empty() => {
-            String::from_str(alloc, "macro names must be identifiers")?
+            String::from_str(alloc, NAMES_ALONE)?
         }
         word @ ("undef" | "ifdef" | "ifndef") => {
             format!(in alloc; "extra token `{text}` after the name of `#{word}`")?
         }
-        "define" => return of_token_in_definition(alloc, before, token, text),
+        "define" => return of_token_in_definition(alloc, before, token, text, value),
         _ => return Ok(None),
     };
     Ok(Some(message))
 }
 
-// Why a token isn't expected in the parameters of a macro, or in its content if an `#if` uses it.
+// Why a token isn't expected in the parameters of a macro, or in its content if an expression uses it.
 fn of_token_in_definition(
     alloc: Global,
     before: &[Token],
     token: &Token,
     text: &str,
+    value: &Value,
 ) -> Result<Option<String>, AllocError> {
     let message = match before {
         [_, open, parameters @ ..] if is_list(open, parameters) => match parameters.last() {
@@ -120,7 +134,15 @@ fn of_token_in_definition(
             }
             _ => format!(in alloc; "expected the name of a parameter before `{text}`")?,
         },
-        _ => return of_token_in_expression(alloc, &[], token, text),
+        _ => {
+            let found = Unexpected {
+                word: "define",
+                before: content_of(before),
+                token,
+                text,
+            };
+            return of_token_in_expression(alloc, &found, value);
+        }
     };
     Ok(Some(message))
 }
@@ -134,33 +156,208 @@ fn is_list(open: &Token, parameters: &[Token]) -> bool {
             .any(|token| is_punct(token, Punct::RightParen))
 }
 
+// What follows the name and the parameters of a macro.
+fn content_of(tokens: &[Token]) -> &[Token] {
+    match tokens {
+        [_, open, parameters @ ..]
+            if is_punct(open, Punct::LeftParen) && !open.leading_whitespace => {
+            match parameters
+                .iter()
+                .position(|token| is_punct(token, Punct::RightParen))
+            {
+                Some(close) => parameters.get(close.saturating_add(1)..).unwrap_or(&[]),
+                None => &[],
+            }
+        }
+        [_, content @ ..] => content,
+        _ => &[],
+    }
+}
+
+/// A token that isn't expected in an expression.
+#[derive(Clone, Copy)]
+struct Unexpected<'t> {
+    /// The word of the directive.
+    word: &'t str,
+    /// What is before it in the expression, or in the content of a macro.
+    before: &'t [Token],
+    token: &'t Token,
+    /// Its text.
+    text: &'t str,
+}
+
 // Why a token isn't expected in an expression.
 fn of_token_in_expression(
     alloc: Global,
-    before: &[Token],
-    token: &Token,
-    text: &str,
+    found: &Unexpected<'_>,
+    value: &Value,
 ) -> Result<Option<String>, AllocError> {
-    let follows_operand = before.last().is_some_and(ends_operand);
-    let message = match &token.value {
-        TokenValue::Float(_) => { format!(in alloc; "floating-point number `{text}` in an `#if`")? }
-        TokenValue::Punct(Punct::Equal) => String::from_str(alloc, "`=` in an `#if`: use `==`")?,
-        TokenValue::Punct(Punct::RightParen) if follows_operand => {
-            String::from_str(alloc, "`)` without `(`")?
+    let text = found.text;
+    let place = if found.word == "line" {
+        "a `#line`"
+    } else {
+        "an `#if`"
+    };
+    if is_in_defined(found.before) {
+        return of_token_in_defined(alloc, found);
+    }
+    let message = match &found.token.value {
+        TokenValue::Float(_) => { format!(in alloc; "floating-point number `{text}` in {place}")? }
+        TokenValue::Ident(_) if is_unknown(value) => {
+            format!(in alloc; "`{text}` is not a number")?
         }
-        TokenValue::Punct(Punct::LeftParen) | TokenValue::Ident(_) | TokenValue::Integer(_)
-            if follows_operand => { format!(in alloc; "missing operator before `{text}`")? }
+        TokenValue::Ident(_) | TokenValue::Integer(_) | TokenValue::Punct(Punct::LeftParen)
+            if found.word == "line" => { format!(in alloc; "extra token `{text}` after `#line`")? }
+        TokenValue::Ident(_) | TokenValue::Integer(_) => {
+            format!(in alloc; "missing operator before `{text}`")?
+        }
+        TokenValue::Punct(punct) => return of_punct_in_expression(alloc, found, *punct, place),
         _ => return Ok(None),
     };
     Ok(Some(message))
 }
 
-// Whether a token ends an operand.
-fn ends_operand(token: &Token) -> bool {
-    match token.value {
-        TokenValue::Ident(_) | TokenValue::Integer(_) => true,
-        TokenValue::Punct(punct) => punct == Punct::RightParen,
+// Whether the library read a name that is no macro's as such, which it does in a `#line`.
+fn is_unknown(value: &Value) -> bool {
+    match value {
+        Value::Ident(name) => name.as_str() != "defined",
         _ => false,
+    }
+}
+
+// Whether these tokens end inside a `defined`.
+fn is_in_defined(before: &[Token]) -> bool {
+    match before {
+        [.., first] if is_defined(first) => true,
+        [.., first, open] if is_defined(first) => is_punct(open, Punct::LeftParen),
+        [.., first, open, _] if is_defined(first) => is_punct(open, Punct::LeftParen),
+        _ => false,
+    }
+}
+
+fn is_defined(token: &Token) -> bool {
+    name_of(token) == Some("defined")
+}
+
+// Why a token isn't expected inside a `defined`.
+fn of_token_in_defined(
+    alloc: Global,
+    found: &Unexpected<'_>,
+) -> Result<Option<String>, AllocError> {
+    let message = match found.before {
+        [.., last] if name_of(last).is_some() && !is_defined(last) => {
+            format!(in alloc; "expected `)` before `{}`", found.text)?
+        }
+        _ if is_punct(found.token, Punct::RightParen) => {
+            String::from_str(alloc, "no macro name after `defined`")?
+        }
+        _ => String::from_str(alloc, NAMES_ALONE)?,
+    };
+    Ok(Some(message))
+}
+
+// Why a punctuator isn't expected in an expression.
+fn of_punct_in_expression(
+    alloc: Global,
+    found: &Unexpected<'_>,
+    punct: Punct,
+    place: &str,
+) -> Result<Option<String>, AllocError> {
+    let text = found.text;
+    let message = match (punct, found.before.last()) {
+        (Punct::Equal, _) if matches!(found.word, "if" | "elif") => {
+            String::from_str(alloc, "`=` in an `#if`: use `==`")?
+        }
+        (Punct::LeftParen, Some(last)) if name_of(last).is_some() => {
+            let name = name_of(last).unwrap_or("");
+            format!(in alloc; "missing operator before `(`: `{name}` is not a function-like macro")?
+        }
+        (Punct::LeftParen | Punct::Bang | Punct::Tilde, _) => {
+            format!(in alloc; "missing operator before `{text}`")?
+        }
+        (punct, Some(last)) if takes_operands(punct) && operator_of(last).is_some() => {
+            let operator = operator_of(last).unwrap_or("");
+            format!(in alloc; "operator `{operator}` has no right operand")?
+        }
+        (Punct::RightParen, _) if open_parenthesis(found.before).is_none() => {
+            String::from_str(alloc, "`)` without `(`")?
+        }
+        (Punct::RightParen, Some(last)) if is_punct(last, Punct::LeftParen) => {
+            String::from_str(alloc, "no expression between `(` and `)`")?
+        }
+        (Punct::RightParen, _) => return Ok(None),
+        (punct, _) if takes_operands(punct) => {
+            format!(in alloc; "operator `{text}` has no left operand")?
+        }
+        _ => { format!(in alloc; "`{text}` is not valid in {place}")? }
+    };
+    Ok(Some(message))
+}
+
+// The operator of an expression that a token is.
+fn operator_of(token: &Token) -> Option<&'static str> {
+    match token.value {
+        TokenValue::Punct(punct @ (Punct::Bang | Punct::Tilde)) => Some(punct.spelling()),
+        TokenValue::Punct(punct) if is_binary(punct) => Some(punct.spelling()),
+        _ => None,
+    }
+}
+
+// Whether a punctuator follows an operand: it is a binary operator or a `)`.
+fn takes_operands(punct: Punct) -> bool {
+    punct == Punct::RightParen || is_binary(punct)
+}
+
+// Whether a punctuator is a binary operator of expressions.
+fn is_binary(punct: Punct) -> bool {
+    matches!(
+        punct,
+        Punct::LogicalOr
+            | Punct::LogicalAnd
+            | Punct::Pipe
+            | Punct::Caret
+            | Punct::Ampersand
+            | Punct::EqualEqual
+            | Punct::NotEqual
+            | Punct::LeftAngle
+            | Punct::RightAngle
+            | Punct::LessEqual
+            | Punct::GreaterEqual
+            | Punct::LeftShift
+            | Punct::RightShift
+            | Punct::Plus
+            | Punct::Minus
+            | Punct::Star
+            | Punct::Slash
+            | Punct::Percent
+    )
+}
+
+/// The macro that gives no operand before the token at a place of an expression.
+pub(crate) fn macro_before<'l>(line: &'l DirectiveLine<'_>, place: Place<'_>) -> Option<&'l Token> {
+    let (before, token) = line.split_at(place)?;
+    match token.value {
+        TokenValue::Punct(Punct::RightParen) if open_parenthesis(before).is_none() => None,
+        TokenValue::Punct(punct) if line.has_expression() && takes_operands(punct) => {
+            last_macro(before)
+        }
+        _ => None,
+    }
+}
+
+/// The macro that gives no operand at the end of an expression.
+pub(crate) fn macro_at_end<'l>(line: &'l DirectiveLine<'_>) -> Option<&'l Token> {
+    match open_parenthesis(line.tokens()) {
+        Some(_) => None,
+        None => last_macro(line.tokens()),
+    }
+}
+
+// The name with which tokens end.
+fn last_macro(tokens: &[Token]) -> Option<&Token> {
+    match tokens.last() {
+        Some(last) if name_of(last).is_some() && !is_defined(last) => Some(last),
+        _ => None,
     }
 }
 
@@ -176,6 +373,23 @@ pub(crate) fn only_operator<'l>(line: &'l DirectiveLine<'_>, punct: Punct) -> Op
         }
     }
     found
+}
+
+/// Why the text of a floating-point number isn't read as one.
+pub(crate) fn of_float(alloc: Global, text: &str) -> Result<Option<String>, AllocError> {
+    let number = text
+        .strip_suffix('f')
+        .or(text.strip_suffix('F'))
+        .unwrap_or(text);
+    let number = number
+        .strip_suffix('+')
+        .or(number.strip_suffix('-'))
+        .unwrap_or(number);
+    if !number.ends_with('e') && !number.ends_with('E') {
+        return Ok(None);
+    }
+    let message = format!(in alloc; "no digits in the exponent of `{text}`")?;
+    Ok(Some(message))
 }
 
 /// Why the text of an integer isn't read as one.

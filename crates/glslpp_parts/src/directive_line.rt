@@ -68,11 +68,16 @@ impl<'a> DirectiveLine<'a> {
         self.tokens.as_slice().get(1..).unwrap_or(&[])
     }
 
-    /// The index among these of the token at a place.
-    pub(crate) fn index_of(&self, place: Place<'_>) -> Option<usize> {
-        self.tokens()
+    /// The tokens before a place, and the one that begins there.
+    pub(crate) fn split_at(&self, place: Place<'_>) -> Option<(&[Token], &Token)> {
+        let tokens = self.tokens();
+        let index = tokens
             .iter()
-            .position(|token| self.start_of(token) == place.start)
+            .position(|token| self.start_of(token) == place.start)?;
+        match tokens.split_at_checked(index)? {
+            (before, [token, ..]) => Some((before, token)),
+            _ => None,
+        }
     }
 
     // The byte offset at which a token begins in the text that the line is in.

@@ -5,7 +5,8 @@ ghost use Rattle.pp_rs.specs.Sentences.{sentence_of};
 ghost use Rattle.glslpp_parts.specs.Reports.{IsErrorMessage};
 
 use crate::causes::{
-    Cause, of_early_end, of_integer, of_unexpected_token, of_unfinished_expression, only_operator,
+    Cause, macro_at_end, macro_before, of_early_end, of_float, of_integer, of_unexpected_token,
+    of_unfinished_expression, only_operator,
 };
 use crate::diagnostic::{Diagnostic, Note, Severity, Site};
 use crate::directive_line::DirectiveLine;
@@ -15,6 +16,7 @@ use crate::quoting::{is_typographic_quote, push_char};
 use crate::search::{count_arguments, last_name};
 use crate::texts::Texts;
 use pp_rs::SOURCE_LIMIT;
+use pp_rs::lexer::Token;
 use pp_rs::token::{Location, PreprocessorError, Punct};
 use std::alloc::{AllocError, Global};
 
@@ -103,7 +105,10 @@ impl<'a> Explainer<'a> {
         let line = DirectiveLine::of(self.alloc, site)?;
         let message = match (error, &line) {
             (PreprocessorError::UnexpectedEndOfInput, Some(line)) if line.has_expression() => {
-                return of_unfinished_expression(self.alloc, line, site);
+                return match macro_at_end(line) {
+                    Some(name) => self.empty_macro(line, name, location),
+                    None => of_unfinished_expression(self.alloc, line, site),
+                };
             }
             (PreprocessorError::UnexpectedEndOfInput, _) => return self.unterminated_call(),
             (PreprocessorError::DefineRedefined, _) => {
@@ -115,8 +120,11 @@ impl<'a> Explainer<'a> {
             (PreprocessorError::RemainderByZero, Some(line)) => {
                 return self.division(error, line, Punct::Percent);
             }
-            (PreprocessorError::UnexpectedToken(_), Some(line)) => {
-                of_unexpected_token(self.alloc, line, place)?
+            (PreprocessorError::UnexpectedToken(value), Some(line)) => {
+                if let Some(name) = macro_before(line, place) {
+                    return self.empty_macro(line, name, location);
+                }
+                of_unexpected_token(self.alloc, line, place, value)?
             }
             (PreprocessorError::UnexpectedNewLine, Some(line)) => {
                 Some(of_early_end(self.alloc, line)?)
@@ -128,6 +136,7 @@ impl<'a> Explainer<'a> {
                 if place.here.starts_with(|c: char| c.is_ascii_digit()) => {
                 Some(of_integer(self.alloc, place.here)?)
             }
+            (PreprocessorError::FloatParsingError, _) => of_float(self.alloc, place.here)?,
             _ => None,
         };
         Ok(match message {
@@ -178,6 +187,20 @@ impl<'a> Explainer<'a> {
         };
         let message = format!(in self.alloc; "{error}")?;
         Ok(Some(Cause::new(message, line.site_of(operator))))
+    }
+
+    // A macro in an expression that gives no operand.
+    fn empty_macro(
+        &mut self,
+        line: &DirectiveLine<'a>,
+        token: &Token,
+        location: Location,
+    ) -> Result<Option<Cause<'a>>, AllocError> {
+        let name = line.text_of(token);
+        let message = format!(in self.alloc; "macro `{name}` gives no operand")?;
+        let mut cause = Cause::new(message, line.site_of(token));
+        cause.note = self.note_on_macro(name, location, DEFINED_HERE)?;
+        Ok(Some(cause))
     }
 
     // What the directives of the source say. They are read the first time.
