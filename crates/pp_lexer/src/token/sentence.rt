@@ -18,7 +18,8 @@ fn plain_sentence(error: &PreprocessorError) -> &'static str
         PreprocessorError::UnexpectedToken(_) => "unexpected token",
         PreprocessorError::UnexpectedHash => "unexpected `#`",
         PreprocessorError::UnexpectedNewLine => "unexpected end of line",
-        PreprocessorError::UnexpectedEndOfInput => "unterminated macro call or incomplete expression",
+        PreprocessorError::UnexpectedEndOfInput =>
+            "unterminated macro call or incomplete expression",
         PreprocessorError::TooFewDefineArguments => "too few arguments in macro call",
         PreprocessorError::TooManyDefineArguments => "too many arguments in macro call",
         PreprocessorError::ErrorDirective => "`#error` directive",
