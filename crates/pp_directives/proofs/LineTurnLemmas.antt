@@ -251,7 +251,7 @@ module _ (levels : ℕ) (definitions : List Defined) (m n : kept.Expander) (l k 
       let h = leads (Err Continue) turns refl in
       let less : IsLess levels m (of_list l) n (of_list k) = turn_falls levels m (of_list l) on.sound (Err Continue) n (of_list k) turns refl in
       let at = here definitions n k h.0 h.1 (turn_holds m n (of_list l) (of_list k) (Err Continue) tt on.holds turns) less.sound in
-      (λ o g emits. h.2 o g (subst (λ (f : Expander Listed). Emits line_reading (answers_at levels) f o g) (sym at.0) emits), at.1, less.falls)
+      (λ o g emits. (h.2 o g (subst (λ (f : Expander Listed). Emits line_reading (answers_at levels) f o g) (sym at.0) emits)).0, at.1, less.falls)
 
   -- the end
   pub end_read : TurnsTo m (of_list l) (Err Finished) n (of_list k)
@@ -271,7 +271,7 @@ module _ (levels : ℕ) (definitions : List Defined) (m n : kept.Expander) (l k 
   -- a fault
   pub fault_read : (fault : Fault) → TurnsTo m (of_list l) (Err (Error fault)) n (of_list k) → is_out_of_memory fault.0 ≡ false
       → (f : Expander Listed) × Emits line_reading (answers_at levels) (expander_of m l) (given.Fault fault) f
-  fault_read fault turns reported = leads (Err (Error fault)) turns reported
+  fault_read fault turns reported = let h = leads (Err (Error fault)) turns reported in (h.0, h.1)
 
   module _ (c : MacroCall) (turns : TurnsTo m (of_list l) (Ok (taken.Call c)) n (of_list k)) where
     pending : IsPending levels m (of_list l) c n (of_list k)
@@ -287,7 +287,7 @@ module _ (levels : ℕ) (definitions : List Defined) (m n : kept.Expander) (l k 
     -- a call that has a fault
     pub call_fault_read : (fault : Fault) → answers_at levels c.definition (site_at c definitions (names_of n.frames ++ [])) (Err fault)
         → (f : Expander Listed) × Emits line_reading (answers_at levels) (expander_of m l) (given.Fault fault) f
-    call_fault_read fault answers = (led.0, led.2 fault (subst (λ (x : Site). answers_at levels c.definition x (Err fault)) (sym site) answers))
+    call_fault_read fault answers = (led.0, (led.2 fault (subst (λ (x : Site). answers_at levels c.definition x (Err fault)) (sym site) answers)).0)
 
     -- a call whose frame opened
     pub call_read : (p : kept.Expander) → IsOpened levels definitions (names_of n.frames ++ []) c n p → GoesOn levels m l p k × IsOnLine definitions p k
@@ -306,8 +306,8 @@ module _ (levels : ℕ) (definitions : List Defined) (m n : kept.Expander) (l k 
           names = stood.names;
         }) in
         let at = here definitions p k f stands (free_held p.held (ap (λ (q : kept.Expander). q.held) opened.opens ∙ pending.free)) less.sound in (
-          λ o g emits. led.3 opened.arguments (subst (λ (x : Site). answers_at levels c.definition x (Ok opened.arguments))
-              (sym site) opened.answers) o g (subst (λ (e : Expander Listed). Emits line_reading (answers_at levels) e o g) (sym at.0) emits),
+          λ o g emits. (led.3 opened.arguments (subst (λ (x : Site). answers_at levels c.definition x (Ok opened.arguments))
+              (sym site) opened.answers) o g (subst (λ (e : Expander Listed). Emits line_reading (answers_at levels) e o g) (sym at.0) emits)).0,
           at.1,
           less.falls,
         )

@@ -10,6 +10,7 @@ pub mod ExpanderLemmas
 pub mod RunLemmas
 pub mod ApartLemmas
 pub mod SearchSimulates
+pub mod LineStaysLemmas
 pub mod TurnLeadsLemmas
 pub mod ListedLeadsLemmas
 pub mod ListLeadsLemmas

@@ -271,6 +271,13 @@ impl Expander {
         self.held.is_none() && self.processor.is_idle()
     }
 
+    /// Whether a step is held, which was taken in the search for a `(`.
+    pub fn is_holding(&self) -> bool
+        ensures { result ≡ is_some self.now.held }
+    {
+        self.held.is_some()
+    }
+
     /// The line of the outermost macro that is open: the line of its name, or of the `)` of its call.
     pub fn outermost_line(&self) -> Option<u32>
         ensures { result ≡ outermost_frame_line self.now.frames }

@@ -7,6 +7,7 @@ pub mod Taking
 pub mod Calls
 pub mod CallNesting
 pub mod Emitting
+pub mod CallLine
 pub mod LineWords
 pub mod WordReadings
 pub mod Conversions

@@ -32,7 +32,7 @@ printing_starts start items known stands = record {
   tokens = [];
   state = start;
   given = gives_nothing start;
-  now = record { between = start; stands = stands; comes = λ o f c. c };
+  now = record { between = start; stands = stands; comes = λ o f c. c; lines = λ o f c. refl };
   done = [];
   lines = output_lines-from;
   written = appends_nothing known;
@@ -47,7 +47,7 @@ module _ (start : State) (items : Preprocessing) (line old mid new : Option (Lis
     tokens = p.tokens ++ (t ∷ []);
     state = after;
     given = gives_more p.tokens t start p.state after p.given comes;
-    now = record { between = after; stands = stands; comes = λ o f c. c };
+    now = record { between = after; stands = stands; comes = λ o f c. c; lines = λ o f c. refl };
     done = p.done ++ ended_lines line t.value;
     lines = λ more. ap output_lines (append_assoc p.tokens (t ∷ []) more) ∙ p.lines (t ∷ more)
         ∙ sym (append_assoc p.done (ended_lines line t.value) (lines_from (line_after line t.value) more));
@@ -62,7 +62,12 @@ module _ (start : State) (items : Preprocessing) (line old mid new : Option (Lis
         tokens = p.tokens;
         state = p.state;
         given = p.given;
-        now = record { between = then.between; stands = then.stands; comes = λ o f c. p.now.comes o f (then.comes o f c) };
+        now = record {
+          between = then.between;
+          stands = then.stands;
+          comes = λ o f c. p.now.comes o f (then.comes o f c);
+          lines = λ o f c. p.now.lines o f (then.comes o f c) ∙ then.lines o f c;
+        };
         done = p.done;
         lines = p.lines;
         written = p.written;

@@ -7,7 +7,7 @@ use Rattle.pp_model.specs.Names.{Name}
 use Rattle.pp_model.specs.Run.{items_of, content_tokens, with_added}
 use Rattle.pp_rs.specs.Comes.{State}
 use Rattle.pp_macros.specs.Item.{Fault}
-use Rattle.pp_rs.specs.Kept.{Preprocessing, Stands, is_spent, most_items, errors_left, error_place}
+use Rattle.pp_rs.specs.Kept.{Preprocessing, Stands, is_spent, most_items, errors_left, error_place, call_line}
 
 -- For each state that the preprocessor stood for, it now stands for that state with the name defined as a macro with
 -- these tokens. If nothing was left to give, nothing is.
@@ -17,6 +17,7 @@ pub record IsWithAdded (name : Name) (tokens : List Token) (old new : Preprocess
   pub ended : most_items old ≡ 0 → most_items new ≡ 0
   pub errors : errors_left new ≡ errors_left old
   pub place : error_place new ≡ error_place old
+  pub line : call_line new ≡ call_line old
 
 -- What a call returns, and the preprocessor after it.
 pub data IsAdded (old : Preprocessing) (name content : List ℕ) (answer : Result (Unit {0}) Fault)

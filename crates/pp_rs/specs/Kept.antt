@@ -1,14 +1,17 @@
 -- What a preprocessor keeps: the states of a run that it stands for, whether memory ran out, how much is left, which
--- errors of the lexer were not reported yet, and the place of the error that was given last. Nothing here has to be
--- believed. Contracts of public calls say what holds of `Stands`, `is_spent`, `most_items`, `errors_left` and
--- `error_place`, and no proof of a caller looks into them.
-use Rattle.std.specs.Prelude.{◌≡◌, Bool, false, IsTrue, if◌then◌else◌, ℕ, List}
+-- errors of the lexer were not reported yet, the place of the error that was given last, and the line of the call from
+-- which the last item came. Nothing here has to be believed. Contracts of public calls say what holds of `Stands`,
+-- `is_spent`, `most_items`, `errors_left`, `error_place` and `call_line`, and no proof of a caller looks into them.
+use Rattle.std.specs.Prelude.{◌≡◌, Bool, false, IsTrue, if◌then◌else◌, ℕ, List, Option, Some, None}
 use Rattle.pp_lexer.specs.declared.token.Location.{Location}
 use Rattle.pp_lexer.specs.TokenValue.{is_ordinary}
 use Rattle.pp_lexer.specs.declared.token.Token.{Token}
 use Rattle.pp_model.specs.Emitting.{expansion_limit}
 use Rattle.pp_model.specs.Reading.{Expander}
 use Rattle.pp_model.specs.SourceReader.{SourceReader}
+use Rattle.pp_model.specs.declared.read.Read.{Read}
+use Rattle.pp_macros.specs.Item.{Step}
+use Rattle.pp_macros.specs.inner.Frames.{Frame, outermost_frame_line}
 use Rattle.pp_macros.specs.inner.Giving.{GivesAhead}
 use Rattle.pp_macros.specs.inner.Left.{work_of}
 use Rattle.pp_macros.specs.LexerErrors.{ErrorAt}
@@ -18,12 +21,14 @@ use Rattle.pp_macros.specs.inner.Source.{Source, unreported_of}
 use Rattle.pp_rs.specs.inner.Stands.{StandsFor}
 use Rattle.pp_macros.specs.inner.Unreported.{unreported_with}
 
--- the open macros with what is held, the source after them, whether memory ran out, and the place of the last error
+-- the open macros with what is held, the source after them, whether memory ran out, the place of the last error, and
+-- the line of the outermost macro that was open when the name was taken after which the held step was met
 pub record Preprocessing : Type 0 where
   pub expander : kept.Expander
   pub source : Source
   pub spent : Bool
   pub place : Location
+  pub name_line : Option ℕ
 
 -- the preprocessor stands for this state of a run
 unfoldable pub Stands : Preprocessing → Expander SourceReader → Type 0
@@ -50,3 +55,12 @@ errors_left p = unreported_with p.expander.held (unreported_of p.source)
 -- the true place of the error that was given last
 unfoldable pub error_place : Preprocessing → Location
 error_place p = p.place
+
+-- the line that is kept if a step is held, and otherwise that of the outermost frame
+abbrev pub kept_line : Option (Step Read) → Option ℕ → List Frame → Option ℕ
+kept_line None line frames = outermost_frame_line frames
+kept_line (Some step) line frames = line
+
+-- the line of the call from which the last item came
+unfoldable pub call_line : Preprocessing → Option ℕ
+call_line p = kept_line p.expander.held p.name_line p.expander.frames

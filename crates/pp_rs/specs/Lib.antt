@@ -19,7 +19,6 @@ pub use Rattle.pp_directives.specs.WordTokens
 pub mod Kept
 pub mod Preprocessing
 pub mod NextWord
-pub mod CallLine
 pub mod LiveBranch
 pub mod Adding
 pub mod Trying

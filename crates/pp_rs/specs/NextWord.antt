@@ -6,15 +6,19 @@ use Rattle.pp_lexer.specs.declared.lexer.plain_item.PlainItem.{PlainItem}
 use Rattle.pp_lexer.specs.declared.token.Token.{Token}
 use Rattle.pp_model.specs.declared.outcome.Outcome.{Outcome}
 use Rattle.pp_directives.specs.WordTokens.{word_token}
+use Rattle.pp_model.specs.CallLine.{item_line}
 use Rattle.pp_rs.specs.Comes.{State, Comes}
 use Rattle.pp_rs.specs.Kept.{Preprocessing, Stands, IsAhead, is_spent, most_items, errors_left, error_place}
 use Rattle.pp_rs.specs.Preprocessing.{IsNextItem}
 
--- the preprocessor stands for a state, and what comes next in that state also comes next in this one
+-- the preprocessor stands for a state, and what comes next in that state also comes next in this one, from the same
+-- call
 pub record StandsBetween (new : Preprocessing) (state : State) : Type 0 where
   pub between : State
   pub stands : Stands new between
   pub comes : (outcome : Outcome) (after : State) → Comes between outcome after → Comes state outcome after
+  pub lines : (outcome : Outcome) (after : State) (later : Comes between outcome after)
+      → item_line (comes outcome after later).emits ≡ item_line later.emits
 
 -- nothing was given, and everything that was to come still comes
 pub record IsPassed (old new : Preprocessing) : Type 0 where

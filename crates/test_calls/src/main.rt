@@ -11,6 +11,7 @@
 //! | `all`, `append` | `preprocess_all`, and `append_all` to an empty list |
 //! | `drain` | `drain` |
 //! | `errors` | `next` up to the first `None`, and `place` after each error: only errors are printed, with that place |
+//! | `calls` | `next` up to the first `None`, and `call_line` after each item: its line, if it has one |
 //! | `spell`, `afresh` | `spell_tokens` and `are_read_afresh`, of the tokens that were given so far |
 //! | `copy` | `clone` of all items so far, of what they hold, of errors of their values, and of steps with the errors |
 //! | `replies`, `plain` | `replies` and the plain program, over the calls of `add_define` and `next` made so far |
@@ -104,6 +105,7 @@ fn act<'a>(
             Ok(())
         }
         "errors" => session.errors(rt),
+        "calls" => session.calls(rt),
         "spell" => session.spell(rt),
         "afresh" => session.afresh(rt),
         "copy" => session.copy(rt),

@@ -149,6 +149,20 @@ impl<'a> Session<'a> {
         Ok(())
     }
 
+    /// Asks for all items that are left, and shows each with the line of the call from which it comes.
+    pub(crate) fn calls(&mut self, rt: &impl Print) -> io::Result<()> {
+        for _ in 0..u64::MAX {
+            let Some(given) = self.pp.next() else {
+                break;
+            };
+            print_item(rt, self.alloc, &given)?;
+            if let Some(line) = self.pp.call_line() {
+                println!(rt; "  in a call on line {line}")?;
+            }
+        }
+        Ok(())
+    }
+
     /// Spells the tokens that were given, if all of them are ordinary.
     pub(crate) fn spell(&self, rt: &impl Print) -> io::Result<()> {
         if !self.tokens.iter().all(|token| token.is_ordinary()) {

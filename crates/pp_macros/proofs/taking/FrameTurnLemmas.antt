@@ -77,6 +77,7 @@ module _ (m : Expander) (r : Reader) (free : m.held ≡ None) (some : is_some (o
     -- it is given, and opens no macro
     pub frame_gives : HoldsOrdinary read.token.value → macro_of r taken_read ≡ None → GivesAhead r m read.token paint
     frame_gives holds plain = record {
+      free = free;
       ahead = ap (option_map (λ (own : Read). own.token)) (sym is);
       turns = gives taken_read (Ok (taken.Token taken_read)) m (passed m) r r token_taken plain refl;
       holds = holds;

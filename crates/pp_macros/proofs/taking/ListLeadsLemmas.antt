@@ -90,7 +90,7 @@ module _ (levels : ℕ) (definitions : List Defined) (hidden : List Name) (token
         state = h.0;
         stands = h.1;
         sound = f.sound;
-        goes_on = λ out collects. r.goes_on out (emits_keeps r.state h.0 h.2 out collects);
+        goes_on = λ out collects. r.goes_on out (emits_keeps r.state h.0 (λ o g emits. (h.2 o g emits).0) out collects);
         least = omega (arith, r.least, f.falls);
       }
 
@@ -122,7 +122,7 @@ module _ (levels : ℕ) (definitions : List Defined) (hidden : List Name) (token
       let h = listed_leads false definitions hidden (answers_at levels) m n l k (Ok (taken.Call c)) r.state r.stands turns refl in
       r.goes_on (Err fault) (failed fault r.state h.0 (Err fault)
       (h.2 fault (subst (λ (x : Site). answers_at levels c.definition x (Err fault))
-      (sym (site_same false definitions hidden n k c h.0 h.1 (pending c turns).free)) answers)) refl)
+      (sym (site_same false definitions hidden n k c h.0 h.1 (pending c turns).free)) answers)).0 refl)
 
   -- a call whose frame opened
   module _ (c : MacroCall) (turns : TurnsTo m (of_list l) (Ok (taken.Call c)) n (of_list k))
@@ -154,7 +154,7 @@ module _ (levels : ℕ) (definitions : List Defined) (hidden : List Name) (token
               });
           sound = less.sound;
           goes_on = λ out collects. r.goes_on out (emits_keeps r.state f
-              (led.3 opened.arguments (subst (λ (x : Site). answers_at levels c.definition x (Ok opened.arguments))
-              (sym (site_same false definitions hidden n k c led.0 led.1 (pending c turns).free)) opened.answers)) out collects);
+              (λ o g emits. (led.3 opened.arguments (subst (λ (x : Site). answers_at levels c.definition x (Ok opened.arguments))
+              (sym (site_same false definitions hidden n k c led.0 led.1 (pending c turns).free)) opened.answers) o g emits).0) out collects);
           least = omega (arith, r.least, less.falls);
         }

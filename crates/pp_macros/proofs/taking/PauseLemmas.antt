@@ -1,10 +1,11 @@
 -- A pause of an expander: what is taken and emitted after it is also taken and emitted before it.
-use Rattle.std.proofs.Common.{◌≡◌, ◌∙◌, List, sym, Some, None}
+use Rattle.std.proofs.Common.{◌≡◌, ◌∙◌, refl, List, sym, Some, None}
 use Rattle.pp_model.specs.SpliceList.{after_marks}
 use Rattle.pp_model.specs.Reading.{Reading, Expander}
 use Rattle.pp_model.specs.Taking as taking
 use Rattle.pp_model.specs.Taking.{Fetches, Takes}
 use Rattle.pp_model.specs.Calls.{Answers}
+use Rattle.pp_model.specs.CallLine.{item_line}
 use Rattle.pp_model.specs.Emitting.{Emits, itself, object, name_alone, call_refused, call}
 use Rattle.pp_model.specs.declared.read.Taken.{Taken as Given}
 use Rattle.pp_model.specs.declared.splice.Entry.{Entry}
@@ -13,14 +14,18 @@ use Rattle.pp_model.specs.declared.splice.Entry.{Entry}
 abbrev pub PausesTo : {R : Type 0} → Reading R → Expander R → Expander R → Type 0
 PausesTo {R} I e f = (o : Given) (h : Expander R) → Takes I f o h → Takes I e o h
 
+-- what is emitted later is emitted now too, and comes from the same macro
+abbrev pub EmitsLater : {R : Type 0} → Reading R → Answers → Expander R → Expander R → Type 0
+EmitsLater {R} I A e f = (o : Given) (g : Expander R) (later : Emits I A f o g) → (first : Emits I A e o g) × (item_line first ≡ item_line later)
+
 -- a pause keeps what is emitted
-pub pause_emits : {R : Type 0} (I : Reading R) (A : Answers) (e f : Expander R) → PausesTo I e f → (o : Given) (g : Expander R) → Emits I A f o g
-    → Emits I A e o g
-pause_emits I A e f takes o g (itself o1 f1 h t n) = itself o1 e h (takes o1 h t) n
-pause_emits I A e f takes o g (object x o1 m f1 h g1 t n k next) = object x o1 m e h g1 (takes x h t) n k next
-pause_emits I A e f takes o g (name_alone x y o1 m f1 h i g1 t n k calls is at) = name_alone x y o1 m e h i g1 (takes x h t) n k calls is at
-pause_emits I A e f takes o g (call_refused x o1 fault m f1 h g1 t n k calls is) = call_refused x o1 fault m e h g1 (takes x h t) n k calls is
-pause_emits I A e f takes o g (call x o1 arguments line m f1 h i g1 t n k calls next) = call x o1 arguments line m e h i g1 (takes x h t) n k calls next
+pub pause_emits : {R : Type 0} (I : Reading R) (A : Answers) (e f : Expander R) → PausesTo I e f → EmitsLater I A e f
+pause_emits I A e f takes o g (itself o1 f1 h t n) = (itself o1 e h (takes o1 h t) n, refl)
+pause_emits I A e f takes o g (object x o1 m f1 h g1 t n k next) = (object x o1 m e h g1 (takes x h t) n k next, refl)
+pause_emits I A e f takes o g (name_alone x y o1 m f1 h i g1 t n k calls is at) = (name_alone x y o1 m e h i g1 (takes x h t) n k calls is at, refl)
+pause_emits I A e f takes o g (call_refused x o1 fault m f1 h g1 t n k calls is) = (call_refused x o1 fault m e h g1 (takes x h t) n k calls is, refl)
+pause_emits I A e f takes o g (call x o1 arguments line m f1 h i g1 t n k calls next) =
+    (call x o1 arguments line m e h i g1 (takes x h t) n k calls next, refl)
 
 -- the end marks at the front of the list may be lost
 list_fetches : {R : Type 0} (I : Reading R) (e : Expander R) (entries : List Entry) → e.held ≡ None → after_marks e.list ≡ after_marks entries

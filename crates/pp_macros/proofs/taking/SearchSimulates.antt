@@ -316,15 +316,15 @@ module _ {R : Type 0} (I : Reading R) (StandsR : Reader → R → Type 0) (hidde
     -- the search for the end of a call is that of the definitions
     abbrev pub GathersTo : ℕ → Location → Expander R → Result Gathered Fault → kept.Expander → Reader → Type 0
     GathersTo k last e (Ok g) n s = (f : Expander R) × Gathers I k last e (Ok g) f × StandsIn n s f
-    GathersTo k last e (Err fault) n s = (f : Expander R) × Gathers I k last e (Err fault) f
+    GathersTo k last e (Err fault) n s = (f : Expander R) × Gathers I k last e (Err fault) f × (f.list ≡ flat n.frames) × (n.held ≡ None)
 
     inside_to : (k l : ℕ) (last : Location) (read : Read) (e f : Expander R) (rest : Result Gathered Fault) (n : kept.Expander) (s : Reader)
         → Takes I e (given.Token read) f → calls.nesting k read.token.value ≡ calls.within l → GathersTo l read.token.location f rest n s
         → GathersTo k last e (before read rest) n s
     inside_to k l last read e f (Ok g) n s takes is (h, gathers, stands) =
         (h, calls.inside k l last read e f h (Ok g) (before read (Ok g)) takes is gathers refl, stands)
-    inside_to k l last read e f (Err fault) n s takes is (h, gathers) =
-        (h, calls.inside k l last read e f h (Err fault) (before read (Err fault)) takes is gathers refl)
+    inside_to k l last read e f (Err fault) n s takes is (h, gathers, list, freed) =
+        (h, calls.inside k l last read e f h (Err fault) (before read (Err fault)) takes is gathers refl, list, freed)
 
     pub gather_simulates : (k : ℕ) (last : Location) (m n : kept.Expander) (r s : Reader) (g : Result Gathered Fault) (e : Expander R) → StandsIn m r e
         → GathersNext k last m r g n s → GathersTo k last e g n s
@@ -336,10 +336,15 @@ module _ {R : Type 0} (I : Reading R) (StandsR : Reader → R → Type 0) (hidde
         rw is (inside_to k l last read e h.0 rest n s h.1 in_call (gather_simulates l read.token.location between n s1 s rest h.0 h.2 more))
     gather_simulates k last m n r s g e stands (overfull k1 last1 read m1 n1 r1 s1 g1 next out is) =
         let h = token_stands read m n r s e stands next in
-        rw is (h.0, calls.overfull k last read e h.0 (Err (IntegerOverflow, read.token.location)) h.1 out refl)
+        rw is (
+          h.0,
+          calls.overfull k last read e h.0 (Err (IntegerOverflow, read.token.location)) h.1 out refl,
+          h.2.list,
+          next_frees m n r s (Ok read) next,
+        )
     gather_simulates k last m n r s g e stands (ended k1 last1 m1 n1 r1 s1 g1 next is) =
         let h = next_simulates m n r s (Err Finished) e stands next refl in
-        rw is (h.0, calls.ended k last e h.0 (Err (UnexpectedEndOfInput, last)) h.1 refl)
+        rw is (h.0, calls.ended k last e h.0 (Err (UnexpectedEndOfInput, last)) h.1 refl, h.2.list, next_frees m n r s (Err Finished) next)
     gather_simulates k last m n r s g e stands (failed k1 last1 fault m1 n1 r1 s1 g1 next reported is) =
         let h = next_simulates m n r s (Err (Error fault)) e stands next reported in
-        rw is (h.0, calls.failed k last fault e h.0 (Err fault) h.1 refl)
+        rw is (h.0, calls.failed k last fault e h.0 (Err fault) h.1 refl, h.2.list, next_frees m n r s (Err (Error fault)) next)

@@ -15,12 +15,14 @@ use Rattle.pp_model.specs.Calls.{Fault, Gathered, Answers, paren_at, is_left_par
 use Rattle.pp_model.specs.Emitting as emitting
 use Rattle.pp_model.specs.Emitting.{Emits, with_macro}
 use Rattle.pp_model.specs.inner.Emitting.{holding}
-use Rattle.pp_model.specs.SpliceList.{macro_before}
+use Rattle.pp_model.specs.SpliceList.{macro_before, outermost_line}
+use Rattle.pp_model.specs.CallLine.{item_line}
+use Rattle.pp_model.specs.declared.splice.Entry.{Entry}
 use Rattle.pp_model.specs.declared.read.Taken.{Taken as Given}
 use Rattle.pp_model.specs.declared.read.Taken.TheVariants as given
 use Rattle.pp_macros.specs.inner.CallTurns.{Sought, no_call, Seeks, alone, called, Finds, TurnsTo, passes, gives, object, seeks, paren_of, sought_by}
 use Rattle.pp_macros.specs.Item.{Step, wants_memory}
-use Rattle.pp_macros.specs.inner.Frames.{new_frame}
+use Rattle.pp_macros.specs.inner.Frames.{new_frame, flat}
 use Rattle.pp_macros.specs.inner.Expander as kept
 use Rattle.pp_macros.specs.inner.Expander.{outcome_of_step, StepsTaking, TakesNext}
 use Rattle.pp_macros.specs.inner.Reader.{Reader, Reads, hidden_of, shown_line, visible}
@@ -31,10 +33,18 @@ use Rattle.pp_macros.specs.declared.step.StepExit.{StepExit}
 use Rattle.pp_macros.specs.declared.step.StepExit.TheVariants.{Error, Continue, Finished}
 pub use Rattle.pp_macros.proofs.open_frames.ReportedLemmas.{wants_taken}
 use Rattle.pp_macros.proofs.open_frames.ReportedLemmas.{exit_reported, not_refused}
-use Rattle.pp_macros.proofs.taking.PauseLemmas.{pause_emits}
+use Rattle.pp_macros.proofs.open_frames.FlatLemmas.{outermost_flat}
+use Rattle.pp_macros.proofs.taking.LineStaysLemmas.{token_line}
+use Rattle.pp_macros.proofs.taking.PauseLemmas.{EmitsLater, pause_emits}
 use Rattle.pp_macros.proofs.taking.TakingLemmas.{as_opening}
 use Rattle.pp_macros.proofs.taking.SearchSimulates
 use Rattle.pp_macros.proofs.taking.SearchSimulates.{step_frees, GathersTo, ReadsTo, StandsIn, StandsHeld, step_simulates, next_simulates, gather_simulates}
+
+-- the line of an item before which the list was `before` and after which it is `after`: what is held was met in the
+-- search for a `(` after the item
+abbrev pub line_after : Option (Step Read) → List Entry → List Entry → Option ℕ
+line_after None before after = outermost_line after
+line_after (Some step) before after = outermost_line before
 
 module _ {R : Type 0} (I : Reading R) (StandsR : Reader → R → Type 0) (hidden : List Name)
     (simulates : (r s : Reader) (x : R) (step : Step Read) → StandsR r x → Reads r step s → wants_memory step ≡ false → ReadsTo I StandsR hidden step x s)
@@ -44,15 +54,19 @@ module _ {R : Type 0} (I : Reading R) (StandsR : Reader → R → Type 0) (hidde
     (A : Answers) where
   -- what one turn is to the expander
   abbrev pub LeadsTo : Step Taken → Expander R → kept.Expander → Reader → Type 0
-  LeadsTo (Ok (taken.Token read)) e n s = (f : Expander R) × Emits I A e (given.Token read) f × StandsIn I StandsR hidden n s f
+  LeadsTo (Ok (taken.Token read)) e n s = (f : Expander R) × (emits : Emits I A e (given.Token read) f) × StandsIn I StandsR hidden n s f
+      × (item_line emits ≡ line_after n.held e.list f.list)
   LeadsTo (Ok (taken.Call c)) e n s =
       (f : Expander R) × StandsIn I StandsR hidden n s f
-      × ((fault : Fault) → A c.definition (site_of I f c.paren c.tokens) (Err fault) → Emits I A e (given.Fault fault) f)
-      × ((arguments : List (List Read)) → A c.definition (site_of I f c.paren c.tokens) (Ok arguments) → (o : Given) (g : Expander R)
-      → Emits I A (record f { list = macro_before c.name c.definition c.closing.line arguments f.list }) o g → Emits I A e o g)
-  LeadsTo (Err Continue) e n s = (f : Expander R) × StandsIn I StandsR hidden n s f × ((o : Given) (g : Expander R) → Emits I A f o g → Emits I A e o g)
-  LeadsTo (Err Finished) e n s = (f : Expander R) × Emits I A e given.End f × StandsIn I StandsR hidden n s f
-  LeadsTo (Err (Error fault)) e n s = (f : Expander R) × Emits I A e (given.Fault fault) f
+      × ((fault : Fault) → A c.definition (site_of I f c.paren c.tokens) (Err fault)
+      → (emits : Emits I A e (given.Fault fault) f) × (item_line emits ≡ outermost_line f.list))
+      × ((arguments : List (List Read)) → A c.definition (site_of I f c.paren c.tokens) (Ok arguments)
+      → EmitsLater I A e (record f { list = macro_before c.name c.definition c.closing.line arguments f.list }))
+  LeadsTo (Err Continue) e n s = (f : Expander R) × StandsIn I StandsR hidden n s f × EmitsLater I A e f
+  LeadsTo (Err Finished) e n s = (f : Expander R) × (emits : Emits I A e given.End f) × StandsIn I StandsR hidden n s f
+      × (n.held ≡ None) × (item_line emits ≡ outermost_line f.list)
+  LeadsTo (Err (Error fault)) e n s = (f : Expander R) × (emits : Emits I A e (given.Fault fault) f)
+      × (f.list ≡ flat n.frames) × (n.held ≡ None) × (item_line emits ≡ outermost_line f.list)
 
   -- the macro that a token opens over frames is the one that it opens over their list
   opens_same : (s : Reader) (f : Expander R) (read : Read) → StandsR s f.reader
@@ -94,11 +108,16 @@ module _ {R : Type 0} (I : Reading R) (StandsR : Reader → R → Type 0) (hidde
       let h = step_simulates I StandsR hidden simulates shows hides m n r s (Err Continue) e stands steps refl in
       (h.0, h.1, pause_emits I A e h.0 h.2)
   exit_leads Finished m n r s e stands steps reported =
-      let h = step_simulates I StandsR hidden simulates shows hides m n r s (Err Finished) e stands steps refl in
-      (h.0, emitting.itself given.End e h.0 h.1 refl, h.2)
+      let h = step_simulates I StandsR hidden simulates shows hides m n r s (Err Finished) e stands steps refl in (
+        h.0,
+        emitting.itself given.End e h.0 h.1 refl,
+        h.2,
+        step_frees I StandsR hidden simulates shows hides m n r s (Err Finished) steps,
+        refl,
+      )
   exit_leads (Error fault) m n r s e stands steps reported =
       let h = step_simulates I StandsR hidden simulates shows hides m n r s (Err (Error fault)) e stands steps reported in
-      (h.0, emitting.itself (given.Fault fault) e h.0 h.1 refl)
+      (h.0, emitting.itself (given.Fault fault) e h.0 h.1 refl, h.4, h.6, refl)
 
   no_paren : (next : Step Read) → paren_of next ≡ None → paren_at (outcome_of_step next) ≡ None
   no_paren (Ok read) h = h
@@ -117,30 +136,39 @@ module _ {R : Type 0} (I : Reading R) (StandsR : Reader → R → Type 0) (hidde
       → opening I f (given.Token read) ≡ Some (record { token = read.token; name = name; definition = definition }) → definition.function_like ≡ true
       → Takes I f (given.Token first) h → paren_at (given.Token first) ≡ Some paren
       → GathersTo I StandsR hidden simulates shows hides 0 paren h g p t → Finds read name definition (sought_by paren g) step p q → LeadsTo step e q t
-  call_leads read name definition first paren step p q t e f h (Err fault) takes macro_of function takes_paren at (k, gathers) (is, becomes) =
+  call_leads read name definition first paren step p q t e f h (Err fault) takes macro_of function takes_paren at (k, gathers, list, freed) (is, becomes) =
       let m : Opening = record { token = read.token; name = name; definition = definition } in
-      rw is (
+      rw (is, becomes) (
         k,
         emitting.call_refused (given.Token read) (given.Fault fault) fault m e f k takes macro_of function
             (calls.broken (given.Token first) paren fault f h k (calls.refused fault) takes_paren at gathers refl) refl,
+        list,
+        freed,
+        refl,
       )
   call_leads read name definition first paren step p q t e f h (Ok g) takes macro_of function takes_paren at (k, gathers, stands) (is, becomes) =
       let m : Opening = record { token = read.token; name = name; definition = definition } in
       rw (is, becomes) (
         k,
         stands,
-        (λ fault answers. emitting.call_refused (given.Token read) (given.Fault fault) fault m e f k takes macro_of function
-            (calls.whole (given.Token first) paren g (Err fault) f h k (calls.refused fault) takes_paren at gathers answers refl) refl),
-        (λ arguments answers o l emits. emitting.call (given.Token read) o arguments g.closing.line m e f k l takes macro_of function
-            (calls.whole (given.Token first) paren g (Ok arguments) f h k (calls.fits arguments g.closing.line) takes_paren at gathers answers refl) emits),
+        (λ fault answers. (
+          emitting.call_refused (given.Token read) (given.Fault fault) fault m e f k takes macro_of function
+              (calls.whole (given.Token first) paren g (Err fault) f h k (calls.refused fault) takes_paren at gathers answers refl) refl,
+          refl,
+        )),
+        (λ arguments answers o l emits. (
+          emitting.call (given.Token read) o arguments g.closing.line m e f k l takes macro_of function
+              (calls.whole (given.Token first) paren g (Ok arguments) f h k (calls.fits arguments g.closing.line) takes_paren at gathers answers refl) emits,
+          refl,
+        )),
       )
 
   -- what is sought after a name
   seek_leads : (read : Read) (name : Name) (definition : Definition) (c : Sought) (step : Step Taken)
       (n p q : kept.Expander) (s t : Reader) (e f : Expander R) → Takes I e (given.Token read) f → StandsIn I StandsR hidden n s f
       → opening I f (given.Token read) ≡ Some (record { token = read.token; name = name; definition = definition }) → definition.function_like ≡ true
-      → Seeks n s c p t → Finds read name definition c step p q → LeadsTo step e q t
-  seek_leads read name definition c step n p q s t e f takes stands macro_of function (alone next n1 p1 s1 t1 c1 taken_next none reported is) found =
+      → outermost_line f.list ≡ outermost_line e.list → Seeks n s c p t → Finds read name definition c step p q → LeadsTo step e q t
+  seek_leads read name definition c step n p q s t e f takes stands macro_of function same (alone next n1 p1 s1 t1 c1 taken_next none reported is) found =
       let m : Opening = record { token = read.token; name = name; definition = definition } in
       let h = next_simulates I StandsR hidden simulates shows hides n p s t next f stands taken_next (not_refused next reported) in
       let found' : Finds read name definition (no_call next) step p q = subst (λ (x : Sought). Finds read name definition x step p q) is found in
@@ -150,8 +178,9 @@ module _ {R : Type 0} (I : Reading R) (StandsR : Reader → R → Type 0) (hidde
             (holding (outcome_of_step next) h.0) takes macro_of function
             (calls.alone (outcome_of_step next) f h.0 (calls.no_call (outcome_of_step next)) h.1 (no_paren next none) refl) refl refl,
         h.2,
+        same,
       )
-  seek_leads read name definition c step n p q s t e f takes stands macro_of function
+  seek_leads read name definition c step n p q s t e f takes stands macro_of function same
       (called next paren n1 between p1 s1 u t1 g c1 taken_next at gathers is) found =
       let first = some_paren next paren at in
       let h = SearchSimulates.token_stands I StandsR hidden simulates shows hides first.0 n between s u f stands
@@ -174,7 +203,7 @@ module _ {R : Type 0} (I : Reading R) (StandsR : Reader → R → Type 0) (hidde
           reader = stands.reader;
           names = stands.names;
         },
-        λ o g emits. emitting.object (given.Token read) o m e f g takes macro_of plain emits,
+        λ o g emits. (emitting.object (given.Token read) o m e f g takes macro_of plain emits, refl),
       )
 
   as_opens : (s : Reader) (f : Expander R) (read : Read) (m : Option (Name × Definition)) → StandsR s f.reader → macro_of s read ≡ m
@@ -188,11 +217,19 @@ module _ {R : Type 0} (I : Reading R) (StandsR : Reader → R → Type 0) (hidde
       rw is (exit_leads exit m n r s e stands steps (exit_reported exit (rw is at reported)))
   turn_leads m n r s step e stands (gives read step1 m1 n1 r1 s1 steps none is) reported =
       let h = token_stands m n r s read e stands steps in
-      rw is (h.0, emitting.itself (given.Token read) e h.0 h.1 (as_opens s h.0 read None h.3 none), h.2)
+      let freed : None ≡ n.held = sym (step_frees I StandsR hidden simulates shows hides m n r s (Ok read) steps) in
+      rw is (
+        h.0,
+        emitting.itself (given.Token read) e h.0 h.1 (as_opens s h.0 read None h.3 none),
+        h.2,
+        ap (λ o. line_after o e.list h.0.list) freed,
+      )
   turn_leads m p r s step e stands (object read name definition step1 m1 n p1 r1 s1 steps some plain is at) reported =
       let h = token_stands m n r s read e stands steps in
       rw is (object_leads read name definition n p s e h.0 h.1 h.2 (step_frees I StandsR hidden simulates shows hides m n r s (Ok read) steps)
       (as_opens s h.0 read (Some (name, definition)) h.3 some) plain at)
   turn_leads m q r t step e stands (seeks read name definition c step1 m1 n p q1 r1 s t1 steps some function sought found) reported =
       let h = token_stands m n r s read e stands steps in
-      seek_leads read name definition c step n p q s t e h.0 h.1 h.2 (as_opens s h.0 read (Some (name, definition)) h.3 some) function sought found
+      let same : outermost_line h.0.list ≡ outermost_line e.list = ap outermost_line h.2.list ∙ outermost_flat n.frames ∙ token_line m n r s read steps
+      ∙ sym (ap outermost_line stands.list ∙ outermost_flat m.frames) in
+      seek_leads read name definition c step n p q s t e h.0 h.1 h.2 (as_opens s h.0 read (Some (name, definition)) h.3 some) function same sought found

@@ -1,6 +1,6 @@
 -- Turns of the open macros that leave the reader as it is: pauses, macros without parentheses that open, and tokens
 -- that are given.
-use Rattle.std.specs.Prelude.{◌≡◌, Bool, List, [], ◌∷◌, ◌++◌, Option, Some, Ok, Err, IfSome}
+use Rattle.std.specs.Prelude.{◌≡◌, Bool, List, [], ◌∷◌, ◌++◌, Option, Some, None, Ok, Err, IfSome}
 use Rattle.std.specs.Prelude.{MatchOption}
 use Rattle.std.specs.Option.{option_map}
 use Rattle.pp_lexer.specs.declared.token.Token.{Token}
@@ -23,8 +23,9 @@ passed m = record m { frames = frames_after m.frames }
 abbrev pub token_ahead : Expander → Option Token
 token_ahead m = option_map (λ read. read.token) (given_next m.frames)
 
--- the innermost frame has this token next, and it is given as it is, painted or not
+-- nothing is held, the innermost frame has this token next, and it is given as it is, painted or not
 pub record GivesAhead (r : Reader) (m : Expander) (token : Token) (painted : Bool) : Type 0 where
+  pub free : m.held ≡ None
   pub ahead : token_ahead m ≡ Some token
   pub turns : TurnsTo m r (Ok (taken.Token (record { token = token; painted = painted }))) (passed m) r
   pub holds : HoldsOrdinary token.value

@@ -1,5 +1,5 @@
 -- What the loop of `next` has reached, and what its result means for the state in which it began.
-use Rattle.std.proofs.Common.{◌≡◌, ◌∙◌, ◌<◌, ◌≤◌, ◌⊎◌, inl, inr, Bool, true, false, if◌then◌else◌, List, [], ◌∷◌, refl, sym, ap, subst, Option, Some, None, arith}
+use Rattle.std.proofs.Common.{◌≡◌, ◌∙◌, ◌<◌, ◌≤◌, ◌⊎◌, inl, inr, ℕ, Bool, true, false, if◌then◌else◌, List, [], ◌∷◌, refl, sym, ap, subst, Option, Some, None, arith}
 use Rattle.std.specs.Prelude.{Ok, Err, MatchBool, unwrap_or}
 use Rattle.pp_lexer.specs.PreprocessorError.{out_of_memory}
 use Rattle.pp_lexer.specs.declared.token.Location.{Location}
@@ -18,11 +18,12 @@ use Rattle.pp_macros.specs.inner.CallTurns.{TakesSomething}
 use Rattle.pp_macros.specs.inner.Left.{work_of}
 use Rattle.pp_macros.specs.LexerErrors.{ErrorAt}
 use Rattle.pp_macros.specs.inner.Expander as kept
+use Rattle.pp_macros.specs.inner.Frames.{outermost_frame_line}
 use Rattle.pp_macros.specs.inner.Reader.{of_source}
 use Rattle.pp_macros.specs.inner.Source.{Source, unreported_of}
 use Rattle.pp_rs.specs.inner.SourceTurns.{TurnsSource, StepsOver}
 use Rattle.pp_rs.specs.inner.Stands.{StandsFor}
-use Rattle.pp_rs.specs.Kept.{Preprocessing, Stands, is_spent, most_items, errors_left, error_place}
+use Rattle.pp_rs.specs.Kept.{Preprocessing, Stands, is_spent, most_items, errors_left, error_place, kept_line, call_line}
 use Rattle.pp_rs.specs.Preprocessing.{IsLessLeft, IsErrorAt, of_lexer, of_its_own, IsRefusedItem, IsGivenItem, IsNextItem}
 use Rattle.pp_macros.specs.inner.Unreported.{with_read, IsReportedBut}
 use Rattle.pp_macros.specs.declared.step.StepExit.TheVariants.{Error, Continue, Finished}
@@ -32,13 +33,13 @@ use Rattle.pp_rs.proofs.runs.UnreportedTurnLemmas.{errors_of, ErrorsLeft, turn_e
 use Rattle.pp_rs.proofs.runs.SourceTurnLemmas.{turned_source, source_fits, source_lowers, source_ends, source_some, source_turn_leads}
 
 -- what is given next comes next
-comes : (e f : Expander SourceReader) (o : Outcome) → GivesItem (answers_at expansion_limit) e o f → Comes e o f
+abbrev comes : (e f : Expander SourceReader) (o : Outcome) → GivesItem (answers_at expansion_limit) e o f → Comes e o f
 comes e f o item = record { taken = item.taken; emits = item.emits; is = item.is }
 
 -- a state from which the same comes next as from the first
 pub record Reached (expander : kept.Expander) (source : Source) (expander_now : kept.Expander) (source_now : Source) : Type 0 where
   pub fit : IsFit expander_now source_now
-  pub leads : Leads (answers_at expansion_limit) expander source (Err Continue) expander_now source_now
+  pub leads : Leads (answers_at expansion_limit) expander source (Err Continue) None expander_now source_now
   pub left : SomethingLeft expander_now source_now → SomethingLeft expander source
   pub less : work_of expansion_limit expander_now (of_source source_now) ≤ work_of expansion_limit expander (of_source source)
   pub reported : IsReported expander_now source_now
@@ -49,7 +50,7 @@ pub reached_first : (expander now : kept.Expander) (source source_now : Source) 
     × IsReported now source_now → Reached expander source now source_now
 reached_first expander now source source_now e f fit = rw (e, f) (record {
   fit = rw (e, f) at fit.0;
-  leads = record { from = λ s stands. (s, stands, λ x g emits. emits) };
+  leads = record { from = λ s stands. (s, stands, λ x g emits. (emits, refl)) };
   left = λ left. left;
   less = omega arith;
   reported = rw (e, f) at fit.1;
@@ -75,9 +76,10 @@ module _ (expander now after : kept.Expander) (source source_now source_after : 
   left_now step (inl h) goes = r.left (some_left now source_now r.fit.unspent (source_some expansion_limit now after source_now source_after step h goes))
   left_now step (inr h) goes = r.left (some_left now source_now r.fit.unspent h.some)
 
-  leads_last : (step : Step Token) → Over step → wants_memory step ≡ false → Leads (answers_at expansion_limit) expander source step after source_after
+  leads_last : (step : Step Token) → Over step → wants_memory step ≡ false
+      → Leads (answers_at expansion_limit) expander source step (outermost_frame_line now.frames) after source_after
   leads_last step h reported =
-      leads_then (answers_at expansion_limit) expander now after source source_now source_after step r.leads
+      leads_then (answers_at expansion_limit) expander now after source source_now source_after step None (outermost_frame_line now.frames) r.leads
       (source_turn_leads expansion_limit now after source_now source_after step r.fit (turned step h reported) reported)
 
   -- what a turn leaves of the errors of the lexer
@@ -92,7 +94,7 @@ module _ (expander now after : kept.Expander) (source source_now source_after : 
       let less = falls (Err Continue) h refl (λ e. cc) in
       record {
         fit = fits (Err Continue) h refl;
-        leads = leads_last (Err Continue) h refl;
+        leads = record { from = (leads_last (Err Continue) h refl).from };
         left = λ left. left_now (Err Continue) h (λ e. cc);
         less = omega (arith, less, r.less);
         reported = (errors_last (Err Continue) h refl).0;
@@ -143,10 +145,10 @@ module _ (expander now after : kept.Expander) (source source_now source_after : 
     }
 
     -- less is left after a token or a fault
-    less_last : (step : Step Token) (place : Location) → Over step → wants_memory step ≡ false → (step ≡ Err Finished → ⊥)
-        → most_items (record { expander = after; source = source_after; spent = false; place = place }) < most_items old
+    less_last : (step : Step Token) (place : Location) (line : Option ℕ) → Over step → wants_memory step ≡ false → (step ≡ Err Finished → ⊥)
+        → most_items (record { expander = after; source = source_after; spent = false; place = place; name_line = line }) < most_items old
     unfolding most_items
-    less_last step place turn reported goes =
+    less_last step place line turn reported goes =
         let lower = falls step turn reported goes in
         omega (arith, lower, r.less, most_first)
 
@@ -154,21 +156,23 @@ module _ (expander now after : kept.Expander) (source source_now source_after : 
     unfolding errors_left
     errors_first = rw (starts, begins) refl
 
-    pub next_token : (token : Token) (spent : Bool) (place : Location) → spent ≡ false → place ≡ old.place → Over (Ok token) → HoldsOrdinary token.value
-        → IsNextItem old (Some (Ok token)) (record { expander = after; source = source_after; spent = spent; place = place })
-    unfolding Stands is_spent errors_left error_place
-    next_token token true place fresh_now same turn holds = cc
-    next_token token false place fresh_now same turn holds =
-        as_next (Some (Ok token)) (record { expander = after; source = source_after; spent = false; place = place }) (inr (record {
+    pub next_token : (token : Token) (spent : Bool) (place : Location) (line : Option ℕ) → spent ≡ false → place ≡ old.place
+        → kept_line after.held line after.frames ≡ kept_line after.held (outermost_frame_line now.frames) after.frames → Over (Ok token)
+        → HoldsOrdinary token.value
+        → IsNextItem old (Some (Ok token)) (record { expander = after; source = source_after; spent = spent; place = place; name_line = line })
+    unfolding Stands is_spent errors_left error_place call_line
+    next_token token true place line fresh_now same kept turn holds = cc
+    next_token token false place line fresh_now same kept turn holds =
+        as_next (Some (Ok token)) (record { expander = after; source = source_after; spent = false; place = place; name_line = line }) (inr (record {
           item = λ e stands.
-              let leads : LeadsFrom (answers_at expansion_limit) e (Ok token) after source_after =
+              let leads : LeadsFrom (answers_at expansion_limit) e (Ok token) (outermost_frame_line now.frames) after source_after =
               (leads_last (Ok token) turn refl).from e (stands_first e stands) in
-              record { after = leads.0; emits = comes e leads.0 _ leads.1; goes_on = leads.2 };
+              record { after = leads.0; emits = comes e leads.0 _ leads.1; line = kept ∙ leads.3; goes_on = leads.2 };
           no_refusal = refl;
           holds = holds;
           reports = ((errors_last (Ok token) turn refl).1 ∙ sym errors_first, same);
           spent = refl;
-        })) (less_last (Ok token) place turn refl (λ e. cc))
+        })) (less_last (Ok token) place line turn refl (λ e. cc))
 
     -- memory is refused, and there was something to take
     pub next_refused : TakesSomething now (of_source source_now) → (new : Preprocessing) → new.spent ≡ true
@@ -183,9 +187,10 @@ module _ (expander now after : kept.Expander) (source source_now source_after : 
     pub some_items : Over (Err Continue) → 0 < most_items old
     some_items turn = omega (arith, falls_more turn, r.less, most_first)
 
-    end_last : (place : Location) → Over (Err Finished) → most_items (record { expander = after; source = source_after; spent = false; place = place }) ≡ 0
+    end_last : (place : Location) (line : Option ℕ) → Over (Err Finished)
+        → most_items (record { expander = after; source = source_after; spent = false; place = place; name_line = line }) ≡ 0
     unfolding most_items
-    end_last place turn =
+    end_last place line turn =
         let e = source_ends expansion_limit now source_now source_after r.fit after (turned (Err Finished) turn refl) in
         no_work expansion_limit after source_after e.0 e.1 e.2 e.3
 
@@ -195,53 +200,72 @@ module _ (expander now after : kept.Expander) (source source_now source_after : 
         let e = source_ends expansion_limit now source_now source_after r.fit after (turned (Err Finished) turn refl) in
         rw (e.0, e.2) refl
 
-    pub next_end : (spent : Bool) (place : Location) → spent ≡ false → place ≡ old.place → Over (Err Finished)
-        → IsNextItem old None (record { expander = after; source = source_after; spent = spent; place = place })
-    unfolding Stands is_spent errors_left error_place
-    next_end true place fresh_now same turn = cc
-    next_end false place fresh_now same turn =
-        as_next None (record { expander = after; source = source_after; spent = false; place = place }) (inr (record {
+    -- if nothing is held, no line is kept for it
+    pub free_line : (o : Option (Step Read)) (line : Option ℕ) → o ≡ None
+        → kept_line o line after.frames ≡ kept_line o (outermost_frame_line now.frames) after.frames
+    free_line None line free = refl
+    free_line (Some step) line free = cc
+
+    end_free : Over (Err Finished) → after.held ≡ None
+    end_free turn = (source_ends expansion_limit now source_now source_after r.fit after (turned (Err Finished) turn refl)).0
+
+    pub next_end : (spent : Bool) (place : Location) (line : Option ℕ) → spent ≡ false → place ≡ old.place → Over (Err Finished)
+        → IsNextItem old None (record { expander = after; source = source_after; spent = spent; place = place; name_line = line })
+    unfolding Stands is_spent errors_left error_place call_line
+    next_end true place line fresh_now same turn = cc
+    next_end false place line fresh_now same turn =
+        as_next None (record { expander = after; source = source_after; spent = false; place = place; name_line = line }) (inr (record {
           item = λ e stands.
-              let leads : LeadsFrom (answers_at expansion_limit) e (Err Finished) after source_after =
+              let leads : LeadsFrom (answers_at expansion_limit) e (Err Finished) (outermost_frame_line now.frames) after source_after =
               (leads_last (Err Finished) turn refl).from e (stands_first e stands) in
-              record { after = leads.0; emits = comes e leads.0 _ leads.1; goes_on = leads.2 };
+              record {
+                after = leads.0;
+                emits = comes e leads.0 _ leads.1;
+                line = free_line after.held line (end_free turn) ∙ leads.3;
+                goes_on = leads.2;
+              };
           no_refusal = refl;
           holds = tt;
           reports = (errors_first ∙ sym (errors_last (Err Finished) turn refl).1 ∙ none_unreported turn, none_unreported turn, same);
           spent = refl;
-        })) (end_last place turn)
+        })) (end_last place line turn)
 
     -- a fault is reported where it stands: the place that was taken is that of an error of the lexer
-    module _ (fault : Fault) (reported_source : Source) (place : Location) (is : reported_source ≡ record source_after { error_place = None }) where
+    module _ (fault : Fault) (reported_source : Source) (place : Location) (line : Option ℕ) (is : reported_source ≡ record source_after { error_place = None }) where
       error_reported : (taken : Option Location) (left : List ErrorAt) → errors_of expander source ≡ with_read fault taken left
-          → place ≡ unwrap_or taken fault.1 → errors_left (record { expander = after; source = reported_source; spent = false; place = place }) ≡ left
-          → IsErrorAt fault old (record { expander = after; source = reported_source; spent = false; place = place })
+          → place ≡ unwrap_or taken fault.1 → errors_left (record { expander = after; source = reported_source; spent = false; place = place; name_line = line }) ≡ left
+          → IsErrorAt fault old (record { expander = after; source = reported_source; spent = false; place = place; name_line = line })
       unfolding error_place
       error_reported (Some there) left e at same = of_lexer (errors_first ∙ e
           ∙ ap (λ (es : List ErrorAt). record { item = fault; place = there } ∷ es) (sym same)
           ∙ ap (λ (p : Location). record { item = fault; place = p } ∷ errors_left
-          (record { expander = after; source = reported_source; spent = false; place = place })) (sym at))
+          (record { expander = after; source = reported_source; spent = false; place = place; name_line = line })) (sym at))
       error_reported None left e at same = of_its_own at (same ∙ sym e ∙ sym errors_first)
 
       errors_now : Over (Err (Error fault)) → is_out_of_memory fault.0 ≡ false
-          → errors_left (record { expander = after; source = reported_source; spent = false; place = place }) ≡ (unreported_of source_after).later
+          → errors_left (record { expander = after; source = reported_source; spent = false; place = place; name_line = line }) ≡ (unreported_of source_after).later
       unfolding errors_left
       errors_now turn reported = rw (is, (errors_last (Err (Error fault)) turn reported).0) refl
 
       less_now : Over (Err (Error fault)) → is_out_of_memory fault.0 ≡ false
-          → most_items (record { expander = after; source = reported_source; spent = false; place = place }) < most_items old
+          → most_items (record { expander = after; source = reported_source; spent = false; place = place; name_line = line }) < most_items old
       unfolding most_items
-      less_now turn reported = rw is (less_last (Err (Error fault)) place turn reported (λ e. cc))
+      less_now turn reported = rw is (less_last (Err (Error fault)) place line turn reported (λ e. cc))
 
       next_fault : Over (Err (Error fault)) → is_out_of_memory fault.0 ≡ false → place ≡ unwrap_or source_after.error_place fault.1
-          → IsNextItem old (Some (Err fault)) (record { expander = after; source = reported_source; spent = false; place = place })
-      unfolding is_spent
+          → IsNextItem old (Some (Err fault)) (record { expander = after; source = reported_source; spent = false; place = place; name_line = line })
+      unfolding is_spent call_line
       next_fault turn reported at =
-          as_next (Some (Err fault)) (record { expander = after; source = reported_source; spent = false; place = place }) (inr (record {
+          as_next (Some (Err fault)) (record { expander = after; source = reported_source; spent = false; place = place; name_line = line }) (inr (record {
             item = λ e stands.
-                let leads : LeadsFrom (answers_at expansion_limit) e (Err (Error fault)) after source_after =
+                let leads : LeadsFrom (answers_at expansion_limit) e (Err (Error fault)) (outermost_frame_line now.frames) after source_after =
                 (leads_last (Err (Error fault)) turn reported).from e (stands_first e stands) in
-                record { after = leads.0; emits = comes e leads.0 _ leads.1; goes_on = tt };
+                record {
+                  after = leads.0;
+                  emits = comes e leads.0 _ leads.1;
+                  line = free_line after.held line (errors_last (Err (Error fault)) turn reported).0 ∙ leads.2;
+                  goes_on = tt;
+                };
             no_refusal = reported;
             holds = tt;
             reports = error_reported source_after.error_place (unreported_of source_after).later (errors_last (Err (Error fault)) turn reported).1 at
@@ -250,17 +274,17 @@ module _ (expander now after : kept.Expander) (source source_now source_after : 
           })) (less_now turn reported)
 
       next_refusal : Over (Err (Error fault)) → IsNextItem old (Some (Err out_of_memory))
-          (record { expander = after; source = reported_source; spent = true; place = place })
+          (record { expander = after; source = reported_source; spent = true; place = place; name_line = line })
       unfolding is_spent most_items
       next_refusal turn =
           let left : SomethingLeft expander source = left_now (Err (Error fault)) turn (λ e. cc) in
-          as_next (Some (Err out_of_memory)) (record { expander = after; source = reported_source; spent = true; place = place })
+          as_next (Some (Err out_of_memory)) (record { expander = after; source = reported_source; spent = true; place = place; name_line = line })
           (inl (record { item = refl; spent = refl })) (omega (arith, left_is_work expansion_limit expander source left, most_first))
 
       pub next_error : (want : Bool) → is_out_of_memory fault.0 ≡ want → Over (Err (Error fault))
           → place ≡ unwrap_or source_after.error_place (if want then out_of_memory else fault).1
           → IsNextItem old (Some (Err (if want then out_of_memory else fault)))
-          (record { expander = after; source = reported_source; spent = want; place = place })
+          (record { expander = after; source = reported_source; spent = want; place = place; name_line = line })
       next_error true e turn at = next_refusal turn
       next_error false e turn at = next_fault turn e at
 

@@ -35,7 +35,12 @@ passed_next old mid new answer fresh p next =
       item = λ state stands.
           let between = p.item state stands in
           let emitted = given.item between.between between.stands in
-          record { after = emitted.after; emits = between.comes _ _ emitted.emits; goes_on = emitted.goes_on };
+          record {
+            after = emitted.after;
+            emits = between.comes _ _ emitted.emits;
+            line = emitted.line ∙ sym (between.lines _ _ emitted.emits);
+            goes_on = emitted.goes_on;
+          };
       no_refusal = given.no_refusal;
       holds = given.holds;
       reports = reports_over old mid new answer p.errors p.place given.reports;
@@ -70,7 +75,12 @@ passed_word old mid new None fresh p q = record {
   item = λ state stands.
       let first = p.item state stands in
       let second = q.item first.between first.stands in
-      record { between = second.between; stands = second.stands; comes = λ o f c. first.comes o f (second.comes o f c) };
+      record {
+        between = second.between;
+        stands = second.stands;
+        comes = λ o f c. first.comes o f (second.comes o f c);
+        lines = λ o f c. first.lines o f (second.comes o f c) ∙ second.lines o f c;
+      };
   spent = q.spent ∙ p.spent;
   errors = q.errors ∙ p.errors;
   place = q.place ∙ p.place;

@@ -1,5 +1,5 @@
 -- Words of plain text that are given before memory is taken for them, and the newlines that are passed before them.
-use Rattle.std.proofs.Common.{◌≡◌, ◌∙◌, Bool, true, false, refl, sym, subst, IsTrue, Option, Some, Ok, Err, arith}
+use Rattle.std.proofs.Common.{◌≡◌, ◌∙◌, ℕ, Bool, true, false, refl, sym, ap, subst, IsTrue, Option, Some, None, Ok, Err, arith}
 use Rattle.pp_lexer.specs.TokenValue.{is_ordinary}
 use Rattle.pp_lexer.specs.declared.token.Location.{Location}
 use Rattle.pp_lexer.specs.declared.token.Token.{Token}
@@ -12,7 +12,7 @@ use Rattle.pp_macros.specs.inner.Expander.{Expander}
 use Rattle.pp_macros.specs.inner.Source.{Source}
 use Rattle.pp_macros.specs.declared.step.StepExit.TheVariants.{Continue}
 use Rattle.pp_directives.specs.inner.PlainText.{IsStep}
-use Rattle.pp_rs.specs.Kept.{Preprocessing, Stands, IsAhead, is_spent, most_items, errors_left, error_place}
+use Rattle.pp_rs.specs.Kept.{Preprocessing, Stands, IsAhead, is_spent, most_items, errors_left, error_place, kept_line}
 use Rattle.pp_rs.specs.NextWord.{IsPassed}
 use Rattle.pp_rs.specs.Preprocessing.{IsNextItem}
 use Rattle.pp_rs.specs.inner.Fit.{IsFit, IsReported}
@@ -21,7 +21,7 @@ use Rattle.pp_rs.proofs.runs.IdleLemmas.{idle_exit, idle_token}
 use Rattle.pp_macros.proofs.taking.ExpanderLemmas.{is_idle-idle}
 use Rattle.pp_rs.proofs.runs.Leads.{LeadsFrom}
 use Rattle.pp_rs.proofs.runs.PausesLemmas.{given_over}
-use Rattle.pp_rs.proofs.runs.NextLemmas.{Reached, reached_first, token_fits, next_token}
+use Rattle.pp_rs.proofs.runs.NextLemmas.{Reached, reached_first, token_fits, free_line, next_token}
 
 -- a newline is a turn
 pub newline_over : (m : Expander) (r s : Source) → is_idle m ≡ true → IsStep r (Err Continue) s → StepsOver expansion_limit m r (Err Continue) m s
@@ -31,6 +31,12 @@ newline_over m r s idle step = idle_exit expansion_limit r s m Continue (Err Con
 pub word_over : (m : Expander) (r s : Source) (token : Token) → is_idle m ≡ true → IsStep r (Ok token) s → gives_itself s.definitions token.value ≡ true
     → StepsOver expansion_limit m r (Ok token) m s
 word_over m r s token idle step itself = idle_token expansion_limit r s m token (is_idle-idle m idle) (step.reads, step.errors) itself
+
+-- while no macro is open, no line is kept
+pub idle_line : (m : Expander) (line other : Option ℕ) → is_idle m ≡ true → kept_line m.held line m.frames ≡ kept_line m.held other m.frames
+idle_line m line other idle =
+    let free : m.held ≡ None = ap (λ (k : Expander). k.held) (is_idle-idle m idle) in
+    rw free refl
 
 -- a token that is ahead
 pub token_ahead_is : (p : Preprocessing) → p.spent ≡ false → (token : Token) → IsTrue (is_ordinary token.value) → (painted : Bool)
@@ -67,16 +73,18 @@ module _ (p : Preprocessing) (now : Expander) (source_now : Source) (is : p.expa
   pub pass_fits : IsFit (passed now) source_now × IsReported (passed now) source_now
   pass_fits = token_fits p.expander now (passed now) p.source source_now source_now reached token over
 
-  pub ahead_passes : (spent : Bool) (place : Location) → spent ≡ false → place ≡ p.place
-      → IsNextItem p (Some (Ok token)) (record { expander = passed now; source = source_now; spent = spent; place = place })
+  pub ahead_passes : (spent : Bool) (place : Location) (line : Option ℕ) → spent ≡ false → place ≡ p.place
+      → IsNextItem p (Some (Ok token)) (record { expander = passed now; source = source_now; spent = spent; place = place; name_line = line })
   unfolding IsAhead
-  ahead_passes spent place fresh at =
-      next_token p.expander now (passed now) p.source source_now source_now reached p ahead.0 refl refl token spent place fresh at over ahead.3.holds
+  ahead_passes spent place line fresh at =
+      next_token p.expander now (passed now) p.source source_now source_now reached p ahead.0 refl refl token spent place line fresh at
+      (free_line p.expander now (passed now) p.source source_now source_now reached p ahead.0 refl refl now.held line
+      (ap (λ (m : Expander). m.held) (sym is) ∙ ahead.3.free)) over ahead.3.holds
 
 -- nothing was passed
 pub passed_nothing : (p : Preprocessing) → IsPassed p p
 passed_nothing p = record {
-  item = λ state stands. record { between = state; stands = stands; comes = λ o f c. c };
+  item = λ state stands. record { between = state; stands = stands; comes = λ o f c. c; lines = λ o f c. refl };
   spent = refl;
   errors = refl;
   place = refl;
@@ -84,17 +92,18 @@ passed_nothing p = record {
 }
 
 -- only pauses were
-pub passed_pauses : (old : Preprocessing) (now : Expander) (source_now : Source) (spent : Bool) (place : Location)
+pub passed_pauses : (old : Preprocessing) (now : Expander) (source_now : Source) (spent : Bool) (place : Location) (line : Option ℕ)
     → Reached old.expander old.source now source_now → old.spent ≡ false → spent ≡ false → place ≡ old.place
-    → IsPassed old (record { expander = now; source = source_now; spent = spent; place = place })
+    → IsPassed old (record { expander = now; source = source_now; spent = spent; place = place; name_line = line })
 unfolding Stands is_spent errors_left error_place most_items
-passed_pauses old now source_now spent place r fresh same at = record {
+passed_pauses old now source_now spent place line r fresh same at = record {
   item = λ state stands.
-      let leads : LeadsFrom (answers_at expansion_limit) state (Err Continue) now source_now = r.leads.from state stands in
+      let leads : LeadsFrom (answers_at expansion_limit) state (Err Continue) None now source_now = r.leads.from state stands in
       record {
         between = leads.0;
         stands = leads.1;
-        comes = λ o f c. record { taken = c.taken; emits = leads.2 c.taken f c.emits; is = c.is };
+        comes = λ o f c. record { taken = c.taken; emits = (leads.2 c.taken f c.emits).0; is = c.is };
+        lines = λ o f c. (leads.2 c.taken f c.emits).1;
       };
   spent = same ∙ sym fresh;
   errors = r.errors;

@@ -27,6 +27,7 @@ start_of text = record {
   };
   spent = false;
   place = nowhere;
+  name_line = None;
 }
 
 -- it stands for the state in which a run of its items begins

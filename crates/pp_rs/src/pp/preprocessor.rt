@@ -9,10 +9,9 @@ ghost use Rattle.pp_lexer.specs.PreprocessorError.{out_of_memory};
 ghost use Rattle.pp_model.specs.Run.{items_of, start};
 ghost use Rattle.pp_rs.specs.Adding.{IsAdded};
 ghost use Rattle.pp_rs.specs.inner.Fit.{ReadsText};
-ghost use Rattle.pp_rs.specs.CallLine.{IsCallLine};
 ghost use Rattle.pp_macros.specs.Item.{is_out_of_memory};
 ghost use Rattle.pp_macros.specs.inner.Frames.{new_frame};
-ghost use Rattle.pp_rs.specs.Kept.{Stands, IsAhead, is_spent, most_items, errors_left, error_place};
+ghost use Rattle.pp_rs.specs.Kept.{Stands, IsAhead, is_spent, most_items, errors_left, error_place, call_line};
 ghost use Rattle.pp_macros.specs.LexerErrors.{lexer_errors};
 ghost use Rattle.pp_directives.specs.WordTokens.{word_token};
 ghost use Rattle.pp_rs.specs.NextWord.{IsNextWord, IsPassed, IsPlain, SomeAhead};
@@ -46,6 +45,8 @@ pub struct Preprocessor<'a> {
     // whether the next token is known to be one of live text
     in_text: bool,
     place: Location,
+    // The line of the outermost macro that was open before the last turn. If a step is held, that turn gave a name.
+    name_line: Option<u32>,
 }
 
 impl<'a> Model for Preprocessor<'a> {
@@ -56,7 +57,7 @@ impl<'a> Model for Preprocessor<'a> {
 
     ghost Value = { Preprocessing };
 
-    ghost view = { λ p. record { expander = p.expander; source = p.source; spent = p.spent; place = p.place } };
+    ghost view = { λ p. record { expander = p.expander; source = p.source; spent = p.spent; place = p.place; name_line = p.name_line } };
 
     ghost invariant = { λ p. (p.spent ≡ false → IsFit p.expander p.source × IsReported p.expander p.source)
         × (p.in_text ≡ true → ReadsText p.expander p.source p.spent) };
@@ -114,6 +115,7 @@ impl<'a> Preprocessor<'a> {
         ensures stands { Stands result (start (items_of input.now)) }
         ensures errors { errors_left result ≡ lexer_errors input.now }
         ensures place { error_place result ≡ nowhere }
+        ensures line { call_line result ≡ None }
     {
         Preprocessor {
             alloc,
@@ -122,6 +124,7 @@ impl<'a> Preprocessor<'a> {
             spent: false,
             in_text: false,
             place: NOWHERE,
+            name_line: None,
         }
     }
 
@@ -252,6 +255,7 @@ impl<'a> Preprocessor<'a> {
                     return Some(Err(out_of_memory()));
                 }
             }
+            self.name_line = self.expander.outermost_line();
             match turn_source(self.alloc, &mut self.expander, &mut self.source) {
                 Ok(token) => return Some(Ok(token)),
                 Err(StepExit::Error(error)) => {
@@ -359,18 +363,20 @@ impl<'a> Preprocessor<'a> {
         self.place
     }
 
-    /// Returns the line of the macro call that gave the last token that `next` returned, numbered as in a token's
-    /// place.
+    /// Returns the line of the macro call from which the last item of `next` came, numbered as in a token's place.
     ///
-    /// It is the line of the outermost macro that is open: the line of its name, or of the `)` of its call. It is
-    /// `None` if no macro is open, as after a token of the source itself. It is also `None` after the name of a macro
-    /// with parameters that ends the body of another macro, if no `(` follows. (The place of a token that a macro gives
-    /// is in that macro's definition, or in the content that `add_define` was given.) It stays as the last `next` left
-    /// it. After an error its value is not specified.
+    /// It is the line of the outermost macro that was open when the token was taken or the error was found: the line of
+    /// its name, or of the `)` of its call. It is `None` if no macro was open, as after a token of the source itself,
+    /// an error of a directive, and the end. (The place of an item that a macro gives is in that macro's definition, or
+    /// in the content that `add_define` was given.) `add_define` leaves it as it is. After an `OutOfMemory` its value
+    /// is not specified.
     #[inline(always)]
     pub fn call_line(&self) -> Option<u32>
-        ensures { IsCallLine result self.now }
+        ensures { result ≡ call_line self.now }
     {
+        if self.expander.is_holding() {
+            return self.name_line;
+        }
         self.expander.outermost_line()
     }
 

@@ -5,7 +5,7 @@ ghost use Rattle.std.specs.IoError.{error_kind};
 ghost use Rattle.pp_lexer.specs.Location.{nowhere};
 ghost use Rattle.pp_model.specs.Run.{items_of, start};
 ghost use Rattle.pp_macros.specs.LexerErrors.{lexer_errors};
-ghost use Rattle.pp_rs.specs.Kept.{Stands, is_spent, errors_left, error_place};
+ghost use Rattle.pp_rs.specs.Kept.{Stands, is_spent, errors_left, error_place, call_line};
 ghost use Rattle.pp_rs.specs.Trying.{IsTried, add_sentence};
 
 use crate::SOURCE_LIMIT;
@@ -60,6 +60,7 @@ impl<'a> Preprocessor<'a> {
         ensures stands { IfSome result (λ pp. Stands pp (start (items_of input.now))) }
         ensures errors { IfSome result (λ pp. errors_left pp ≡ lexer_errors input.now) }
         ensures place { IfSome result (λ pp. error_place pp ≡ nowhere) }
+        ensures line { IfSome result (λ pp. call_line pp ≡ None) }
     {
         if input.len() >= SOURCE_LIMIT {
             return None;

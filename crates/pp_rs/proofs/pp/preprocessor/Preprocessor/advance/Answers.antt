@@ -21,7 +21,7 @@ returns-in-Ok-None-clause-passed c =
     let first = reached_first _ _ _ _ (ap (λ p. p.expander) c.self.view_is) (ap (λ p. p.source) c.self.view_is) (c.self.invariant.0 c.if-self.false) in
     let r = (reached_on _ _ _ _ first _ (c.in-Ok-None.ensures {u = tt}).advances.pauses).reached in
     let fresh : c.args.self.now.spent ≡ false = ap (λ p. p.spent) (sym c.self.view_is) ∙ c.if-self.false in
-    passed_pauses c.args.self.now _ _ _ _ r fresh c.if-self.false (ap (λ p. p.place) c.self.view_is)
+    passed_pauses c.args.self.now _ _ _ _ _ r fresh c.if-self.false (ap (λ p. p.place) c.self.view_is)
 
 pub invariant_of-self-2 : goal.invariant_of-self-2
 invariant_of-self-2 c = (
@@ -41,7 +41,7 @@ returns c =
     let found = rw c.in-Ok-Some.field-0-is at advanced.gives in
     let same = same_token _ c.in-Some.token.now found.0 (rw c.in-Some.is at c.token.ensures.token) found.1.ahead in
     record {
-      passed = passed_pauses c.args.self.now _ _ _ _ r fresh c.if-self.false (ap (λ p. p.place) c.self.view_is);
+      passed = passed_pauses c.args.self.now _ _ _ _ _ r fresh c.if-self.false (ap (λ p. p.place) c.self.view_is);
       ahead = λ e. (
         found.0,
         token_ahead_is _ c.if-self.false found.0 (ap (λ (t : Token). is_ordinary t.value) (sym same) ∙ sym c.is_ordinary.ensures ∙ e) _ found.1,

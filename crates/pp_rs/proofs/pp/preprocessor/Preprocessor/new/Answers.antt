@@ -1,5 +1,5 @@
 use Rattle.std.proofs.Common.{refl}
-use Rattle.pp_rs.specs.Kept.{is_spent, error_place}
+use Rattle.pp_rs.specs.Kept.{is_spent, error_place, call_line}
 use Rattle.pp_rs.proofs.runs.StartLemmas.{start_stands, start_errors}
 use Rattle.pp_rs.proofs.pp.preprocessor.Preprocessor.new.Goals as goal
 
@@ -16,3 +16,7 @@ returns-clause-errors c = rw (c.new.ensures, c.new-2.ensures) (start_errors c.ar
 pub returns-clause-place : goal.returns-clause-place
 unfolding error_place
 returns-clause-place c = refl
+
+pub returns-clause-line : goal.returns-clause-line
+unfolding call_line
+returns-clause-line c = rw c.new.ensures refl

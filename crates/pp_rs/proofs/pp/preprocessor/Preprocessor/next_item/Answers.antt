@@ -1,9 +1,18 @@
-use Rattle.std.proofs.Common.{◌≡◌, ◌∙◌, refl, ap, sym, false, arith}
+use Rattle.std.proofs.Common.{◌≡◌, ◌∙◌, refl, ap, sym, false, arith, ℕ, List, Option, Some, None}
 use Rattle.std.proofs.lemmas.Bool.{false≢true}
 use Rattle.pp_macros.specs.Item.{is_out_of_memory}
+use Rattle.pp_macros.specs.inner.Expander.{Expander}
+use Rattle.pp_macros.specs.inner.Frames.{Frame, outermost_frame_line}
+use Rattle.pp_macros.specs.Item.{Step}
+use Rattle.pp_model.specs.declared.read.Read.{Read}
+use Rattle.pp_rs.specs.Kept.{kept_line}
 use Rattle.pp_rs.proofs.runs.PausesLemmas.{reached_on, given_over}
 use Rattle.pp_rs.proofs.runs.NextLemmas.{reached_first, reached_more, falls_more, token_fits, end_fits, fault_fits, next_token, next_end, next_error, next_none, next_refused}
 use Rattle.pp_rs.proofs.pp.preprocessor.Preprocessor.next_item.Goals as goal
+
+free_kept : (o : Option (Step Read)) (line other : Option ℕ) (frames : List Frame) → o ≡ None → kept_line o line frames ≡ kept_line o other frames
+free_kept None line other frames free = refl
+free_kept (Some step) line other frames free = cc
 
 pub loop-token-init : goal.loop-token-init
 loop-token-init c = record {
@@ -72,7 +81,9 @@ returns-in-Ok-Some c =
     let on = reached_on _ _ _ _ c.loop-token.invariant.reached _ given.pauses in
     let fresh : c.args.self.now.spent ≡ false = ap (λ p. p.spent) (sym c.self.view_is) ∙ c.if-self.false in
     next_token _ _ _ _ _ _ on.reached c.args.self.now fresh refl refl c.in-Ok-Some.token c.loop-token.self-inside.spent
-    c.loop-token.self-inside.place c.loop-token.invariant.unspent c.loop-token.invariant.placed
+    c.loop-token.self-inside.place c.loop-token.self-inside.name_line c.loop-token.invariant.unspent c.loop-token.invariant.placed
+    (free_kept c.give_next.new.self.held c.loop-token.self-inside.name_line (outermost_frame_line given.between.frames)
+    c.give_next.new.self.frames (ap (λ (m : Expander). m.held) given.passes ∙ given.gives.free))
     (given_over _ _ _ _ _ given.gives given.passes) given.gives.holds
 
 pub returns-in-Ok : goal.returns-in-Ok
@@ -80,14 +91,16 @@ returns-in-Ok c =
     let on = reached_on _ _ _ _ c.loop-token.invariant.reached _ (rw c.in-Ok-None.field-0-is at (c.in-Ok-None.ensures {u = tt}).gives) in
     let fresh : c.args.self.now.spent ≡ false = ap (λ p. p.spent) (sym c.self.view_is) ∙ c.if-self.false in
     next_token _ _ _ _ _ _ on.reached c.args.self.now fresh refl refl c.in-Ok.token c.loop-token.self-inside.spent
-    c.loop-token.self-inside.place c.loop-token.invariant.unspent c.loop-token.invariant.placed c.in-Ok.ensures.turns c.in-Ok.ensures.holds
+    c.loop-token.self-inside.place c.outermost_line-self-inside.result c.loop-token.invariant.unspent c.loop-token.invariant.placed
+    (ap (λ line. kept_line c.turn_source.new.expander.held line c.turn_source.new.expander.frames) c.outermost_line-self-inside.ensures)
+    c.in-Ok.ensures.turns c.in-Ok.ensures.holds
 
 pub returns-in-Err-Finished : goal.returns-in-Err-Finished
 returns-in-Err-Finished c =
     let on = reached_on _ _ _ _ c.loop-token.invariant.reached _ (rw c.in-Ok-None.field-0-is at (c.in-Ok-None.ensures {u = tt}).gives) in
     let fresh : c.args.self.now.spent ≡ false = ap (λ p. p.spent) (sym c.self.view_is) ∙ c.if-self.false in
     next_end _ _ _ _ _ _ on.reached c.args.self.now fresh refl refl c.loop-token.self-inside.spent
-    c.loop-token.self-inside.place c.loop-token.invariant.unspent c.loop-token.invariant.placed
+    c.loop-token.self-inside.place c.outermost_line-self-inside.result c.loop-token.invariant.unspent c.loop-token.invariant.placed
     (rw c.in-Err-Finished.field-0-is at c.in-Err-Finished.ensures.turns)
 
 pub returns-in-Err-Error : goal.returns-in-Err-Error
@@ -97,7 +110,7 @@ returns-in-Err-Error c =
     let error = c.in-Err-Error.error in
     rw (c.refused_item.ensures.item, c.refused_item.ensures.spent)
     (next_error _ _ _ _ _ _ on.reached c.args.self.now fresh refl refl error c.refused_item.new.source
-    c.refused_item.new.place c.refused_item.ensures.source (is_out_of_memory error.0) refl
+    c.refused_item.new.place c.outermost_line-self-inside.result c.refused_item.ensures.source (is_out_of_memory error.0) refl
     (rw c.in-Err-Error.field-0-is at c.in-Err-Error.ensures.turns) c.refused_item.ensures.place)
 
 pub returns-in-Err : goal.returns-in-Err

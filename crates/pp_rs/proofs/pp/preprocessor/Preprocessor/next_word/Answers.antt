@@ -5,7 +5,7 @@ use Rattle.pp_directives.specs.inner.PlainText.{IsInText}
 use Rattle.pp_rs.specs.Kept.{Preprocessing}
 use Rattle.pp_rs.specs.inner.Fit.{ReadsText}
 use Rattle.pp_rs.proofs.runs.NextLemmas.{reached_first, reached_more, falls_more, token_fits, next_token}
-use Rattle.pp_rs.proofs.runs.PassedLemmas.{newline_over, word_over, passed_pauses}
+use Rattle.pp_rs.proofs.runs.PassedLemmas.{newline_over, word_over, passed_pauses, idle_line}
 use Rattle.pp_rs.proofs.pp.preprocessor.Preprocessor.next_word.Goals as goal
 
 pub words-init : goal.words-init
@@ -58,7 +58,8 @@ returns-in-Some c =
     let reads : ReadsText c.args.self.now.expander c.args.self.now.source c.args.self.now.spent = c.is_in_text.ensures.text c.if-not-is_in_text.false in
     record {
       next = next_token _ _ _ _ _ _ c.words.invariant.reached c.args.self.now reads.unspent refl refl (word_token c.in-Some.word) c.words.self-inside.spent
-          c.words.self-inside.place c.words.invariant.unspent c.words.invariant.placed
+          c.words.self-inside.place c.words.self-inside.name_line c.words.invariant.unspent c.words.invariant.placed
+          (idle_line c.words.self-inside.expander _ _ c.words.invariant.idle)
           (word_over _ _ _ (word_token c.in-Some.word) c.words.invariant.idle takes.step takes.itself) takes.holds;
       plain = record { no_hash = takes.no_hash; ascii = takes.ascii };
     }
@@ -67,4 +68,4 @@ pub returns-then-not-pass_newline : goal.returns-then-not-pass_newline
 returns-then-not-pass_newline c =
     let reads : ReadsText c.args.self.now.expander c.args.self.now.source c.args.self.now.spent = c.is_in_text.ensures.text c.if-not-is_in_text.false in
     rw (c.if-not-pass_newline.ensures.pauses, c.in_default.ensures.gives)
-    (passed_pauses c.args.self.now _ _ _ _ c.words.invariant.reached reads.unspent c.words.invariant.unspent c.words.invariant.placed)
+    (passed_pauses c.args.self.now _ _ _ _ _ c.words.invariant.reached reads.unspent c.words.invariant.unspent c.words.invariant.placed)

@@ -3,7 +3,7 @@ use Rattle.pp_directives.specs.WordTokens.{word_token}
 use Rattle.pp_rs.specs.Kept.{is_spent}
 use Rattle.pp_rs.proofs.runs.NextLemmas.{reached_first, reached_more, token_fits, next_token, some_items}
 use Rattle.pp_rs.proofs.runs.OpenWordLemmas.{bare_over, opens_over}
-use Rattle.pp_rs.proofs.runs.PassedLemmas.{passed_pauses}
+use Rattle.pp_rs.proofs.runs.PassedLemmas.{passed_pauses, idle_line}
 use Rattle.pp_rs.proofs.pp.preprocessor.Preprocessor.open_word.Goals as goal
 
 -- a word that names no macro
@@ -25,7 +25,8 @@ returns-in_default-macro_of_word-clause-gives c =
     let fresh : c.args.self.now.spent ≡ false = ap (λ p. p.spent) (sym c.self.view_is) ∙ c.if-self.false in
     record {
       next = next_token _ _ _ _ _ _ first c.args.self.now fresh refl refl (word_token c.in-Some.word) c.self.inside.spent c.self.inside.place
-          c.if-self.false (ap (λ p. p.place) c.self.view_is)
+          c.self.inside.name_line c.if-self.false (ap (λ p. p.place) c.self.view_is)
+          (idle_line c.self.inside.expander _ _ (sym c.is_idle.ensures ∙ c.if-not-is_idle.false))
           (bare_over _ _ _ c.in-Some.word (sym c.is_idle.ensures ∙ c.if-not-is_idle.false) takes
           (sym (rw c.in_default-macro_of_word.is at c.macro_of_word.ensures))) takes.holds;
       plain = record { no_hash = takes.no_hash; ascii = takes.ascii };
@@ -51,7 +52,7 @@ returns-in-Ok-clause-gives c =
     let on = reached_more _ _ _ _ _ _ first
     (opens_over _ _ _ c.in-Some.word (sym c.is_idle.ensures ∙ c.if-not-is_idle.false) takes c.open_shared.new.expander _ _
     (sym (rw c.in-Some-macro_of_word.is at c.macro_of_word.ensures)) (rw c.in-Ok.is at c.open_shared.ensures)) in
-    passed_pauses c.args.self.now _ _ _ _ on (ap (λ p. p.spent) (sym c.self.view_is) ∙ c.if-self.false) c.if-self.false
+    passed_pauses c.args.self.now _ _ _ _ _ on (ap (λ p. p.spent) (sym c.self.view_is) ∙ c.if-self.false) c.if-self.false
     (ap (λ p. p.place) c.self.view_is)
 
 -- no memory to open it

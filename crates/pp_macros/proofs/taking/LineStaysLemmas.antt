@@ -1,0 +1,62 @@
+-- Taking a token leaves the outermost macro open.
+use Rattle.std.proofs.Common.{◌≡◌, ◌∙◌, ℕ, sym, ap, refl, List, [], ◌∷◌, Option, Some, None, Ok, Err, IfSome, inl, inr}
+use Rattle.std.specs.Prelude.{unwrap_or}
+use Rattle.pp_lexer.specs.declared.token.Token.{Token}
+use Rattle.pp_model.specs.Names.{Name}
+use Rattle.pp_model.specs.declared.read.Read.{Read}
+use Rattle.pp_macros.specs.Item.{Step}
+use Rattle.pp_macros.specs.inner.Expander.{Expander, StepsFetching, StepsTaking, held, moved, taken_as}
+use Rattle.pp_macros.specs.inner.Frames.{Frame, Advance, advance, body_token, outermost_frame_line}
+use Rattle.pp_macros.specs.inner.Reader.{Reader}
+use Rattle.pp_macros.specs.inner.Reading.{painted_step}
+use Rattle.pp_macros.specs.inner.Roles.{role_ahead}
+use Rattle.pp_macros.specs.inner.Turns.{Moves, as_pause, frame_move, masks}
+use Rattle.pp_macros.specs.declared.define.Role.{Role}
+use Rattle.pp_macros.specs.declared.define.Role.TheVariants.{Itself, Parameter, LastParameter}
+
+-- a step of a frame keeps its line
+body_line : (f : Frame) (token : Token) (rest : List Token) (role : Role) → (body_token f token rest role).after.line ≡ f.line
+body_line f token rest Itself = refl
+body_line f token rest (Parameter k) = refl
+body_line f token rest (LastParameter k) = refl
+
+frame_line : (name : Name) (line : ℕ) (parameters : List Name) (body : List Token) (arguments : List (List Read)) (reading : Option (List Read))
+    → IfSome (advance (record { name = name; line = line; parameters = parameters; body = body; arguments = arguments; reading = reading }))
+    (λ a. a.after.line ≡ line)
+frame_line name line parameters body arguments (Some (read ∷ rest)) = refl
+frame_line name line parameters body arguments (Some []) = refl
+frame_line name line parameters [] arguments None = tt
+frame_line name line parameters (token ∷ rest) arguments None =
+    body_line (record { name = name; line = line; parameters = parameters; body = token ∷ rest; arguments = arguments; reading = None }) token rest
+    (role_ahead parameters (token ∷ rest))
+
+step_line : (f : Frame) → IfSome (advance f) (λ a. a.after.line ≡ f.line)
+step_line f = frame_line f.name f.line f.parameters f.body f.arguments f.reading
+
+-- a frame that gives a token stays open, and so does the outermost one
+gives_line : (fs : List Frame) (f : Frame) (a : Option Advance) (read : Read) → IfSome a (λ b. b.after.line ≡ f.line) → Ok read ≡ (frame_move fs a).gives
+    → outermost_frame_line (frame_move fs a).after ≡ outermost_frame_line (f ∷ fs)
+gives_line fs f (Some a) read same gives = ap (λ line. Some (unwrap_or (outermost_frame_line fs) line)) same
+gives_line fs f None read same gives = cc
+
+move_line : (frames after : List Frame) (r s : Reader) (read : Read) → Moves frames r (Ok read) after s
+    → outermost_frame_line after ≡ outermost_frame_line frames
+move_line [] after r s read moves = ap outermost_frame_line moves.0
+move_line (f ∷ fs) after r s read (same, inl (gives, is)) =
+    ap outermost_frame_line is ∙ gives_line fs f (advance f) read (step_line f) gives
+move_line (f ∷ fs) after r s read (same, inr refused) = cc
+
+moved_line : (m n : Expander) (r s : Reader) (move : Step Read) (read : Read) → Moves m.frames r move n.frames s
+    → Ok read ≡ painted_step (masks n.frames s) (taken_as move n.frames s) → outermost_frame_line n.frames ≡ outermost_frame_line m.frames
+moved_line m n r s (Ok first) read moves is = move_line m.frames n.frames r s first moves
+moved_line m n r s (Err exit) read moves is = cc
+
+fetch_line : (m n : Expander) (r s : Reader) (first : Step Read) (read : Read) → StepsFetching m r first n s
+    → Ok read ≡ painted_step (masks n.frames s) first → outermost_frame_line n.frames ≡ outermost_frame_line m.frames
+fetch_line m n r s first read (held first1 m1 n1 r1 s1 is at same) paints = ap (λ (k : Expander). outermost_frame_line k.frames) at
+fetch_line m n r s first read (moved move first1 m1 n1 r1 s1 free moves is freed) paints =
+    moved_line m n r s move read moves (paints ∙ ap (painted_step (masks n.frames s)) is)
+
+pub token_line : (m n : Expander) (r s : Reader) (read : Read) → StepsTaking m r (Ok read) n s
+    → outermost_frame_line n.frames ≡ outermost_frame_line m.frames
+token_line m n r s read steps = fetch_line m n r s steps.first read steps.fetches steps.paints
