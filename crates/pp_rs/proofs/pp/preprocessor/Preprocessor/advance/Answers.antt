@@ -4,7 +4,7 @@ use Rattle.pp_lexer.specs.declared.token.Token.{Token}
 use Rattle.pp_rs.specs.Kept.{is_spent}
 use Rattle.pp_rs.proofs.runs.NextLemmas.{reached_first}
 use Rattle.pp_rs.proofs.runs.PausesLemmas.{reached_on}
-use Rattle.pp_rs.proofs.runs.PassedLemmas.{passed_pauses, token_ahead_is, same_token}
+use Rattle.pp_rs.proofs.runs.PassedLemmas.{passed_nothing, passed_pauses, token_ahead_is, same_token}
 use Rattle.pp_rs.proofs.pp.preprocessor.Preprocessor.advance.Goals as goal
 
 pub invariant_of-self : goal.invariant_of-self
@@ -52,3 +52,6 @@ returns c =
 pub returns-in-Err-clause-refused : goal.returns-in-Err-clause-refused
 unfolding is_spent
 returns-in-Err-clause-refused c = refl
+
+pub returns-then-self-clause-passed : goal.returns-then-self-clause-passed
+returns-then-self-clause-passed c = rw (← c.self.view_is) (passed_nothing _)

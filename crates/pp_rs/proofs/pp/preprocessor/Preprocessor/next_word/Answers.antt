@@ -5,7 +5,7 @@ use Rattle.pp_directives.specs.inner.PlainText.{IsInText}
 use Rattle.pp_rs.specs.Kept.{Preprocessing}
 use Rattle.pp_rs.specs.inner.Fit.{ReadsText}
 use Rattle.pp_rs.proofs.runs.NextLemmas.{reached_first, reached_more, falls_more, token_fits, next_token}
-use Rattle.pp_rs.proofs.runs.PassedLemmas.{newline_over, word_over, passed_pauses, idle_line}
+use Rattle.pp_rs.proofs.runs.PassedLemmas.{newline_over, word_over, passed_nothing, passed_pauses, idle_line}
 use Rattle.pp_rs.proofs.pp.preprocessor.Preprocessor.next_word.Goals as goal
 
 pub words-init : goal.words-init
@@ -69,3 +69,6 @@ returns-then-not-pass_newline c =
     let reads : ReadsText c.args.self.now.expander c.args.self.now.source c.args.self.now.spent = c.is_in_text.ensures.text c.if-not-is_in_text.false in
     rw (c.if-not-pass_newline.ensures.pauses, c.in_default.ensures.gives)
     (passed_pauses c.args.self.now _ _ _ _ _ c.words.invariant.reached reads.unspent c.words.invariant.unspent c.words.invariant.placed)
+
+pub returns-then-not-is_in_text : goal.returns-then-not-is_in_text
+returns-then-not-is_in_text c = rw c.is_in_text.ensures.same (passed_nothing _)

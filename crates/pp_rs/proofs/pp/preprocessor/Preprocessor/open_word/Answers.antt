@@ -3,7 +3,7 @@ use Rattle.pp_directives.specs.WordTokens.{word_token}
 use Rattle.pp_rs.specs.Kept.{is_spent}
 use Rattle.pp_rs.proofs.runs.NextLemmas.{reached_first, reached_more, token_fits, next_token, some_items}
 use Rattle.pp_rs.proofs.runs.OpenWordLemmas.{bare_over, opens_over}
-use Rattle.pp_rs.proofs.runs.PassedLemmas.{passed_pauses, idle_line}
+use Rattle.pp_rs.proofs.runs.PassedLemmas.{passed_nothing, passed_pauses, idle_line}
 use Rattle.pp_rs.proofs.pp.preprocessor.Preprocessor.open_word.Goals as goal
 
 -- a word that names no macro
@@ -68,3 +68,10 @@ returns-in-Err-clause-some_left c =
     some_items _ _ _ _ _ _ first c.args.self.now (ap (λ p. p.spent) (sym c.self.view_is) ∙ c.if-self.false) refl refl
     (opens_over _ _ _ c.in-Some.word (sym c.is_idle.ensures ∙ c.if-not-is_idle.false) takes _ _ _
     (sym (rw c.in-Some-macro_of_word.is at c.macro_of_word.ensures)) refl)
+
+pub returns-then-self-clause-gives : goal.returns-then-self-clause-gives
+returns-then-self-clause-gives c = rw (← c.self.view_is) (passed_nothing _)
+
+-- no such word
+pub returns-in_default-clause-gives : goal.returns-in_default-clause-gives
+returns-in_default-clause-gives c = rw (c.in_default.ensures {u = tt}, ← c.self.view_is) (passed_nothing _)
