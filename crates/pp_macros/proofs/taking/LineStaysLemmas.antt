@@ -3,22 +3,19 @@ use Rattle.std.proofs.Common.{◌≡◌, ◌∙◌, ℕ, sym, ap, refl, List, []
 use Rattle.std.specs.Prelude.{unwrap_or}
 use Rattle.pp_lexer.specs.declared.token.Token.{Token}
 use Rattle.pp_model.specs.Names.{Name}
+use Rattle.pp_model.specs.SpliceList.{parameter_of}
 use Rattle.pp_model.specs.declared.read.Read.{Read}
 use Rattle.pp_macros.specs.Item.{Step}
 use Rattle.pp_macros.specs.inner.Expander.{Expander, StepsFetching, StepsTaking, held, moved, taken_as}
 use Rattle.pp_macros.specs.inner.Frames.{Frame, Advance, advance, body_token, outermost_frame_line}
 use Rattle.pp_macros.specs.inner.Reader.{Reader}
 use Rattle.pp_macros.specs.inner.Reading.{painted_step}
-use Rattle.pp_macros.specs.inner.Roles.{role_ahead}
 use Rattle.pp_macros.specs.inner.Turns.{Moves, as_pause, frame_move, masks}
-use Rattle.pp_macros.specs.declared.define.Role.{Role}
-use Rattle.pp_macros.specs.declared.define.Role.TheVariants.{Itself, Parameter, LastParameter}
 
 -- a step of a frame keeps its line
-body_line : (f : Frame) (token : Token) (rest : List Token) (role : Role) → (body_token f token rest role).after.line ≡ f.line
-body_line f token rest Itself = refl
-body_line f token rest (Parameter k) = refl
-body_line f token rest (LastParameter k) = refl
+body_line : (f : Frame) (token : Token) (rest : List Token) (parameter : Option ℕ) → (body_token f token rest parameter).after.line ≡ f.line
+body_line f token rest None = refl
+body_line f token rest (Some k) = refl
 
 frame_line : (name : Name) (line : ℕ) (parameters : List Name) (body : List Token) (arguments : List (List Read)) (reading : Option (List Read))
     → IfSome (advance (record { name = name; line = line; parameters = parameters; body = body; arguments = arguments; reading = reading }))
@@ -28,7 +25,7 @@ frame_line name line parameters body arguments (Some []) = refl
 frame_line name line parameters [] arguments None = tt
 frame_line name line parameters (token ∷ rest) arguments None =
     body_line (record { name = name; line = line; parameters = parameters; body = token ∷ rest; arguments = arguments; reading = None }) token rest
-    (role_ahead parameters (token ∷ rest))
+    (parameter_of parameters token.value)
 
 step_line : (f : Frame) → IfSome (advance f) (λ a. a.after.line ≡ f.line)
 step_line f = frame_line f.name f.line f.parameters f.body f.arguments f.reading
