@@ -1,6 +1,7 @@
-"""The book of worked cases, read."""
+"""The worked cases: those of the book, and those of the sheet of calls."""
 
 import os
+import re
 import sys
 
 sys.dont_write_bytecode = True
@@ -39,9 +40,7 @@ def split(items):
 def worked_cases():
     """The cases of crates/pp_vectors/stdin."""
     cases, heading = [], ""
-    with open(os.path.join(programs.folder_of("pp_vectors"), "stdin"), encoding="utf-8") as file:
-        lines = file.read().split("\n")
-    for line in lines:
+    for line in programs.text_of("crates/pp_vectors/stdin").split("\n"):
         mark, _, rest = line.partition(" ")
         if mark == "#":
             heading = rest
@@ -69,3 +68,58 @@ def worked_cases():
 def worked_sources():
     """The sources of the book."""
     return [case.source for case in worked_cases()]
+
+
+ESCAPES = {"n": "\n", "r": "\r", "t": "\t"}
+
+
+def unescaped(text):
+    return re.sub(r"\\(.)", lambda it: ESCAPES.get(it.group(1), it.group(1)), text, flags=re.S)
+
+
+# What a binding can't do, or what changes what comes after it.
+OTHERS = ("all", "drain")
+
+
+def calls_of(case, answers):
+    """Takes the calls that a binding can make: of `add_define` and `next` up to `rest`, or for the places of errors; and what
+    the lexer gives."""
+    is_open = True
+    for word, lines in answers:
+        if word == "lexer":
+            case.lexed = lines[:-1]
+        elif word in OTHERS:
+            is_open = False
+        elif not is_open:
+            continue
+        elif word == "errors" and not case.calls:
+            case.places = [re.fullmatch(r"Error \w+(?:\(.*\))? (.*)", line).group(1) for line in lines]
+            is_open = False
+        elif word == "rest":
+            case.replies += lines[:-2]
+            case.has_replies, is_open = True, False
+        elif word == "next" or "=" in word:
+            case.calls.append(word)
+            case.replies += lines
+
+
+def sheet():
+    """The cases of crates/test_calls/stdin whose calls a binding can make, with what crates/test_calls/stdout says."""
+    cases, answers = [], []
+    for line in programs.text_of("crates/test_calls/stdout").split("\n")[:-1]:
+        mark, _, rest = line.partition(" ")
+        if mark in ("#", "=", "*") and (not cases or answers[-1]):
+            cases.append(Case(f"the sheet, {rest[:60]}"))
+            answers.append([])
+        if mark == "=":
+            cases[-1].more(unescaped(rest))
+        elif mark == "*":
+            times, _, text = rest.partition(" ")
+            cases[-1].more(int(times) * unescaped(text))
+        elif mark == ">":
+            answers[-1].append((rest, []))
+        elif mark != "#":
+            answers[-1][-1][1].append(line)
+    for case, answered in zip(cases, answers):
+        calls_of(case, answered)
+    return [it for it in cases if it.has_replies or it.places is not None or it.lexed is not None]

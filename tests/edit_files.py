@@ -3,21 +3,12 @@
 import os
 
 import programs
+from programs import text_of, write
 
 EDITS = os.path.join(programs.TOP, "tests", "edits")
 
 # Wrong bodies that no prover can refuse, in a folder for each program that shows them.
 CASES = os.path.join(EDITS, "cases")
-
-
-def text_of(path):
-    with open(path, encoding="utf-8") as file:
-        return file.read()
-
-
-def write(path, text):
-    with open(path, "w", encoding="utf-8") as file:
-        file.write(text)
 
 
 def names_in(folder):

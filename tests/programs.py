@@ -7,6 +7,7 @@ import shutil
 import signal
 import subprocess
 import sys
+from pathlib import Path
 
 sys.dont_write_bytecode = True
 
@@ -23,14 +24,27 @@ def folder_of(crate):
     return os.path.join(TOP, "crates", crate)
 
 
+def text_of(path):
+    """The text of a file. A path that isn't absolute begins at the top of the repository."""
+    return Path(TOP, path).read_text(encoding="utf-8")
+
+
+def write(path, text, mode=None):
+    """Writes a file, in a folder that is made if there is none."""
+    path = Path(TOP, path)
+    path.parent.mkdir(parents=True, exist_ok=True)
+    path.write_text(text, encoding="utf-8")
+    if mode is not None:
+        path.chmod(mode)
+
+
 def with_dependencies(crate):
     """The crate and those of the repository that it needs."""
     lists = {}
-    with open(os.path.join(TOP, "crates.txt"), encoding="utf-8") as file:
-        for line in file:
-            name, _, rest = line.partition("#")[0].partition(":")
-            if name.strip():
-                lists[name.split()[0]] = rest.split()
+    for line in text_of("crates.txt").splitlines():
+        name, _, rest = line.partition("#")[0].partition(":")
+        if name.strip():
+            lists[name.split()[0]] = rest.split()
     found = []
 
     def add(name):
@@ -60,6 +74,13 @@ def program(name):
 def library():
     """The path of the C library."""
     return found("libpp_c.a")
+
+
+def command(words, **given):
+    """Runs a command that has to end well."""
+    done = subprocess.run(words, stdout=subprocess.PIPE, stderr=subprocess.STDOUT, text=True, **given)
+    if done.returncode != 0:
+        sys.exit(f"{' '.join(words)}\n{done.stdout[-2000:]}")
 
 
 def compile_c(words):
@@ -94,10 +115,9 @@ def copy_sources(crate, top):
     for name in names:
         for folder in ("src", "specs", "proofs"):
             copy_folder(folder, name, top)
-    with open(os.path.join(TOP, "crates.txt"), encoding="utf-8") as file:
-        lines = [line for line in file if line.partition("#")[0].partition(":")[0].split()[:1] in [[it] for it in names]]
-    with open(os.path.join(top, "crates.txt"), "w", encoding="utf-8") as file:
-        file.writelines(lines)
+    lines = text_of("crates.txt").splitlines(keepends=True)
+    own = [line for line in lines if line.partition("#")[0].partition(":")[0].split()[:1] in [[it] for it in names]]
+    write(f"{top}/crates.txt", "".join(own))
 
 
 def copy_kept_work(crate, top):
@@ -172,6 +192,10 @@ class Count:
             print(f"FAILED: {name}: {fault}", flush=True)
         else:
             self.passed += 1
+
+    def hold(self, name, found, wanted):
+        """Counts a case, which failed if what was found isn't what was wanted."""
+        self.add(name, None if found == wanted else f"found {found!r:.600}, wanted {wanted!r:.600}")
 
     def end(self):
         """Prints the last line, and ends with status 0 if none failed."""

@@ -1,4 +1,4 @@
-"""The sheet of calls, read, and the items of bindings in the words of the book."""
+"""What examples/c/show.c prints of items, in the words of the book."""
 
 import os
 import re
@@ -8,77 +8,19 @@ sys.dont_write_bytecode = True
 sys.path.insert(0, os.path.dirname(os.path.abspath(__file__)))
 import lexer_model
 import programs
-from book import Case
 
-TOKENS = os.path.join(programs.folder_of("pp_lexer"), "src", "token.rt")
 NOWHERE = "0..0 L1"
 
 
 def variants(enum):
     """The variants of an enum of token.rt, in their order."""
-    with open(TOKENS, encoding="utf-8") as file:
-        body = re.search(r"pub enum " + enum + r" \{\n(.*?)\n\}", file.read(), re.S).group(1)
+    text = programs.text_of("crates/pp_lexer/src/token.rt")
+    body = re.search(r"pub enum " + enum + r" \{\n(.*?)\n\}", text, re.S).group(1)
     return re.findall(r"^    (\w+)", body, re.M)
 
 
 PUNCTUATORS = variants("Punct")
 ERRORS = variants("PreprocessorError")
-
-ESCAPES = {"n": "\n", "r": "\r", "t": "\t"}
-
-
-def unescaped(text):
-    return re.sub(r"\\(.)", lambda it: ESCAPES.get(it.group(1), it.group(1)), text, flags=re.S)
-
-
-# What a binding can't do, or what changes what comes after it.
-OTHERS = ("all", "drain")
-
-
-def calls_of(case, answers):
-    """Takes the calls that a binding can make: of `add_define` and `next` up to `rest`, or for the places of errors; and what
-    the lexer gives."""
-    is_open = True
-    for word, lines in answers:
-        if word == "lexer":
-            case.lexed = lines[:-1]
-        elif word in OTHERS:
-            is_open = False
-        elif not is_open:
-            continue
-        elif word == "errors" and not case.calls:
-            case.places = [re.fullmatch(r"Error \w+(?:\(.*\))? (.*)", line).group(1) for line in lines]
-            is_open = False
-        elif word == "rest":
-            case.replies += lines[:-2]
-            case.has_replies, is_open = True, False
-        elif word == "next" or "=" in word:
-            case.calls.append(word)
-            case.replies += lines
-
-
-def sheet():
-    """The cases of crates/test_calls/stdin whose calls a binding can make, with what crates/test_calls/stdout says."""
-    cases, answers = [], []
-    with open(os.path.join(programs.folder_of("test_calls"), "stdout"), encoding="utf-8") as file:
-        printed = file.read().split("\n")[:-1]
-    for line in printed:
-        mark, _, rest = line.partition(" ")
-        if mark in ("#", "=", "*") and (not cases or answers[-1]):
-            cases.append(Case(f"the sheet, {rest[:60]}"))
-            answers.append([])
-        if mark == "=":
-            cases[-1].more(unescaped(rest))
-        elif mark == "*":
-            times, _, text = rest.partition(" ")
-            cases[-1].more(int(times) * unescaped(text))
-        elif mark == ">":
-            answers[-1].append((rest, []))
-        elif mark != "#":
-            answers[-1][-1][1].append(line)
-    for case, answered in zip(cases, answers):
-        calls_of(case, answered)
-    return [it for it in cases if it.has_replies or it.places is not None or it.lexed is not None]
 
 
 def truth(text):
