@@ -3,7 +3,7 @@
 import os
 
 import programs
-from programs import text_of, write
+from programs import text_of
 
 EDITS = os.path.join(programs.TOP, "tests", "edits")
 
