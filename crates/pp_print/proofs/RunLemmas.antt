@@ -1,5 +1,5 @@
 -- Printing the tokens of a run one by one
-use Rattle.std.proofs.Common.{◌≡◌, ℕ, false, List, [], ◌∷◌, ◌++◌, Option, Some, None, Ok, IsTrue, sym, ap, ◌∙◌, append_assoc, append-nil}
+use Rattle.std.proofs.Common.{refl, ◌≡◌, ℕ, false, List, [], ◌∷◌, ◌++◌, Option, Some, None, Ok, IsTrue, sym, ap, ◌∙◌, append_assoc, append-nil}
 use Rattle.std.specs.Io.KnownBytes.{Appends}
 use Rattle.std.proofs.lemmas.Grind.{flat_map-append}
 use Rattle.pp_model.specs.declared.outcome.Outcome.TheVariants as outcome
