@@ -111,12 +111,18 @@ fn run_with(
 ) -> Result<Ended, Failure>
     requires { length source.now < 2 ^ 32 - 1 }
 {
-    let findings = findings_backwards(alloc, source, arguments.warnings, definitions)?;
     let mut texts = Texts::new(alloc, source);
     let mut items = Preprocessor::new(alloc, source);
     let ended = match add_definitions(alloc, &mut items, &mut texts, definitions) {
         Ok(()) => run_over_items(
-            alloc, reporter, arguments, source, replaced, &mut items, &texts, findings,
+            alloc,
+            reporter,
+            arguments,
+            source,
+            replaced,
+            definitions,
+            &mut items,
+            &texts,
         ),
         Err(failure) => Err(failure),
     };
@@ -131,12 +137,13 @@ fn run_over_items<'x>(
     arguments: &Arguments<'_>,
     source: &'x str,
     replaced: &'x [usize],
+    definitions: &[Definition<'_>],
     items: &mut Preprocessor<'_>,
     texts: &'x Texts<'x>,
-    findings: Vec<Diagnostic<'x>>,
 ) -> Result<Ended, Failure>
     requires { length source.now < 2 ^ 32 - 1 }
 {
+    let findings = findings_backwards(alloc, source, arguments.warnings, definitions)?;
     let explainer = Explainer::new(alloc, source, texts, replaced);
     let mut run = Run::new(alloc, reporter, arguments, texts, explainer, findings);
     run.read_to_end(items)?;
