@@ -8,6 +8,8 @@
 #include <string.h>
 #include <sys/mman.h>
 
+_Static_assert(sizeof(pp_item) == 40, "docs/GUIDE.md says how much memory an item takes");
+
 /* The library's heap, of which one allocation can fail. */
 typedef struct {
     bool ok;
