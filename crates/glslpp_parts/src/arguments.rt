@@ -99,7 +99,7 @@ fn bare_command<'a>(alloc: Global) -> Command<'a>
 {
     Command::new(alloc, "glslpp")
         .version("0.1.0")
-        .about("Preprocesses GLSL, and prints each token on its line")
+        .about("Preprocesses GLSL, and keeps the source's lines")
         .override_usage("glslpp [OPTION]... [FILE]...")
         .after_help(AFTER_HELP)
 }
@@ -150,7 +150,7 @@ fn with_value_options<'a>(alloc: Global, command: Command<'a>) -> Result<Command
 
 const DEFINE_HELP: &str = "Define a macro before the source, as 1 if no content is given";
 
-const UNDEFINE_HELP: &str = "Take back each -D of the name before it, or a name of GLSL's own";
+const UNDEFINE_HELP: &str = "Undefine NAME, also if predefined";
 
 const OUTPUT_HELP: &str = "Write to the file, if no source has an error";
 
@@ -210,7 +210,7 @@ fn with_flags<'a>(alloc: Global, command: Command<'a>) -> Result<Command<'a>, Al
     ensures { IfOk result (λ new. options_of new ≡ options_of command.entry ++ flags) }
 {
     let first_error = long_flag(alloc, "first-error", "End at the first error");
-    let undef = long_flag(alloc, "undef", "Define no name of GLSL's own");
+    let undef = long_flag(alloc, "undef", "Define no predefined name");
     let first = with_option(command, MESSAGES, first_error)?;
     let second = with_option(first, DEFINITIONS, undef)?;
     Ok(second)
@@ -286,9 +286,9 @@ fn with_foreign_options<'a>(alloc: Global, command: Command<'a>) -> Result<Comma
     Ok(second)
 }
 
-const ONLY_HELP: &str = "Do nothing, as -E of a compiler is what this is";
+const ONLY_HELP: &str = "Accepted and ignored";
 
-const STAGE_HELP: &str = "Do nothing, since no stage is told apart";
+const STAGE_HELP: &str = "Accepted and ignored";
 
 /// An option that may be repeated.
 pub(crate) fn definition_option<'a>(
