@@ -85,7 +85,7 @@ pub(crate) fn of_unexpected_token<'a>(
     value: &Value,
 ) -> Result<Option<String>, AllocError> {
     if line.word().is_empty() {
-        let message = format!(in alloc; "`{}` is no directive", place.here)?;
+        let message = format!(in alloc; "`{}` is not a directive", place.here)?;
         return Ok(Some(message));
     }
     let Some((before, token)) = line.split_at(place) else {
@@ -103,7 +103,7 @@ pub(crate) fn of_unexpected_token<'a>(
             return of_token_in_expression(alloc, &found, value);
         }
         "else" if name_of(token) == Some("if") => {
-            String::from_str(alloc, "`#else if` is no directive: use `#elif`")?
+            String::from_str(alloc, "`#else if` is not a directive: use `#elif`")?
         }
         word @ ("else" | "endif") => format!(in alloc; "extra token `{text}` after `#{word}`")?,
         "define" | "undef" | "ifdef" | "ifndef" if before.is_empty() => {

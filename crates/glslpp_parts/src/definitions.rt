@@ -55,7 +55,7 @@ fn check_name(alloc: Global, option: &str, name: &str) -> Result<(), Failure>
     let cause = if name.contains('(') {
         "macros with parameters are defined in the source"
     } else {
-        "this is no name"
+        "not a macro name"
     };
     Err(refusal(alloc, option, name, cause))
 }
