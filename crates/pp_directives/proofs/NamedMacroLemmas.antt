@@ -5,9 +5,10 @@ use Rattle.pp_lexer.specs.declared.lexer.plain.Form.{Form}
 use Rattle.pp_lexer.specs.declared.lexer.plain.Form.TheVariants.{Identifier, Hash}
 use Rattle.pp_model.specs.Definitions.{Definition}
 use Rattle.pp_model.specs.Names.{Name}
+use Rattle.pp_macros.specs.inner.Defined.{opened_by}
 use Rattle.pp_macros.specs.inner.Reader.{of_source}
 use Rattle.pp_macros.specs.inner.Source.{Source}
-use Rattle.pp_macros.specs.inner.Turns.{macro_of_value, opened_by}
+use Rattle.pp_macros.specs.inner.Turns.{macro_of_value}
 use Rattle.pp_directives.specs.WordTokens.{word_value}
 
 -- a macro that is found has the name that was looked for

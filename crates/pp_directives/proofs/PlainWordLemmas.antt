@@ -1,19 +1,13 @@
 -- A word of plain text that comes next is passed.
-use Rattle.std.proofs.Common.{◌≡◌, ◌≢◌, ℕ, false, List, [], ◌∷◌, length, drop, refl, sym, ◌∙◌, ap, Option, Ok}
+use Rattle.std.proofs.Common.{drop, sym, ◌∙◌, ap, Option}
 use Rattle.pp_lexer.specs.Kept.{CanPass}
-use Rattle.pp_lexer.specs.Lexed.{Seen, Lexed, after_first_item, after_first, comments_before}
-use Rattle.pp_lexer.specs.PlainItems.{value_of, token_of, IsNextWord}
-use Rattle.pp_lexer.specs.declared.lexer.item.TokenValue.{TokenValue}
-use Rattle.pp_lexer.specs.declared.lexer.plain.Form.{Form}
-use Rattle.pp_lexer.specs.declared.lexer.plain.Form.TheVariants.{Identifier, Integer, Unsigned, Float, SuffixedFloat, Punct, Hash}
+use Rattle.pp_lexer.specs.Lexed.{Lexed, comments_before}
+use Rattle.pp_lexer.specs.PlainItems.{IsNextWord}
 use Rattle.pp_lexer.specs.declared.lexer.plain_item.PlainItem.{PlainItem}
 use Rattle.pp_lexer.specs.declared.token.Location.{Location}
-use Rattle.pp_model.specs.Conversions.{is_newline}
-use Rattle.pp_model.specs.Lines.{ends_line}
 use Rattle.pp_macros.specs.inner.LineReading.{next_token}
 use Rattle.pp_macros.specs.inner.SourceLexed.{SourceLexed, unreported_at}
-use Rattle.pp_directives.specs.inner.Lined.{AreEnded}
-use Rattle.pp_directives.specs.inner.PlainText.{lexed_of, IsPeeked, PassesBlanks, PassesWord}
+use Rattle.pp_directives.specs.inner.PlainText.{PassesBlanks, PassesWord}
 
 -- the state of a source's lexer
 abbrev pub source_lexed : Lexed → Option Location → SourceLexed

@@ -43,9 +43,8 @@ use pp_lexer::token::{
 };
 use pp_macros::blocks::{Blocks, OpenBlock};
 use pp_macros::define::{Define, Macro};
-use pp_macros::definitions::Definitions;
 use pp_macros::halt::Halt;
-use pp_macros::macros::MacroId;
+use pp_macros::names::Definitions;
 use pp_macros::reader::ends_at_parenthesis;
 use pp_macros::step::{Step, StepExit};
 use pp_model::conversion::refused_token;
@@ -116,25 +115,6 @@ impl<'a> DirectiveProcessor<'a> {
         }
     }
 
-    /// The macro of the name, if it is defined.
-    pub fn find(&self, name: &str) -> Option<&Rc<Macro>>
-        ensures definition { option_map (λ m. m.now.value.definition) result
-            ≡ meaning_of self.now.definitions (chars name.now) }
-        ensures name { IfSome result (λ m. m.now.value.name ≡ chars name.now) }
-    {
-        self.definitions.find(name)
-    }
-
-    /// The macro of the name, if it is defined. It is looked for first at the number that is guessed, if one is.
-    #[inline(always)]
-    pub fn find_first_at(&self, guess: Option<MacroId>, name: &str) -> Option<&Rc<Macro>>
-        ensures definition { option_map (λ m. m.now.value.definition) result
-            ≡ meaning_of self.now.definitions (chars name.now) }
-        ensures name { IfSome result (λ m. m.now.value.name ≡ chars name.now) }
-    {
-        self.definitions.find_first_at(guess, name)
-    }
-
     /// The definitions that hold now.
     pub fn definitions(&self) -> &Definitions
         ensures { result.now ≡ self.now.definitions }
@@ -193,7 +173,7 @@ impl<'a> DirectiveProcessor<'a> {
         ensures acts { Acts unchanged (define_move (as_named line)) self.old result self.new }
         ensures errors { Reports result (unreported_of self.old) (unreported_of self.new) }
     {
-        if let Some(before) = self.definitions.find(line.name.as_str()) {
+        if let Some(before) = self.definitions.get(line.name.as_str()) {
             let is_same = before.define().is_same(&line.define);
             let location = line.location;
             drop(line);
@@ -239,7 +219,7 @@ impl<'a> DirectiveProcessor<'a> {
         ensures errors { Reports result (unreported_of self.old) (unreported_of self.new) }
     {
         let name = only_name(word, &mut self.lexer)?;
-        let is_defined = self.definitions.find(name.as_str()).is_some();
+        let is_defined = self.definitions.get(name.as_str()).is_some();
         drop(name);
         self.blocks
             .push(OpenBlock::opened(word, is_defined == wanted))?;
@@ -649,7 +629,7 @@ impl<'a> DirectiveProcessor<'a> {
             ≡ macro_of_value (of_source self.now) (word_value word.now.form word.now.spelling.now) }
     {
         match word.form {
-            Form::Identifier => self.find(word.spelling),
+            Form::Identifier => self.definitions.get(word.spelling),
             _ => None,
         }
     }

@@ -12,10 +12,10 @@ use crate::token_list::LineReads;
 use pp_lexer::token::{Location, PreprocessorError, Text, Token, TokenValue};
 use pp_macros::arguments::finish_call;
 use pp_macros::calls::{Expander, Taken};
-use pp_macros::definitions::Definitions;
 use pp_macros::halt::{Halt, halt_of};
 use pp_macros::list_lexer::ListLexer;
 use pp_macros::list_step::{step_list, step_unnamed, take_list};
+use pp_macros::names::Definitions;
 use pp_macros::open_around::OpenAround;
 use pp_macros::step::StepExit;
 use pp_model::outcome::Fault;
@@ -134,7 +134,7 @@ impl<'a> IfParser<'a> {
     fn is_defined(&self, name: &Text) -> bool
         ensures { result ≡ is_some (meaning_of self.now.definitions.now name.now) }
     {
-        self.definitions.find(name.as_str()).is_some()
+        self.definitions.get(name.as_str()).is_some()
     }
 
     // The fault of an item where `defined` needs its operand or a parenthesis.

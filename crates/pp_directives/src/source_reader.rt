@@ -5,7 +5,7 @@ ghost use Rattle.pp_macros.specs.inner.Reader.{of_source};
 use crate::directives::DirectiveProcessor;
 use pp_lexer::token::{Location, PreprocessorError};
 use pp_macros::define::Macro;
-use pp_macros::macros::MacroId;
+use pp_macros::names::NameId;
 use pp_macros::reader::MeLexer;
 use pp_macros::step::{Step, StepExit};
 use pp_model::read::Read;
@@ -26,8 +26,16 @@ impl<'a> MeLexer for DirectiveProcessor<'a> {
         self.push_words(tokens)
     }
 
-    fn get_define(&self, guess: Option<MacroId>, name: &str) -> Option<&Rc<Macro>> {
-        self.find_first_at(guess, name)
+    fn find(&self, name: &str) -> Option<NameId> {
+        self.definitions().find(name)
+    }
+
+    fn find_first_at(&self, guess: Option<NameId>, name: &str) -> Option<NameId> {
+        self.definitions().find_first_at(guess, name)
+    }
+
+    fn get_define(&self, id: NameId) -> Option<&Rc<Macro>> {
+        self.definitions().get_define(id)
     }
 
     fn is_hidden(&self, _name: &str) -> bool {

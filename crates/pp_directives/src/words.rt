@@ -10,7 +10,7 @@ ghost use Rattle.pp_directives.specs.inner.PlainText.{IsUnknown};
 ghost use Rattle.pp_directives.specs.inner.PlainText as plain_text;
 
 use pp_lexer::lexer::{Form, PlainItem};
-use pp_macros::definitions::Definitions;
+use pp_macros::names::Definitions;
 
 // Whether the name is `__LINE__`. Most have another length, and need no call.
 #[inline(always)]
@@ -47,7 +47,7 @@ pub fn gives_itself(word: &PlainItem<'_>, definitions: &Definitions) -> bool
     match word.form {
         Form::Hash => false,
         Form::Identifier => {
-            !is_line_name(word.spelling) && definitions.find(word.spelling).is_none()
+            !is_line_name(word.spelling) && definitions.get(word.spelling).is_none()
         }
         _ => true,
     }
@@ -63,7 +63,7 @@ pub fn opens_bare(word: &PlainItem<'_>, definitions: &Definitions) -> bool
 {
     match word.form {
         Form::Hash => false,
-        Form::Identifier => match definitions.find(word.spelling) {
+        Form::Identifier => match definitions.get(word.spelling) {
             Some(found) => !is_line_name(word.spelling) && !found.define().is_function_like(),
             None => false,
         },

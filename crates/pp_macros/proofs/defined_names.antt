@@ -6,5 +6,6 @@ pub mod MarksLemmas
 pub mod FoundNamesLemmas
 pub mod SharedNamesLemmas
 pub mod DefinitionsLemmas
+pub mod ReaderNamesLemmas
 pub mod ParameterNamesLemmas
 pub mod BodyLemmas

@@ -199,7 +199,10 @@ fn find_macro(
     let TokenValue::Ident(name) = value else {
         return Ok(None);
     };
-    match lexer.get_define(None, name.as_str()) {
+    let Some(id) = lexer.find(name.as_str()) else {
+        return Ok(None);
+    };
+    match lexer.get_define(id) {
         Some(found) => Ok(Some(found.clone()?)),
         None => Ok(None),
     }

@@ -10,18 +10,19 @@ ghost use Rattle.pp_model.specs.Definitions.{IsSameDefinition, object_like};
 ghost use Rattle.pp_macros.specs.inner.Marks.{mark_of};
 ghost use Rattle.pp_macros.specs.inner.Bodies.{AreEntries, AreSeen, IsEntry, IsEntryAt, body_of, is_same_entry, token_of};
 
-use crate::macros::{MacroId, Macros};
 use crate::marks::mark_of;
+use crate::names::{Definitions, NameId};
 use crate::parameter_names::ParameterNames;
 use pp_lexer::token::{Location, Text, Token, TokenValue};
 use std::alloc::{AllocError, Global};
 use std::marker::Model;
+use std::rc::Rc;
 
 /// An entry of a body.
 #[derive(Drop)]
 pub enum BodyEntry {
-    /// A token that is no parameter, and the number of the macro that it names, if it named one when the line was read.
-    Token(Token, Option<MacroId>),
+    /// A token that is no parameter, and the number of the name that it is, if that had one when the line was read.
+    Token(Token, Option<NameId>),
     /// A parameter.
     Parameter {
         /// Its position among the parameters.
@@ -59,7 +60,7 @@ impl Model for Define {
 /// A macro: a name and its definition.
 #[derive(Drop)]
 pub struct Macro {
-    name: Text,
+    name: Rc<Text>,
     define: Define,
     // the mark of the name
     mark: u64,
@@ -68,13 +69,13 @@ pub struct Macro {
 impl Model for Macro {
     ghost use Rattle.std.specs.Prelude.{◌≡◌};
     ghost use Rattle.pp_macros.specs.inner.Marks.{mark_of};
-    ghost use Rattle.pp_macros.specs.inner.Defined.{Defined};
+    ghost use Rattle.pp_macros.specs.inner.Defined as spec;
 
-    ghost Value = { Defined };
+    ghost Value = { spec.Macro };
 
-    ghost view = { λ m. record { name = m.name; definition = m.define } };
+    ghost view = { λ m. record { name = m.name.value; definition = m.define } };
 
-    ghost invariant = { λ m. m.mark ≡ mark_of m.name };
+    ghost invariant = { λ m. m.mark ≡ mark_of m.name.value };
 }
 
 // Whether both are the same token, numbers and places aside, or the same parameter.
@@ -159,8 +160,8 @@ fn entries_of(
 
 impl Macro {
     /// The macro of this name, with this definition.
-    pub fn new(name: Text, define: Define) -> Macro
-        ensures { result ≡ record { name = name; definition = define } }
+    pub fn new(name: Rc<Text>, define: Define) -> Macro
+        ensures { result ≡ record { name = name.value; definition = define } }
     {
         let mark = mark_of(name.as_str());
         Macro { name, define, mark }
@@ -168,8 +169,8 @@ impl Macro {
 
     /// Its name.
     #[inline(always)]
-    pub fn name(&self) -> &Text
-        ensures { result.now ≡ self.now.name }
+    pub fn name(&self) -> &Rc<Text>
+        ensures { result.now.value ≡ self.now.name }
     {
         &self.name
     }
@@ -257,14 +258,14 @@ impl Define {
         self.body.get(position)
     }
 
-    /// Notes the number of each of these macros that a token of the body names.
-    pub fn note_numbers(&mut self, macros: &Macros)
+    /// Notes the numbers of the names in the body.
+    pub fn note_numbers(&mut self, definitions: &Definitions)
         ensures { self.new ≡ self.old }
     {
         for entry in self.body.iter_mut() {
             if let BodyEntry::Token(token, number) = entry {
                 if let TokenValue::Ident(name) = &token.value {
-                    *number = macros.find(name.as_str());
+                    *number = definitions.find(name.as_str());
                 }
             }
         }

@@ -12,7 +12,7 @@ ghost use Rattle.pp_macros.specs.declared.step.StepExit.TheVariants.{Error};
 
 use crate::argument_lists::{ArgumentLists, OpenArguments, Part};
 use crate::define::{BodyEntry, Macro};
-use crate::macros::MacroId;
+use crate::names::NameId;
 use crate::step::{Step, StepExit};
 use pp_lexer::token::{Text, Token, TokenValue, out_of_memory};
 use pp_model::read::Read;
@@ -26,7 +26,7 @@ pub struct Ahead<'a> {
     token: &'a Token,
     painted: bool,
     // the number that was noted for it, in its body, if it is of one
-    noted: Option<&'a Option<MacroId>>,
+    noted: Option<&'a Option<NameId>>,
 }
 
 impl<'a> Model for Ahead<'a> {
@@ -69,7 +69,7 @@ impl<'a> Ahead<'a> {
 
     /// The number that was noted for it, if it is of a body.
     #[inline(always)]
-    pub(crate) fn number(&self) -> Option<MacroId> {
+    pub(crate) fn number(&self) -> Option<NameId> {
         *self.noted?
     }
 
@@ -262,8 +262,8 @@ impl Frame {
     }
 
     /// The macro's name.
-    pub fn name(&self) -> &Text
-        ensures { result.now ≡ self.now.name }
+    pub fn name(&self) -> &Rc<Text>
+        ensures { result.now.value ≡ self.now.name }
     {
         self.opened.name()
     }

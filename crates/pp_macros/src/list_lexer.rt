@@ -10,8 +10,7 @@ ghost use Rattle.pp_macros.specs.inner.Reading.{AllReadOrdinary};
 ghost use Rattle.pp_macros.specs.inner.Reader.{ReadsOnto, ReadsRun, of_list};
 
 use crate::define::Macro;
-use crate::definitions::Definitions;
-use crate::macros::MacroId;
+use crate::names::{Definitions, NameId};
 use crate::open_around::OpenAround;
 use crate::reader::{MeLexer, ends_at_parenthesis};
 use crate::step::{Step, StepExit};
@@ -71,10 +70,14 @@ pub struct ListLexer<'a> {
     definitions: &'a Definitions,
     hidden: &'a OpenAround<'a>,
     is_line: bool,
+    // on a line the number of `defined`, if that was ever defined
+    reserved: Option<NameId>,
 }
 
 impl<'a> Model for ListLexer<'a> {
     ghost use Rattle.std.specs.Prelude.{drop};
+    ghost use Rattle.pp_macros.specs.inner.Apart.{IsReservedNumber};
+    ghost use Rattle.pp_macros.specs.inner.Defined.{names_in};
     ghost use Rattle.pp_macros.specs.inner.Reading.{AllReadOrdinary};
     ghost use Rattle.pp_macros.specs.inner.Reader.{Listing};
 
@@ -87,7 +90,8 @@ impl<'a> Model for ListLexer<'a> {
       is_line = l.is_line;
     } };
 
-    ghost invariant = { λ l. AllReadOrdinary (drop l.position l.tokens.now) };
+    ghost invariant = { λ l. AllReadOrdinary (drop l.position l.tokens.now)
+        × IsReservedNumber l.is_line (names_in l.definitions.now) l.reserved };
 }
 
 impl<'a> ListLexer<'a> {
@@ -111,6 +115,7 @@ impl<'a> ListLexer<'a> {
             definitions,
             hidden,
             is_line: false,
+            reserved: None,
         }
     }
 
@@ -134,6 +139,7 @@ impl<'a> ListLexer<'a> {
             definitions,
             hidden,
             is_line: true,
+            reserved: definitions.find("defined"),
         }
     }
 }
@@ -233,11 +239,19 @@ impl<'a> MeLexer for ListLexer<'a> {
         self.push_each(tokens)
     }
 
-    fn get_define(&self, guess: Option<MacroId>, name: &str) -> Option<&Rc<Macro>> {
-        if is_reserved(self.is_line, name) {
-            return None;
-        }
+    fn find(&self, name: &str) -> Option<NameId> {
+        self.definitions.find(name)
+    }
+
+    fn find_first_at(&self, guess: Option<NameId>, name: &str) -> Option<NameId> {
         self.definitions.find_first_at(guess, name)
+    }
+
+    fn get_define(&self, id: NameId) -> Option<&Rc<Macro>> {
+        match self.reserved {
+            Some(reserved) if reserved.number() == id.number() => None,
+            _ => self.definitions.get_define(id),
+        }
     }
 
     fn is_hidden(&self, name: &str) -> bool {

@@ -18,8 +18,8 @@ ghost use Rattle.pp_macros.specs.declared.step.StepExit.TheVariants.{Error, Cont
 use crate::argument_lists::ArgumentLists;
 use crate::define::Macro;
 use crate::frames::{Ahead, Frame, give};
-use crate::macros::is_text;
 use crate::marks::Marks;
+use crate::names::is_text;
 use crate::open_names::OpenNames;
 use crate::reader::MeLexer;
 use crate::spares::Spares;

@@ -5,7 +5,7 @@ ghost use Rattle.std.specs.Str.{chars};
 ghost use Rattle.pp_macros.specs.inner.OpenNames.{is_open, after_opening, after_closing};
 
 use crate::define::Macro;
-use crate::macros::Macros;
+use crate::names::texts::Texts;
 use std::alloc::{AllocError, Global};
 use std::marker::Model;
 use std::rc::Rc;
@@ -13,25 +13,22 @@ use std::rc::Rc;
 /// Names that are open, each with the position of the outermost frame that has it. The outermost of
 /// all frames has the position 0.
 ///
-/// The frame that opened last closes first, and so does its name. The macros that have the names are a list that grows
-/// and shrinks at its end. Contracts see the name that opened last first.
+/// The frame that opened last closes first, and so does its name. Contracts see the name that opened last first.
 #[derive(Drop)]
 pub struct OpenNames {
-    // of each name the macro of its outermost frame
-    macros: Macros,
+    names: Texts,
     positions: Vec<usize>,
 }
 
 impl Model for OpenNames {
     ghost use Rattle.std.specs.Prelude.{◌≡◌, List, length};
-    ghost use Rattle.pp_macros.specs.inner.Defined.{macro_names};
     ghost use Rattle.pp_macros.specs.inner.OpenNames.{Position, last_first};
 
     ghost Value = { List Position };
 
-    ghost view = { λ o. last_first (macro_names o.macros) o.positions.items };
+    ghost view = { λ o. last_first o.names o.positions.items };
 
-    ghost invariant = { λ o. length o.positions.items ≡ length (macro_names o.macros) };
+    ghost invariant = { λ o. length o.positions.items ≡ length o.names };
 }
 
 impl OpenNames {
@@ -40,7 +37,7 @@ impl OpenNames {
         ensures { result ≡ [] }
     {
         OpenNames {
-            macros: Macros::new(alloc),
+            names: Texts::new(alloc),
             positions: Vec::new(alloc),
         }
     }
@@ -50,7 +47,7 @@ impl OpenNames {
     pub fn is_open(&self, name: &str) -> bool
         ensures { result ≡ is_open self.now (chars name.now) }
     {
-        !self.positions.is_empty() && self.macros.find(name).is_some()
+        !self.positions.is_empty() && self.names.find(name).is_some()
     }
 
     /// Adds the name of a frame of this macro that opens at the position. If an allocation fails, nothing changes.
@@ -63,8 +60,8 @@ impl OpenNames {
             return Ok(());
         }
         self.positions.reserve(1)?;
-        let shared = opened.clone()?;
-        self.macros.push(shared)?;
+        let name = opened.name().clone()?;
+        self.names.push(name)?;
         self.positions.push_reserved(position);
         Ok(())
     }
@@ -79,7 +76,7 @@ impl OpenNames {
         };
         if *last == position {
             self.positions.pop();
-            self.macros.pop();
+            self.names.pop();
         }
     }
 }

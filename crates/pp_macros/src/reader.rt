@@ -1,16 +1,17 @@
 //! The reader of tokens that comes after the frames.
 
-ghost use Rattle.std.specs.Prelude.{◌≡◌, ◌++◌, ◌∷◌, [], List, IfOk, IfSome, option_map, ok_or};
+ghost use Rattle.std.specs.Prelude.{◌≡◌, ◌++◌, ◌∷◌, [], List, IfOk, Some, option_map, ok_or, position};
 ghost use Rattle.std.specs.Str.{chars};
 ghost use Rattle.pp_lexer.specs.declared.token.PreprocessorError.TheVariants.{LineOverflow};
-ghost use Rattle.pp_model.specs.Names.{is_in};
+ghost use Rattle.pp_model.specs.Names.{Name, is_in, is_same_name};
 ghost use Rattle.pp_model.specs.declared.read.Read.{Read};
 ghost use Rattle.pp_macros.specs.Held.{HoldsOrdinary};
 ghost use Rattle.pp_macros.specs.Item.{as_step};
-ghost use Rattle.pp_macros.specs.inner.Reader.{Reader, Reads, ReadsRun, nests, visible, hidden_of, shown_line};
+ghost use Rattle.pp_macros.specs.inner.Defined.{names_in, opened_by};
+ghost use Rattle.pp_macros.specs.inner.Reader.{Reader, Reads, ReadsRun, nests, visible, hidden_of, shown_line, definitions_of};
 
 use crate::define::Macro;
-use crate::macros::MacroId;
+use crate::names::NameId;
 use crate::step::Step;
 use pp_lexer::token::Location;
 use pp_model::parentheses::{is_left_paren, is_right_paren};
@@ -33,11 +34,19 @@ pub trait MeLexer {
         ensures { IfOk result (λ found. ReadsRun (reader self.old) tokens.old.items found
             (reader self.new) tokens.new.items) };
 
-    /// The macro of the name there, if it is defined. It is looked for first at the number that is guessed, if one is.
-    fn get_define(&self, guess: Option<MacroId>, name: &str) -> Option<&Rc<Macro>>
-        ensures definition { option_map (λ m. m.now.value.definition) result
-            ≡ visible (reader self.now) (chars name.now) }
-        ensures name { IfSome result (λ m. m.now.value.name ≡ chars name.now) };
+    /// The number of the name, if it was ever defined.
+    fn find(&self, name: &str) -> Option<NameId>
+        ensures { result ≡ position (is_same_name (chars name.now)) (names_in (definitions_of (reader self.now))) };
+
+    /// The number of the name, if it was ever defined. The number that is guessed, if one is, is tried first.
+    fn find_first_at(&self, guess: Option<NameId>, name: &str) -> Option<NameId>
+        ensures { result ≡ position (is_same_name (chars name.now)) (names_in (definitions_of (reader self.now))) };
+
+    /// The macro of the name with this number, if it is defined there.
+    fn get_define(&self, id: NameId) -> Option<&Rc<Macro>>
+        ensures { (name : Name) → position (is_same_name name) (names_in (definitions_of (reader self.now))) ≡ Some id
+            → option_map (λ m. (m.now.value.name, m.now.value.definition)) result
+            ≡ opened_by name (visible (reader self.now) name) };
 
     /// Whether a macro of this name is open around it.
     fn is_hidden(&self, name: &str) -> bool

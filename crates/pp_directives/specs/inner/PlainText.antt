@@ -1,5 +1,5 @@
 -- A word of plain text, before memory is taken for it.
-use Rattle.std.specs.Prelude.{◌≡◌, ◌≢◌, ℕ, Bool, true, false, not, ◌&&◌, ◌||◌, is_some, List, Option, Some, None, Ok}
+use Rattle.std.specs.Prelude.{◌≡◌, ◌≢◌, ℕ, Bool, true, false, not, ◌&&◌, List, Option, Some, None, Ok}
 use Rattle.std.specs.Prelude.{Err, MatchBool, MatchOption, IsTrue, [], ⊤}
 use Rattle.std.specs.Str.{IsAscii}
 use Rattle.pp_lexer.specs.Kept.{CanPass}

@@ -1,81 +1,34 @@
--- Lists of macros, each with whether it is still defined.
-use Rattle.std.proofs.Common.{◌≡◌, ◌∙◌, ℕ, zero, suc, ◌+◌, ◌<◌, Bool, true, false, ◌||◌, if◌then◌else◌, List, [], ◌∷◌, ◌++◌, map, length, get_or, set, Option, Some, None, refl, sym, ap, arith}
-use Rattle.std.proofs.lemmas.List.{length-map, map-append}
-use Rattle.std.specs.Prelude.{sum_by, slice_get}
-use Rattle.std.specs.List.{zip}
-use Rattle.std.proofs.lemmas.Option.{none-some, same_Some, slice_get_read}
+-- Names by number, each with its definition if it is defined.
+use Rattle.std.proofs.Common.{◌≡◌, ◌∙◌, ℕ, zero, suc, ◌+◌, ◌<◌, Bool, true, false, ◌||◌, if◌then◌else◌, List, [], ◌∷◌, ◌++◌, length, set, Option, Some, None, refl, sym, ap, arith}
+use Rattle.std.proofs.lemmas.List.{length-map, length-set, length_push, map-append, append-nil}
+use Rattle.std.specs.Prelude.{sum_by, slice_get, position, option_map, IfSome}
+use Rattle.std.specs.Option.{option_copied}
+use denote.Ref.{Bor}
+use Rattle.std.specs.declared.rc.Rc.{Rc}
 use Rattle.std.proofs.lemmas.List.Sums.{sum_by-append, sum_by-cons, sum_by-set}
+use Rattle.std.proofs.lemmas.Option.{same_Some}
 use Rattle.pp_model.specs.Definitions.{Definition, with_change}
 use Rattle.pp_model.specs.Names.{Name, is_same_name, is_in}
-use Rattle.pp_model.specs.ApartMarks.{AreApart}
 use Rattle.pp_model.proofs.OpenNamesLemmas.{not_in_tail}
-use Rattle.pp_macros.specs.inner.Defined.{Defined, macro_names, still_defined, defined_among, meaning_of, body_tokens, more_names, more_tokens, IsChanged}
+use Rattle.pp_macros.specs.inner.Defined.{Defined, Macro, names_in, defined_as, AreOfNames, opened_by, meaning_of, body_tokens, more_tokens, IsChanged}
 use Rattle.pp_macros.proofs.defined_names.NameKeysLemmas.{names_same}
-use Rattle.pp_macros.proofs.defined_names.FoundNamesLemmas.{apart_too, not_first, apart_more, IsFoundAt, found_within, names-set}
+use Rattle.pp_macros.proofs.defined_names.FoundNamesLemmas.{apart_too, not_first, IsFoundAt, found_at, found_within, names-set}
 
--- the names of macros, each with whether it is still defined, and the definition that each of these has still
-abbrev names_in : List (Defined × Bool) → List Name
-names_in entries = map (λ (e : Defined × Bool). e.0.name) entries
-
-abbrev definition_still : Defined × Bool → Option Definition
-definition_still (m, true) = Some m.definition
-definition_still (m, false) = None
-
--- what the first of the macros that has this name still has
-abbrev definition_among : List (Defined × Bool) → Name → Option Definition
-definition_among [] name = None
-definition_among (e ∷ es) name = if is_same_name name e.0.name then definition_still e else definition_among es name
-
--- a name that is none of theirs has no definition
-none_among : (name : Name) (es : List (Defined × Bool)) → is_in name (names_in es) ≡ false → definition_among es name ≡ None
-none_among name [] absent = refl
-none_among name (e ∷ es) absent = by (is_same_name name e.0.name) absent (λ h. none_among name es h)
+-- a name that is none of them has no definition
+pub meaning_absent : (name : Name) (ds : List Defined) → is_in name (names_in ds) ≡ false → meaning_of ds name ≡ None
+meaning_absent name [] absent = refl
+meaning_absent name (d ∷ ds) absent = by (is_same_name name d.name) absent (λ h. meaning_absent name ds h)
   where
-    by : (b : Bool) → (b || is_in name (names_in es)) ≡ false → (is_in name (names_in es) ≡ false → definition_among es name ≡ None)
-        → (if b then definition_still e else definition_among es name) ≡ None
+    by : (b : Bool) → (b || is_in name (names_in ds)) ≡ false → (is_in name (names_in ds) ≡ false → meaning_of ds name ≡ None)
+        → (if b then d.definition else meaning_of ds name) ≡ None
     by true h later = cc
     by false h later = later h
 
--- what the macros that are still defined mean
-meaning_among : (es : List (Defined × Bool)) → AreApart (names_in es) → (name : Name) → meaning_of (still_defined es) name ≡ definition_among es name
-meaning_among [] apart name = refl
-meaning_among ((m, true) ∷ es) apart name = ap (λ o. if is_same_name name m.name then Some m.definition else o) (meaning_among es apart.1 name)
-meaning_among ((m, false) ∷ es) apart name = meaning_among es apart.1 name ∙ by (is_same_name name m.name) refl
-  where
-    by : (b : Bool) → is_same_name name m.name ≡ b → definition_among es name ≡ (if b then None else definition_among es name)
-    by true e = none_among name es (rw (names_same name m.name e) apart.0)
-    by false e = refl
-
--- what the macro at the place of the name still has
-found_among : (es : List (Defined × Bool)) (name : Name) (k : ℕ) (m : Defined) (b : Bool) → IsFoundAt name (names_in es) k
-    → slice_get es k ≡ Some (m, b) → definition_among es name ≡ definition_still (m, b)
-found_among [] name k m b found is = absurd found
-found_among (e ∷ es) name zero m b found is = rw found (ap definition_still (same_Some e (m, b) is))
-found_among (e ∷ es) name (suc k) m b found is = rw found.0 (found_among es name k m b found.1 is)
-
--- how many of the macros are still defined, and how many tokens their bodies have together
-number_among : (es : List (Defined × Bool)) → length (still_defined es) ≡ sum_by (λ e. more_names (definition_still e)) es
-number_among [] = refl
-number_among ((m, true) ∷ es) =
-    let h = number_among es in
-    rw (sum_by-cons (λ e. more_names (definition_still e)) (m, true) es) (omega arith)
-number_among ((m, false) ∷ es) = number_among es
-
-tokens_among : (es : List (Defined × Bool)) → body_tokens (still_defined es) ≡ sum_by (λ e. more_tokens (definition_still e)) es
+-- how many tokens the bodies have together
+tokens_among : (ds : List Defined) → body_tokens ds ≡ sum_by (λ (d : Defined). more_tokens d.definition) ds
 tokens_among [] = refl
-tokens_among ((m, true) ∷ es) =
-    rw (sum_by-cons (λ e. more_tokens (definition_still e)) (m, true) es) (ap (λ t. length m.definition.body + t) (tokens_among es))
-tokens_among ((m, false) ∷ es) = tokens_among es
-
--- a change of one name, in what the macros mean
-module _ (es all : List (Defined × Bool)) (name : Name) (change : Option Definition) (apart : AreApart (names_in es)) (all_apart : AreApart (names_in all))
-    (changes : (other : Name) → definition_among all other ≡ (if is_same_name other name then change else definition_among es other)) where
-  changed_at : (other : Name) → meaning_of (still_defined all) other ≡ with_change (meaning_of (still_defined es)) name change other
-  changed_at other = meaning_among all all_apart other ∙ changes other
-      ∙ ap (λ o. if is_same_name other name then change else o) (sym (meaning_among es apart other))
-
-  meaning_changed : meaning_of (still_defined all) ≡ with_change (meaning_of (still_defined es)) name change
-  meaning_changed = λ i other. changed_at other i
+tokens_among (d ∷ ds) =
+    rw (sum_by-cons (λ (d : Defined). more_tokens d.definition) d ds) (ap (λ t. more_tokens d.definition + t) (tokens_among ds))
 
 -- of two names that differ either may be asked for first
 choices : (n name other : Name) (d change rest : Option Definition) → is_same_name n name ≡ false
@@ -88,157 +41,157 @@ choices n name other d change rest apart = by (is_same_name other n) refl
     by true e = rw (names_same other n e, apart) refl
     by false e = refl
 
--- the macro of a name that is found is another now, or no longer defined
-set_among : (es : List (Defined × Bool)) (name : Name) (k : ℕ) (e : Defined × Bool) → e.0.name ≡ name
-    → IsFoundAt name (names_in es) k → (other : Name)
-    → definition_among (set es k e) other ≡ (if is_same_name other name then definition_still e else definition_among es other)
-set_among [] name k e same found other = absurd found
-set_among (d ∷ es) name zero e same found other =
-    ap (λ (m : Name). if is_same_name other m then definition_still e else definition_among es other) same
+-- the name that is found has another definition now, or none
+set_meaning : (ds : List Defined) (name : Name) (k : ℕ) (e : Defined) → e.name ≡ name → IsFoundAt name (names_in ds) k → (other : Name)
+    → meaning_of (set ds k e) other ≡ with_change (meaning_of ds) name e.definition other
+set_meaning [] name k e same found other = absurd found
+set_meaning (d ∷ ds) name zero e same found other =
+    ap (λ (m : Name). if is_same_name other m then e.definition else meaning_of ds other) same
     ∙ by (is_same_name other name) refl
   where
-    by : (b : Bool) → is_same_name other name ≡ b → (if b then definition_still e else definition_among es other)
-        ≡ (if b then definition_still e else (if is_same_name other d.0.name then definition_still d else definition_among es other))
+    by : (b : Bool) → is_same_name other name ≡ b → (if b then e.definition else meaning_of ds other)
+        ≡ (if b then e.definition else (if is_same_name other d.name then d.definition else meaning_of ds other))
     by true h = refl
-    by false h = rw (sym (names_same name d.0.name found), h) refl
-set_among (d ∷ es) name (suc k) e same found other =
-    ap (λ o. if is_same_name other d.0.name then definition_still d else o) (set_among es name k e same found.1 other)
-    ∙ choices d.0.name name other (definition_still d) (definition_still e) (definition_among es other) (apart_too name d.0.name found.0)
+    by false h = rw (sym (names_same name d.name found), h) refl
+set_meaning (d ∷ ds) name (suc k) e same found other =
+    ap (λ o. if is_same_name other d.name then d.definition else o) (set_meaning ds name k e same found.1 other)
+    ∙ choices d.name name other d.definition e.definition (meaning_of ds other) (apart_too name d.name found.0)
 
-is_set_among : (es : List (Defined × Bool)) (name : Name) (k : ℕ) (e : Defined × Bool) → e.0.name ≡ name → AreApart (names_in es)
-    → IsFoundAt name (names_in es) k → IsChanged name (definition_still e) (still_defined es) (still_defined (set es k e))
-is_set_among es name k e same apart found =
-    let within : k < length es = let h = found_within name (names_in es) k found in let l = length-map es (λ (e : Defined × Bool). e.0.name) in omega arith in
-    let number = sum_by-set (λ e. more_names (definition_still e)) es k e e within in
-    let tokens = sum_by-set (λ e. more_tokens (definition_still e)) es k e e within in
+set_changes : (ds : List Defined) (name : Name) (k : ℕ) (e : Defined) → e.name ≡ name → IsFoundAt name (names_in ds) k
+    → IsChanged name e.definition ds (set ds k e)
+set_changes ds name k e same found =
+    let within : k < length ds = let h = found_within name (names_in ds) k found in let l = length-map ds (λ (d : Defined). d.name) in omega arith in
+    let tokens = sum_by-set (λ (d : Defined). more_tokens d.definition) ds k e e within in
     record {
-      meaning = meaning_changed es (set es k e) name (definition_still e) apart (rw (names-set (λ (e : Defined × Bool). e.0.name) es k e (rw same found)) apart)
-          (set_among es name k e same found);
-      names = rw (number_among es, number_among (set es k e)) (omega arith);
-      tokens = rw (tokens_among es, tokens_among (set es k e)) (omega arith);
+      meaning = λ i other. set_meaning ds name k e same found other i;
+      kept = ([], names-set (λ (d : Defined). d.name) ds k e (rw same found) ∙ sym (append-nil (names_in ds)));
+      names = rw (length-set ds k e) (omega arith);
+      tokens = rw (tokens_among ds, tokens_among (set ds k e)) (omega arith);
     }
 
--- a macro of a new name
-push_among : (es : List (Defined × Bool)) (e : Defined × Bool) → is_in e.0.name (names_in es) ≡ false → (other : Name)
-    → definition_among (es ++ e ∷ []) other ≡ (if is_same_name other e.0.name then definition_still e else definition_among es other)
-push_among [] e new other = refl
-push_among (d ∷ es) e new other =
-    ap (λ o. if is_same_name other d.0.name then definition_still d else o) (push_among es e (not_in_tail e.0.name d.0.name (names_in es) new) other)
-    ∙ choices d.0.name e.0.name other (definition_still d) (definition_still e) (definition_among es other)
-    (apart_too e.0.name d.0.name (not_first e.0.name d.0.name (names_in es) new))
+-- a new name
+push_meaning : (ds : List Defined) (e : Defined) → is_in e.name (names_in ds) ≡ false → (other : Name)
+    → meaning_of (ds ++ e ∷ []) other ≡ with_change (meaning_of ds) e.name e.definition other
+push_meaning [] e new other = refl
+push_meaning (d ∷ ds) e new other =
+    ap (λ o. if is_same_name other d.name then d.definition else o) (push_meaning ds e (not_in_tail e.name d.name (names_in ds) new) other)
+    ∙ choices d.name e.name other d.definition e.definition (meaning_of ds other)
+    (apart_too e.name d.name (not_first e.name d.name (names_in ds) new))
 
-is_pushed_among : (es : List (Defined × Bool)) (e : Defined × Bool) → AreApart (names_in es) → is_in e.0.name (names_in es) ≡ false
-    → IsChanged e.0.name (definition_still e) (still_defined es) (still_defined (es ++ e ∷ []))
-is_pushed_among es e apart new = record {
-  meaning = meaning_changed es (es ++ e ∷ []) e.0.name (definition_still e) apart
-      (rw (map-append (λ (e : Defined × Bool). e.0.name) es (e ∷ [])) (apart_more e.0.name (names_in es) apart new)) (push_among es e new);
-  names = rw (number_among es, number_among (es ++ e ∷ []), sum_by-append (λ e. more_names (definition_still e)) es (e ∷ [])) (omega arith);
-  tokens = rw (tokens_among es, tokens_among (es ++ e ∷ []), sum_by-append (λ e. more_tokens (definition_still e)) es (e ∷ [])) (omega arith);
-}
+push_changes : (ds : List Defined) (name : Name) (definition : Definition) → is_in name (names_in ds) ≡ false
+    → IsChanged name (Some definition) ds (ds ++ record { name = name; definition = Some definition } ∷ [])
+push_changes ds name definition new =
+    let e : Defined = record { name = name; definition = Some definition } in
+    record {
+      meaning = λ i other. push_meaning ds e new other i;
+      kept = (name ∷ [], map-append (λ (d : Defined). d.name) ds (e ∷ []));
+      names = rw (length_push ds e) (omega arith);
+      tokens = rw (tokens_among ds, tokens_among (ds ++ e ∷ []), sum_by-append (λ (d : Defined). more_tokens d.definition) ds (e ∷ [])) (omega arith);
+    }
 
--- a name that is none of theirs has no definition, and needs no change to have none
-is_absent_among : (es : List (Defined × Bool)) (name : Name) → AreApart (names_in es) → is_in name (names_in es) ≡ false
-    → IsChanged name None (still_defined es) (still_defined es)
-is_absent_among es name apart absent = record {
-  meaning = meaning_changed es es name None apart apart (λ other. by other (is_same_name other name) refl);
+-- a name that is none of them needs no change to have no definition
+pub is_absent : (ds : List Defined) (name : Name) → is_in name (names_in ds) ≡ false → IsChanged name None ds ds
+is_absent ds name absent = record {
+  meaning = λ i other. at other (is_same_name other name) refl i;
+  kept = ([], sym (append-nil (names_in ds)));
   names = omega arith;
   tokens = omega arith;
 }
   where
-    by : (other : Name) (b : Bool) → is_same_name other name ≡ b → definition_among es other ≡ (if b then None else definition_among es other)
-    by other true e = rw (names_same other name e) (none_among name es absent)
-    by other false e = refl
+    at : (other : Name) (b : Bool) → is_same_name other name ≡ b → meaning_of ds other ≡ (if b then None else meaning_of ds other)
+    at other true e = rw (names_same other name e) (meaning_absent name ds absent)
+    at other false e = refl
 
--- Two lists, side by side.
-module _ {A B : Type 0} where
-  zip-set : (xs : List A) (ys : List B) (k : ℕ) (x : A) (y : B) → zip (set xs k x) (set ys k y) ≡ set (zip xs ys) k (x, y)
-  zip-set [] ys k x y = refl
-  zip-set (a ∷ xs) [] zero x y = refl
-  zip-set (a ∷ xs) [] (suc k) x y = refl
-  zip-set (a ∷ xs) (b ∷ ys) zero x y = refl
-  zip-set (a ∷ xs) (b ∷ ys) (suc k) x y = ap (λ zs. (a, b) ∷ zs) (zip-set xs ys k x y)
+module _ {Z : Type 0} where
+  -- what a borrow of an optional macro shows
+  pub shown_as : (o : Option (Bor (Rc Macro Z))) (m : Option (Rc Macro Z)) → option_copied o ≡ m
+      → option_map {U = Name × Definition} (λ (b : Bor (Rc Macro Z)). (b.now.value.name, b.now.value.definition)) o
+      ≡ option_map {U = Name × Definition} (λ (shared : Rc Macro Z). (shared.value.name, shared.value.definition)) m
+  shown_as None m is = rw (← is) refl
+  shown_as (Some b) m is = rw (← is) refl
 
-  zip-push : (xs : List A) (ys : List B) (x : A) (y : B) → length ys ≡ length xs → zip (xs ++ x ∷ []) (ys ++ y ∷ []) ≡ zip xs ys ++ (x, y) ∷ []
-  zip-push [] [] x y even = refl
-  zip-push [] (b ∷ ys) x y even = absurd (omega arith)
-  zip-push (a ∷ xs) [] x y even = absurd (omega arith)
-  zip-push (a ∷ xs) (b ∷ ys) x y even = ap (λ zs. (a, b) ∷ zs) (zip-push xs ys x y (omega arith))
+  abbrev definition_of : Option (Rc Macro Z) → Option Definition
+  definition_of m = option_map (λ (shared : Rc Macro Z). shared.value.definition) m
 
-  zip-at : (xs : List A) (ys : List B) (k : ℕ) (x : A) (y : B) → slice_get xs k ≡ Some x → slice_get ys k ≡ Some y → slice_get (zip xs ys) k ≡ Some (x, y)
-  zip-at [] ys k x y here there = absurd (none-some x here)
-  zip-at (a ∷ xs) [] k x y here there = absurd (none-some y there)
-  zip-at (a ∷ xs) (b ∷ ys) zero x y here there = rw (same_Some a x here, same_Some b y there) refl
-  zip-at (a ∷ xs) (b ∷ ys) (suc k) x y here there = zip-at xs ys k x y here there
+  abbrev IsNamed : Name → Option (Rc Macro Z) → Type 0
+  IsNamed name m = IfSome m (λ (shared : Rc Macro Z). shared.value.name ≡ name)
 
--- the same of the two lists, of macros and of whether each is still defined
-names_in-zip : (ms : List Defined) (bs : List Bool) → length bs ≡ length ms → names_in (zip ms bs) ≡ macro_names ms
-names_in-zip [] bs even = refl
-names_in-zip (m ∷ ms) [] even = absurd (omega arith)
-names_in-zip (m ∷ ms) (b ∷ bs) even = ap (λ ns. m.name ∷ ns) (names_in-zip ms bs (omega arith))
+  pub names_as : (names : List Name) (macros : List (Option (Rc Macro Z))) → AreOfNames names macros → names_in (defined_as names macros) ≡ names
+  names_as [] [] of = refl
+  names_as (n ∷ names) (m ∷ macros) of = ap (λ (rest : List Name). n ∷ rest) (names_as names macros of.1)
+  names_as [] (m ∷ macros) of = absurd of
+  names_as (n ∷ names) [] of = absurd of
 
--- the macro that is found: it has the name
-record IsThere (ms : List Defined) (name : Name) (k : ℕ) (m : Defined) : Type 0 where
-  here : slice_get ms k ≡ Some m
-  same : m.name ≡ name
-  kept : set ms k m ≡ ms
+  pub as_many : (names : List Name) (macros : List (Option (Rc Macro Z))) → AreOfNames names macros → length macros ≡ length names
+  as_many [] [] of = refl
+  as_many (n ∷ names) (m ∷ macros) of = ap suc (as_many names macros of.1)
+  as_many [] (m ∷ macros) of = absurd of
+  as_many (n ∷ names) [] of = absurd of
 
-there : (ms : List Defined) (name : Name) (k : ℕ) → IsFoundAt name (macro_names ms) k → (m : Defined) × IsThere ms name k m
-there [] name k found = absurd found
-there (m ∷ ms) name zero found = (m, record { here = refl; same = sym (names_same name m.name found); kept = refl })
-there (m ∷ ms) name (suc k) found =
-    let rest = there ms name k found.1 in
-    (rest.0, record { here = rest.1.here; same = rest.1.same; kept = ap (λ all. m ∷ all) rest.1.kept })
+  -- the number of a name, among the names and among their macros
+  pub number_found : (names : List Name) (macros : List (Option (Rc Macro Z))) (name : Name) (k : ℕ) → AreOfNames names macros
+      → position (is_same_name name) (names_in (defined_as names macros)) ≡ Some k → IsFoundAt name names k × (k < length macros)
+  number_found names macros name k of at =
+      let found = found_at name names k (rw (names_as names macros of) at at) in
+      let within = found_within name names k found in
+      let many = as_many names macros of in (found, omega arith)
 
-pub named_found : (ms : List Defined) (name : Name) (k : ℕ) (m : Defined) → IsFoundAt name (macro_names ms) k → slice_get ms k ≡ Some m → m.name ≡ name
-named_found ms name k m found is =
-    let at = there ms name k found in
-    ap (λ (d : Defined). d.name) (same_Some m at.0 (sym is ∙ at.1.here)) ∙ at.1.same
+  -- the macro at the number of a name is what the name means
+  pub opened_at : (names : List Name) (macros : List (Option (Rc Macro Z))) (name : Name) (k : ℕ) (m : Option (Rc Macro Z)) → AreOfNames names macros
+      → IsFoundAt name names k → slice_get macros k ≡ Some m
+      → option_map {U = Name × Definition} (λ (shared : Rc Macro Z). (shared.value.name, shared.value.definition)) m ≡ opened_by name (meaning_of (defined_as names macros) name)
+  opened_at [] macros name k m of found is = absurd found
+  opened_at (n ∷ names) [] name k m of found is = absurd of
+  opened_at (n ∷ names) (o ∷ macros) name zero m of found is = rw (found, ← same_Some o m is) (by o of.0)
+    where
+      by : (o : Option (Rc Macro Z)) → IsNamed n o
+          → option_map {U = Name × Definition} (λ (shared : Rc Macro Z). (shared.value.name, shared.value.definition)) o ≡ opened_by name (definition_of o)
+      by None named = refl
+      by (Some shared) named = rw (named, names_same name n found) refl
+  opened_at (n ∷ names) (o ∷ macros) name (suc k) m of found is = rw found.0 (opened_at names macros name k m of.1 found.1 is)
 
-module _ (ms : List Defined) (bs : List Bool) (apart : AreApart (macro_names ms)) (even : length bs ≡ length ms) where
-  apart_in : AreApart (names_in (zip ms bs))
-  apart_in = rw (names_in-zip ms bs even) apart
+  -- another macro of the name that is found, or none
+  set_as : (names : List Name) (macros : List (Option (Rc Macro Z))) (name : Name) (k : ℕ) (m : Option (Rc Macro Z)) → AreOfNames names macros
+      → IsFoundAt name names k → defined_as names (set macros k m) ≡ set (defined_as names macros) k (record { name = name; definition = definition_of m })
+  set_as [] macros name k m of found = absurd found
+  set_as (n ∷ names) [] name k m of found = absurd of
+  set_as (n ∷ names) (o ∷ macros) name zero m of found =
+      ap (λ (x : Name). record { name = x; definition = definition_of m } ∷ defined_as names macros) (sym (names_same name n found))
+  set_as (n ∷ names) (o ∷ macros) name (suc k) m of found =
+      ap (λ (rest : List Defined). record { name = n; definition = definition_of o } ∷ rest) (set_as names macros name k m of.1 found.1)
 
-  module _ (name : Name) (k : ℕ) (found : IsFoundAt name (macro_names ms) k) where
-    found_in : IsFoundAt name (names_in (zip ms bs)) k
-    found_in = rw (names_in-zip ms bs even) found
+  pub set_named : (names : List Name) (macros : List (Option (Rc Macro Z))) (name : Name) (k : ℕ) (m : Option (Rc Macro Z)) → AreOfNames names macros
+      → IsFoundAt name names k → IsNamed name m → AreOfNames names (set macros k m)
+  set_named [] macros name k m of found named = absurd found
+  set_named (n ∷ names) [] name k m of found named = absurd of
+  set_named (n ∷ names) (o ∷ macros) name zero m of found named = (rw (sym (names_same name n found)) named, of.1)
+  set_named (n ∷ names) (o ∷ macros) name (suc k) m of found named = (of.0, set_named names macros name k m of.1 found.1 named)
 
-    flag_there : (b : Bool) → b ≡ get_or bs k b → slice_get bs k ≡ Some b
-    flag_there b is =
-        let number = found_within name (macro_names ms) k found in
-        let long = length-map ms (λ (m : Defined). m.name) in
-        slice_get_read bs (length bs) k b refl (omega arith) is
+  pub is_set : (names : List Name) (macros : List (Option (Rc Macro Z))) (name : Name) (k : ℕ) (m : Option (Rc Macro Z)) → AreOfNames names macros
+      → IsFoundAt name names k → IsChanged name (definition_of m) (defined_as names macros) (defined_as names (set macros k m))
+  is_set names macros name k m of found =
+      rw (set_as names macros name k m of found)
+      (set_changes (defined_as names macros) name k (record { name = name; definition = definition_of m }) refl (rw (names_as names macros of) found))
 
-    meaning_there : (m : Defined) (b : Bool) → slice_get ms k ≡ Some m → b ≡ get_or bs k b → meaning_of (defined_among ms bs) name ≡ definition_still (m, b)
-    meaning_there m b is still =
-        meaning_among (zip ms bs) apart_in name ∙ found_among (zip ms bs) name k m b found_in (zip-at ms bs k m b is (flag_there b still))
+  -- a macro of a new name
+  push_as : (names : List Name) (macros : List (Option (Rc Macro Z))) (name : Name) (m : Option (Rc Macro Z)) → AreOfNames names macros
+      → defined_as (names ++ name ∷ []) (macros ++ m ∷ []) ≡ defined_as names macros ++ record { name = name; definition = definition_of m } ∷ []
+  push_as [] [] name m of = refl
+  push_as (n ∷ names) (o ∷ macros) name m of =
+      ap (λ (rest : List Defined). record { name = n; definition = definition_of o } ∷ rest) (push_as names macros name m of.1)
+  push_as [] (o ∷ macros) name m of = absurd of
+  push_as (n ∷ names) [] name m of = absurd of
 
-    pub meaning_found : (m : Defined) (b : Bool) → slice_get ms k ≡ Some m → b ≡ get_or bs k b → b ≡ true
-        → meaning_of (defined_among ms bs) name ≡ Some m.definition
-    meaning_found m b is still kept = meaning_there m b is still ∙ ap (λ b. definition_still (m, b)) kept
+  pub push_named : (names : List Name) (macros : List (Option (Rc Macro Z))) (name : Name) (m : Option (Rc Macro Z)) → AreOfNames names macros
+      → IsNamed name m → AreOfNames (names ++ name ∷ []) (macros ++ m ∷ [])
+  push_named [] [] name m of named = (named, tt)
+  push_named (n ∷ names) (o ∷ macros) name m of named = (of.0, push_named names macros name m of.1 named)
+  push_named [] (o ∷ macros) name m of named = absurd of
+  push_named (n ∷ names) [] name m of named = absurd of
 
-    pub meaning_gone : (b : Bool) → b ≡ get_or bs k b → b ≡ false → meaning_of (defined_among ms bs) name ≡ None
-    meaning_gone b still cleared =
-        let at = there ms name k found in
-        meaning_there at.0 b at.1.here still ∙ ap (λ b. definition_still (at.0, b)) cleared
-
-    pub is_set : (m : Defined) → m.name ≡ name → IsChanged name (Some m.definition) (defined_among ms bs) (defined_among (set ms k m) (set bs k true))
-    is_set m same = rw (zip-set ms bs k m true) (is_set_among (zip ms bs) name k (m, true) same apart_in found_in)
-
-    pub is_removed : IsChanged name None (defined_among ms bs) (defined_among ms (set bs k false))
-    is_removed =
-        let at = there ms name k found in
-        let entries : zip ms (set bs k false) ≡ set (zip ms bs) k (at.0, false) =
-        ap (λ all. zip all (set bs k false)) (sym at.1.kept) ∙ zip-set ms bs k at.0 false in
-        rw entries (is_set_among (zip ms bs) name k (at.0, false) at.1.same apart_in found_in)
-
-  pub meaning_absent : (name : Name) → is_in name (macro_names ms) ≡ false → meaning_of (defined_among ms bs) name ≡ None
-  meaning_absent name absent =
-      meaning_among (zip ms bs) apart_in name ∙ none_among name (zip ms bs) (rw (names_in-zip ms bs even) absent)
-
-  pub is_pushed : (m : Defined) → is_in m.name (macro_names ms) ≡ false
-      → IsChanged m.name (Some m.definition) (defined_among ms bs) (defined_among (ms ++ m ∷ []) (bs ++ true ∷ []))
-  is_pushed m new =
-      rw (zip-push ms bs m true even) (is_pushed_among (zip ms bs) (m, true) apart_in (rw (names_in-zip ms bs even) new))
-
-  pub is_absent : (name : Name) → is_in name (macro_names ms) ≡ false → IsChanged name None (defined_among ms bs) (defined_among ms bs)
-  is_absent name absent = is_absent_among (zip ms bs) name apart_in (rw (names_in-zip ms bs even) absent)
+  pub is_pushed : (names : List Name) (macros : List (Option (Rc Macro Z))) (name : Name) (shared : Rc Macro Z) → AreOfNames names macros
+      → is_in name names ≡ false
+      → IsChanged name (Some shared.value.definition) (defined_as names macros) (defined_as (names ++ name ∷ []) (macros ++ Some shared ∷ []))
+  is_pushed names macros name shared of new =
+      rw (push_as names macros name (Some shared) of)
+      (push_changes (defined_as names macros) name shared.value.definition (rw (names_as names macros of) new))

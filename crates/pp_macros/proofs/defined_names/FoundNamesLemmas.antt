@@ -1,12 +1,9 @@
 -- Names that differ, and the position at which each is found.
-use Rattle.std.proofs.Common.{◌≡◌, ◌∙◌, ℕ, zero, suc, ◌<◌, Bool, true, false, ◌||◌, List, [], ◌∷◌, ◌++◌, map, length, get_or, set, Some, None, refl, sym, ap, arith}
+use Rattle.std.proofs.Common.{◌≡◌, ◌∙◌, ℕ, zero, suc, ◌<◌, Bool, true, false, ◌||◌, List, [], ◌∷◌, map, length, get_or, set, Some, None, refl, sym, ap, arith}
 use Rattle.std.specs.Prelude.{is_some, position}
 use Rattle.std.specs.Cmp.Lexicographic.{same_text, other_text}
-use Rattle.std.proofs.lemmas.List.Folds.{list_any-append}
 use Rattle.std.proofs.lemmas.List.Quantifiers.{position-Some}
 use Rattle.pp_model.specs.Names.{Name, is_same_name, is_in}
-use Rattle.pp_model.specs.ApartMarks.{AreApart}
-use Rattle.pp_model.proofs.OpenNamesLemmas.{not_in_tail}
 use Rattle.pp_macros.proofs.defined_names.NameKeysLemmas.{names_same}
 use Rattle.pp_macros.proofs.defined_names.ParameterNamesLemmas.{is_some-position}
 
@@ -25,14 +22,6 @@ not_first x y names h = by (is_same_name x y) h
     by : (b : Bool) → (b || is_in x names) ≡ false → b ≡ false
     by true e = cc
     by false e = refl
-
--- names that differ, and another one at their end
-pub apart_more : (name : Name) (names : List Name) → AreApart names → is_in name names ≡ false → AreApart (names ++ name ∷ [])
-apart_more name [] apart new = (refl, tt)
-apart_more name (n ∷ names) apart new = (
-  list_any-append (is_same_name n) names (name ∷ []) ∙ rw (apart.0, apart_too name n (not_first name n names new)) refl,
-  apart_more name names apart.1 (not_in_tail name n names new),
-)
 
 -- a name that is not found is none of them
 pub not_found : (name : Name) (names : List Name) → position (is_same_name name) names ≡ None → is_in name names ≡ false

@@ -1,55 +1,40 @@
--- The names of macros that are shared.
-use Rattle.std.proofs.Common.{◌≡◌, ◌∙◌, ℕ, ◌+◌, ◌<◌, cond, List, [], ◌∷◌, ◌++◌, map, length, get_or, set, take, Some, refl, sym, ap, arith}
+-- The names that shared texts are.
+use Rattle.std.proofs.Common.{◌≡◌, ◌∙◌, ℕ, ◌+◌, ◌<◌, cond, List, [], ◌∷◌, ◌++◌, length, get_or, take, Some, refl, sym, ap}
 use Rattle.std.specs.Prelude.{position}
 use Rattle.std.specs.List.{position_from}
 use Rattle.std.specs.declared.rc.Rc.{Rc}
 use Rattle.std.proofs.lemmas.Iterator.Adapters.{position_from-zero}
-use Rattle.std.proofs.lemmas.List.{length-map, map-append, map-set, take-map, get_or-map}
+use Rattle.std.proofs.lemmas.List.{length-map, map-append, take-map, get_or-map}
 use Rattle.pp_model.specs.Names.{Name, is_same_name}
-use Rattle.pp_macros.specs.inner.Defined.{Defined, macro_names, shared_names}
-use Rattle.pp_macros.proofs.defined_names.FoundNamesLemmas.{found_at, names-set}
-
-abbrev name_of : Defined → Name
-name_of m = m.name
+use Rattle.pp_macros.specs.inner.NamePlaces.{names_of}
 
 module _ {Z : Type 0} where
-  abbrev value_of : Rc Defined Z → Defined
-  value_of m = m.value
+  abbrev value_of : Rc Name Z → Name
+  value_of text = text.value
 
-  pub length-shared_names : (ms : List (Rc Defined Z)) → length (shared_names ms) ≡ length ms
-  length-shared_names ms = length-map (map value_of ms) name_of ∙ length-map ms value_of
+  pub length-names_of : (texts : List (Rc Name Z)) → length (names_of texts) ≡ length texts
+  length-names_of texts = length-map texts value_of
 
-  -- the name of a macro that is read
-  pub name_read : (ms : List (Rc Defined Z)) (k : ℕ) (m : Rc Defined Z) → k < length ms → m ≡ get_or ms k m
-      → m.value.name ≡ get_or (shared_names ms) k m.value.name
-  name_read ms k m within is =
-      let values = length-map ms value_of in
-      sym (get_or-map name_of (map value_of ms) k m.value m.value.name (omega arith)
-      ∙ ap name_of (get_or-map value_of ms k m m.value within ∙ ap value_of (sym is)))
+  -- the name of a text that is read
+  pub name_read : (texts : List (Rc Name Z)) (k : ℕ) (text : Rc Name Z) → k < length texts → text ≡ get_or texts k text
+      → text.value ≡ get_or (names_of texts) k text.value
+  name_read texts k text within is = sym (get_or-map value_of texts k text text.value within ∙ ap value_of (sym is))
 
-  -- one more macro, and the first so many
-  pub shared_names-more : (ms : List (Rc Defined Z)) (m : Rc Defined Z) → shared_names (ms ++ m ∷ []) ≡ shared_names ms ++ m.value.name ∷ []
-  shared_names-more ms m =
-      ap macro_names (map-append value_of ms (m ∷ [])) ∙ map-append name_of (map value_of ms) (m.value ∷ [])
+  -- one more text, and the first so many
+  pub names_of-more : (texts : List (Rc Name Z)) (text : Rc Name Z) → names_of (texts ++ text ∷ []) ≡ names_of texts ++ text.value ∷ []
+  names_of-more texts text = map-append value_of texts (text ∷ [])
 
-  pub shared_names-take : (ms : List (Rc Defined Z)) (k : ℕ) → shared_names (take k ms) ≡ take k (shared_names ms)
-  shared_names-take ms k =
-      ap macro_names (sym (take-map value_of k ms)) ∙ sym (take-map name_of k (map value_of ms))
+  pub names_of-take : (texts : List (Rc Name Z)) (k : ℕ) → names_of (take k texts) ≡ take k (names_of texts)
+  names_of-take texts k = sym (take-map value_of k texts)
 
-  -- a macro is where its name is among the names
-  position_there : (name : Name) (i : ℕ) (ms : List (Rc Defined Z))
-      → position_from (λ (m : Rc Defined Z). is_same_name name m.value.name) i ms ≡ position_from (is_same_name name) i (shared_names ms)
+  -- a text is where its name is among the names
+  position_there : (name : Name) (i : ℕ) (texts : List (Rc Name Z))
+      → position_from (λ (text : Rc Name Z). is_same_name name text.value) i texts ≡ position_from (is_same_name name) i (names_of texts)
   position_there name i [] = refl
-  position_there name i (m ∷ ms) = ap (λ o. cond (is_same_name name m.value.name) (Some i) o) (position_there name (i + 1) ms)
+  position_there name i (text ∷ texts) = ap (λ o. cond (is_same_name name text.value) (Some i) o) (position_there name (i + 1) texts)
 
-  pub position_shared : (name : Name) (ms : List (Rc Defined Z))
-      → position (λ (m : Rc Defined Z). is_same_name name m.value.name) ms ≡ position (is_same_name name) (shared_names ms)
-  position_shared name ms =
-      position_from-zero (λ (m : Rc Defined Z). is_same_name name m.value.name) ms ∙ position_there name 0 ms
-      ∙ sym (position_from-zero (is_same_name name) (shared_names ms))
-
-  -- a macro in the place of the one of its name
-  pub shared_names-replace : (ms : List (Rc Defined Z)) (k : ℕ) (m : Rc Defined Z) → position (is_same_name m.value.name) (shared_names ms) ≡ Some k
-      → shared_names (set ms k m) ≡ shared_names ms
-  shared_names-replace ms k m found =
-      ap macro_names (map-set value_of ms k m) ∙ names-set name_of (map value_of ms) k m.value (found_at m.value.name (shared_names ms) k found)
+  pub position_shared : (name : Name) (texts : List (Rc Name Z))
+      → position (λ (text : Rc Name Z). is_same_name name text.value) texts ≡ position (is_same_name name) (names_of texts)
+  position_shared name texts =
+      position_from-zero (λ (text : Rc Name Z). is_same_name name text.value) texts ∙ position_there name 0 texts
+      ∙ sym (position_from-zero (is_same_name name) (names_of texts))

@@ -1,11 +1,11 @@
 -- A step of a frame lowers the number of its steps and keeps its name; and how many steps a frame has when it opens.
-use Rattle.std.proofs.Common.{◌≡◌, ℕ, ◌+◌, ◌*◌, ◌<◌, ◌≤◌, Bool, true, false, if◌then◌else◌, List, [], ◌∷◌, length, refl, ap, arith, Option, Some, None, IfSome}
+use Rattle.std.proofs.Common.{◌≡◌, ℕ, ◌+◌, ◌*◌, ◌<◌, ◌≤◌, Bool, true, false, List, [], ◌∷◌, length, refl, ap, arith, Option, Some, None, IfSome}
 use Rattle.pp_lexer.specs.declared.token.Token.{Token}
 use Rattle.pp_model.specs.declared.read.Read.{Read}
 use Rattle.pp_model.specs.Names.{Name, is_same_name}
 use Rattle.pp_model.specs.Definitions.{Definition}
 use Rattle.pp_model.specs.SpliceList.{parameter_of}
-use Rattle.pp_macros.specs.inner.Defined.{Defined, meaning_of, body_tokens}
+use Rattle.pp_macros.specs.inner.Defined.{Defined, meaning_of, more_tokens, body_tokens}
 use Rattle.pp_macros.specs.inner.Frames.{Frame, Advance, advance, body_token, argument_at, arguments_left}
 use Rattle.pp_macros.specs.inner.Bodies.{has_parameter}
 use Rattle.pp_macros.specs.inner.Work.{token_steps, body_steps, steps_left}
@@ -87,9 +87,8 @@ body_within (d ∷ ds) name definition e = go (is_same_name name d.name) refl (b
     go : (b : Bool) → is_same_name name d.name ≡ b → (meaning_of ds name ≡ Some definition → length definition.body ≤ body_tokens ds)
         → length definition.body ≤ body_tokens (d ∷ ds)
     go true same below =
-        let here : Some d.definition ≡ Some definition = rw same at e in
-        let is : d.definition ≡ definition = cc in
-        let long : length d.definition.body ≡ length definition.body = ap (λ (x : Definition). length x.body) is in
+        let here : d.definition ≡ Some definition = rw same at e in
+        let long : more_tokens d.definition ≡ length definition.body = ap more_tokens here in
         omega arith
     go false other below =
         let there : meaning_of ds name ≡ Some definition = rw other at e in

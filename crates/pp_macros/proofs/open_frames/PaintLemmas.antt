@@ -14,7 +14,8 @@ use Rattle.pp_macros.specs.inner.Frames.{names_of}
 use Rattle.pp_macros.specs.inner.Expander.{Expander, StepsTaking}
 use Rattle.pp_macros.specs.inner.Reader.{Reader, visible, hidden_of}
 use Rattle.pp_macros.specs.inner.Reading.{painted_step}
-use Rattle.pp_macros.specs.inner.Turns.{masks, macro_of, macro_of_value, opened_by}
+use Rattle.pp_macros.specs.inner.Turns.{masks, macro_of, macro_of_value}
+use Rattle.pp_macros.specs.inner.Defined.{opened_by}
 
 -- the name of a macro that an unpainted value opens isn't among these
 value_apart : (s : Reader) (names : List Name) (name : Name) (definition : Definition) (painted : Bool) (value : TokenValue)

@@ -1,5 +1,5 @@
 -- Taking a token leaves the outermost macro open.
-use Rattle.std.proofs.Common.{◌≡◌, ◌∙◌, ℕ, sym, ap, refl, List, [], ◌∷◌, Option, Some, None, Ok, Err, IfSome, inl, inr}
+use Rattle.std.proofs.Common.{◌≡◌, ◌∙◌, ℕ, ap, refl, List, [], ◌∷◌, Option, Some, None, Ok, Err, IfSome, inl, inr}
 use Rattle.std.specs.Prelude.{unwrap_or}
 use Rattle.pp_lexer.specs.declared.token.Token.{Token}
 use Rattle.pp_model.specs.Names.{Name}
@@ -10,7 +10,7 @@ use Rattle.pp_macros.specs.inner.Expander.{Expander, StepsFetching, StepsTaking,
 use Rattle.pp_macros.specs.inner.Frames.{Frame, Advance, advance, body_token, outermost_frame_line}
 use Rattle.pp_macros.specs.inner.Reader.{Reader}
 use Rattle.pp_macros.specs.inner.Reading.{painted_step}
-use Rattle.pp_macros.specs.inner.Turns.{Moves, as_pause, frame_move, masks}
+use Rattle.pp_macros.specs.inner.Turns.{Moves, frame_move, masks}
 
 -- a step of a frame keeps its line
 body_line : (f : Frame) (token : Token) (rest : List Token) (parameter : Option ℕ) → (body_token f token rest parameter).after.line ≡ f.line

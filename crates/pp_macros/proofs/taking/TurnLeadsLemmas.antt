@@ -18,7 +18,6 @@ use Rattle.pp_model.specs.inner.Emitting.{holding}
 use Rattle.pp_model.specs.SpliceList.{macro_before, outermost_line}
 use Rattle.pp_model.specs.CallLine.{item_line}
 use Rattle.pp_model.specs.declared.splice.Entry.{Entry}
-use Rattle.pp_model.specs.declared.read.Taken.{Taken as Given}
 use Rattle.pp_model.specs.declared.read.Taken.TheVariants as given
 use Rattle.pp_macros.specs.inner.CallTurns.{Sought, no_call, Seeks, alone, called, Finds, TurnsTo, passes, gives, object, seeks, paren_of, sought_by}
 use Rattle.pp_macros.specs.Item.{Step, wants_memory}
@@ -26,7 +25,8 @@ use Rattle.pp_macros.specs.inner.Frames.{new_frame, flat}
 use Rattle.pp_macros.specs.inner.Expander as kept
 use Rattle.pp_macros.specs.inner.Expander.{outcome_of_step, StepsTaking, TakesNext}
 use Rattle.pp_macros.specs.inner.Reader.{Reader, Reads, hidden_of, shown_line, visible}
-use Rattle.pp_macros.specs.inner.Turns.{macro_of, macro_of_value, opened_by}
+use Rattle.pp_macros.specs.inner.Turns.{macro_of, macro_of_value}
+use Rattle.pp_macros.specs.inner.Defined.{opened_by}
 use Rattle.pp_macros.specs.declared.calls.Taken.{Taken}
 use Rattle.pp_macros.specs.declared.calls.Taken.TheVariants as taken
 use Rattle.pp_macros.specs.declared.step.StepExit.{StepExit}

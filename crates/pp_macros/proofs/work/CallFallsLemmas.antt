@@ -9,14 +9,14 @@ use Rattle.pp_model.specs.Definitions.{Definition}
 use Rattle.pp_model.specs.Names.{Name, is_in}
 use Rattle.pp_macros.specs.inner.Calling.{MacroCall}
 use Rattle.pp_macros.specs.inner.CallTurns.{Sought, no_call, sought_by, Seeks, alone, called, Finds, TurnsTo, passes, gives, object, seeks, paren_of}
-use Rattle.pp_macros.specs.inner.Defined.{meaning_of, body_tokens}
+use Rattle.pp_macros.specs.inner.Defined.{meaning_of, body_tokens, opened_by}
 use Rattle.pp_macros.specs.inner.Frames.{new_frame, names_of}
 use Rattle.pp_macros.specs.Item.{Step, wants_memory}
 use Rattle.pp_macros.specs.inner.Left.{reads_left, most_open, most_bodies, one_more, regions_of, regions, work_of, IsSound, most_alone}
 use Rattle.pp_macros.specs.inner.Expander.{Expander, StepsTaking, GathersNext}
 use Rattle.pp_macros.specs.inner.Reach.{total}
 use Rattle.pp_macros.specs.inner.Reader.{Reader, of_source, of_list, visible, definitions_of, is_reserved}
-use Rattle.pp_macros.specs.inner.Turns.{macro_of, macro_of_value, opened_by}
+use Rattle.pp_macros.specs.inner.Turns.{macro_of, macro_of_value}
 use Rattle.pp_macros.specs.declared.calls.Taken.{Taken}
 use Rattle.pp_macros.specs.declared.calls.Taken.TheVariants as taken
 use Rattle.pp_macros.specs.declared.step.StepExit.{StepExit}

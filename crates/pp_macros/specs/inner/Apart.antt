@@ -1,8 +1,8 @@
 -- The next token of a list, taken as it is (docs/RULES.md, Expansion 1 to 4).
-use Rattle.std.specs.Prelude.{◌≡◌, ◌&&◌, Bool, true, false, Ok}
+use Rattle.std.specs.Prelude.{◌≡◌, ◌&&◌, ℕ, Bool, true, false, if◌then◌else◌, List, Option, None, Ok, position}
 use Rattle.pp_lexer.specs.declared.token.TokenValue.{TokenValue}
 use Rattle.pp_lexer.specs.declared.token.TokenValue.TheVariants.{Ident}
-use Rattle.pp_model.specs.Names.{is_identifier, is_same_name, defined_name, line_name}
+use Rattle.pp_model.specs.Names.{Name, is_identifier, is_same_name, defined_name, line_name}
 use Rattle.pp_model.specs.Painting.{painted_among}
 use Rattle.pp_model.specs.declared.read.Read.{Read}
 use Rattle.pp_macros.specs.Held.{HoldsOrdinary}
@@ -12,6 +12,11 @@ use Rattle.pp_macros.specs.inner.Reader.{Listing, Reads, of_list}
 abbrev pub opens_none : Bool → TokenValue → Bool
 opens_none is_line (Ident name) = is_line && is_same_name name defined_name
 opens_none is_line _ = true
+
+-- the number of `defined` on a line, if it has one
+abbrev pub IsReservedNumber : Bool → List Name → Option ℕ → Type 0
+IsReservedNumber is_line names reserved =
+    reserved ≡ (if is_line then position (is_same_name defined_name) names else None)
 
 -- the next token was taken, which is neither `__LINE__` nor the name of a macro that is open around
 pub record IsApart (old : Listing) (read : Read) (new : Listing) : Type 0 where

@@ -1,57 +1,71 @@
--- The names that are defined, as the preprocessor keeps them: a list of names with definitions, and for each whether it
--- is still defined.
-use Rattle.std.specs.Prelude.{◌≡◌, ℕ, ◌+◌, ◌≤◌, Bool, true, false, List, [], ◌∷◌, length, map, Option, Some, None}
-use Rattle.std.specs.List.{zip}
+-- The names that were ever defined, as the preprocessor keeps them: by number, each with its definition if it has one.
+use Rattle.std.specs.Prelude.{◌≡◌, ℕ, ◌+◌, ◌≤◌, ◌++◌, List, [], ◌∷◌, length, map, Option, Some, None, IfSome}
+use Rattle.std.specs.Prelude.{option_map, ⊤}
 use Rattle.std.specs.declared.rc.Rc.{Rc}
 use Rattle.pp_model.specs.Names.{Name}
 use Rattle.pp_model.specs.Definitions.{Definition, Definitions, with_change}
 use Rattle.pp_model.specs.inner.Definitions.{nothing_defined}
 
--- a name and its definition
-pub record Defined : Type 0 where
+-- a macro: a name and its definition
+pub record Macro : Type 0 where
   pub name : Name
   pub definition : Definition
 
--- the names of the macros
-abbrev pub macro_names : List Defined → List Name
-macro_names macros = map (λ (m : Defined). m.name) macros
+-- a name that has a number, and its definition if it is defined
+pub record Defined : Type 0 where
+  pub name : Name
+  pub definition : Option Definition
 
--- the names of macros that are shared
-abbrev pub shared_names : {Z : Type 0} → List (Rc Defined Z) → List Name
-shared_names {Z} macros = macro_names (map (λ (m : Rc Defined Z). m.value) macros)
+-- the names by number
+abbrev pub names_in : List Defined → List Name
+names_in definitions = map (λ (d : Defined). d.name) definitions
 
--- of macros, each with whether it is still defined, those that are
-abbrev pub still_defined : List (Defined × Bool) → List Defined
-still_defined [] = []
-still_defined ((m, true) ∷ entries) = m ∷ still_defined entries
-still_defined ((m, false) ∷ entries) = still_defined entries
+-- the names with the definitions of their macros; both lists are by number
+abbrev pub defined_as : {Z : Type 0} → List Name → List (Option (Rc Macro Z)) → List Defined
+defined_as [] macros = []
+defined_as (name ∷ names) [] = []
+defined_as (name ∷ names) (m ∷ macros) =
+    record { name = name; definition = option_map (λ shared. shared.value.definition) m } ∷ defined_as names macros
 
--- those of the macros that are still defined; the second list says of each whether it is
-abbrev pub defined_among : List Defined → List Bool → List Defined
-defined_among macros defined = still_defined (zip macros defined)
+-- each macro has the name of its number
+abbrev pub AreOfNames : {Z : Type 0} → List Name → List (Option (Rc Macro Z)) → Type 0
+AreOfNames [] [] = ⊤
+AreOfNames (name ∷ names) (m ∷ macros) = IfSome m (λ shared. shared.value.name ≡ name) × AreOfNames names macros
+AreOfNames _ _ = ⊥
 
 -- the definition of each name, if it has one; the first in the list counts
 abbrev pub meaning_of : List Defined → Definitions
 meaning_of [] = nothing_defined
-meaning_of (d ∷ ds) = with_change (meaning_of ds) d.name (Some d.definition)
+meaning_of (d ∷ ds) = with_change (meaning_of ds) d.name d.definition
 
--- how many tokens all bodies have together
-abbrev pub body_tokens : List Defined → ℕ
-body_tokens [] = 0
-body_tokens (d ∷ ds) = length d.definition.body + body_tokens ds
+-- the macro that has this name
+abbrev pub opened_by : Name → Option Definition → Option (Name × Definition)
+opened_by name None = None
+opened_by name (Some definition) = Some (name, definition)
 
--- by how many names a change may make the list longer, and by how many tokens
-abbrev pub more_names : Option Definition → ℕ
-more_names None = 0
-more_names (Some definition) = 1
-
+-- how many tokens a body has, if there is a definition
 abbrev pub more_tokens : Option Definition → ℕ
 more_tokens None = 0
 more_tokens (Some definition) = length definition.body
 
--- The name has this definition from now on, or none, and all other names keep theirs. The list grows by no more than
--- that.
+-- how many tokens all bodies have together
+abbrev pub body_tokens : List Defined → ℕ
+body_tokens [] = 0
+body_tokens (d ∷ ds) = more_tokens d.definition + body_tokens ds
+
+-- by how many names a change may make the list longer
+abbrev pub more_names : Option Definition → ℕ
+more_names None = 0
+more_names (Some definition) = 1
+
+-- the new names are the old ones, and perhaps others after them
+abbrev pub GrowAtEnd : List Name → List Name → Type 0
+GrowAtEnd old new = (more : List Name) × (new ≡ old ++ more)
+
+-- The name has this definition from now on, or none, and all other names keep theirs. Each name keeps its number. The
+-- list grows by no more than that.
 pub record IsChanged (name : Name) (change : Option Definition) (old new : List Defined) : Type 0 where
   pub meaning : meaning_of new ≡ with_change (meaning_of old) name change
+  pub kept : GrowAtEnd (names_in old) (names_in new)
   pub names : length new ≤ length old + more_names change
   pub tokens : body_tokens new ≤ body_tokens old + more_tokens change

@@ -1,11 +1,16 @@
 -- Lists of names without doubles, and the hash table that finds each name.
 use Rattle.std.specs.Prelude.{◌≡◌, ℕ, ◌+◌, ◌-◌, ◌*◌, ◌%◌, ◌^◌, ◌<◌, ◌≤◌, ◌⊎◌, List, [], length, Option, Some, None}
-use Rattle.std.specs.Prelude.{fold, bit_and, bit_xor, position, slice_index_or, string_bytes}
+use Rattle.std.specs.Prelude.{map, fold, bit_and, bit_xor, position, slice_index_or, string_bytes}
 use Rattle.std.specs.Map.{lookup}
 use Rattle.std.specs.Str.{chars, encode_utf8_all}
+use Rattle.std.specs.declared.rc.Rc.{Rc}
 use Rattle.std.specs.declared.string.String.{String}
 use Rattle.pp_model.specs.Names.{Name, is_same_name}
-use Rattle.pp_macros.specs.declared.macros.table.Place.{Place}
+use Rattle.pp_macros.specs.declared.names.table.Place.{Place}
+
+-- the names that texts are
+abbrev pub names_of : {Z : Type 0} → List (Rc Name Z) → List Name
+names_of {Z} texts = map (λ (text : Rc Name Z). text.value) texts
 
 -- no two names are the same: each is found at its own position
 abbrev pub AreDistinct : List Name → Type 0

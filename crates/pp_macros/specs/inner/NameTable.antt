@@ -1,7 +1,7 @@
 -- The table by which names are found, if there is one.
 use Rattle.std.specs.Prelude.{List, Option, Some, None}
 use Rattle.pp_model.specs.Names.{Name}
-use Rattle.pp_macros.specs.declared.macros.table.Table.{Table}
+use Rattle.pp_macros.specs.declared.names.table.Table.{Table}
 use Rattle.pp_macros.specs.inner.NamePlaces.{FindsNames}
 
 -- each of the names is found by the table, if there is one

@@ -12,6 +12,7 @@ use Rattle.pp_model.specs.declared.read.Taken.{Taken as Given}
 use Rattle.pp_model.specs.declared.read.Taken.TheVariants as given
 use Rattle.pp_model.specs.declared.read.Read.{Read}
 use Rattle.pp_macros.specs.Item.{Step}
+use Rattle.pp_macros.specs.inner.Defined.{opened_by}
 use Rattle.pp_macros.specs.inner.Frames.{Frame, Advance, advance, names_of, outermost_frame_line}
 use Rattle.pp_macros.specs.inner.Reader.{Reader, Reads, visible, hidden_of, shown_line}
 use Rattle.pp_macros.specs.declared.step.StepExit.TheVariants.{Error, Continue}
@@ -52,10 +53,6 @@ masks frames reader = names_of frames ++ hidden_of reader
 abbrev pub gives_line_name : Step Read → Bool
 gives_line_name (Ok read) = is_identifier line_name read.token.value
 gives_line_name (Err exit) = false
-
-abbrev pub opened_by : Name → Option Definition → Option (Name × Definition)
-opened_by name None = None
-opened_by name (Some definition) = Some (name, definition)
 
 abbrev pub macro_of_value : Reader → TokenValue → Option (Name × Definition)
 macro_of_value reader (Ident name) = opened_by name (visible reader name)

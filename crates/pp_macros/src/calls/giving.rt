@@ -38,7 +38,10 @@ fn opened_by<'l, L: MeLexer>(
         return None;
     }
     match ahead.value() {
-        TokenValue::Ident(name) => lexer.get_define(ahead.number(), name.as_str()),
+        TokenValue::Ident(name) => {
+            let id = lexer.find_first_at(ahead.number(), name.as_str())?;
+            lexer.get_define(id)
+        }
         _ => None,
     }
 }

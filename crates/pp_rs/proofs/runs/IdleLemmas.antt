@@ -12,7 +12,7 @@ use Rattle.pp_model.specs.Definitions.{Definition}
 use Rattle.pp_model.specs.Painting.{unpainted}
 use Rattle.pp_model.proofs.SpelledRunLemmas.{or_none}
 use Rattle.pp_macros.specs.inner.CallTurns.{TurnsTo, passes, gives, object, seeks}
-use Rattle.pp_macros.specs.inner.Defined.{meaning_of}
+use Rattle.pp_macros.specs.inner.Defined.{meaning_of, opened_by}
 use Rattle.pp_macros.specs.inner.Frames.{Frame, new_frame}
 use Rattle.pp_macros.specs.inner.Idle.{IsHeld, HoldsWord}
 use Rattle.pp_macros.specs.Item.{Step}
@@ -22,7 +22,7 @@ use Rattle.pp_macros.specs.inner.Reader.{Reader, of_source}
 use Rattle.pp_macros.specs.inner.Reading.{painted_step}
 use Rattle.pp_macros.specs.inner.Source.{Source}
 use Rattle.pp_rs.specs.inner.SourceTurns.{StepsOver}
-use Rattle.pp_macros.specs.inner.Turns.{masks, opened_by, macro_of_value}
+use Rattle.pp_macros.specs.inner.Turns.{masks, macro_of_value}
 use Rattle.pp_macros.specs.declared.calls.Taken.{Taken}
 use Rattle.pp_macros.specs.declared.calls.Taken.TheVariants as taken
 use Rattle.pp_macros.specs.declared.step.StepExit.{StepExit}

@@ -6,11 +6,11 @@ use Rattle.pp_lexer.specs.declared.lexer.plain.Form.{Form}
 use Rattle.pp_lexer.specs.declared.lexer.plain.Form.TheVariants.{Identifier, Hash}
 use Rattle.pp_model.specs.Definitions.{Definition}
 use Rattle.pp_model.specs.Names.{Name, is_identifier, is_same_name, line_name}
-use Rattle.pp_macros.specs.inner.Defined.{meaning_of}
+use Rattle.pp_macros.specs.inner.Defined.{meaning_of, opened_by}
 use Rattle.pp_macros.specs.inner.Plain.{gives_itself}
 use Rattle.pp_macros.specs.inner.Reader.{of_source}
 use Rattle.pp_macros.specs.inner.Source.{Source}
-use Rattle.pp_macros.specs.inner.Turns.{macro_of_value, opened_by}
+use Rattle.pp_macros.specs.inner.Turns.{macro_of_value}
 use Rattle.pp_directives.specs.WordTokens.{word_value, word_token}
 use Rattle.pp_directives.specs.inner.PlainText.{is_bare, opens_bare, IsUnknown, TakesBare}
 use Rattle.pp_lexer.specs.declared.lexer.plain_item.PlainItem.{PlainItem}

@@ -1,6 +1,6 @@
 use Rattle.std.proofs.Common.{◌≡◌, ◌∙◌, ◌&&◌, Bool, true, false, not, is_none, is_some, ℕ, List, Option, Some, None, IsTrue, ap, sym, refl}
 use Rattle.std.specs.Option.{option_map}
-use Rattle.std.specs.Str.{chars, IsAscii}
+use Rattle.std.specs.Str.{chars}
 use Rattle.std.proofs.lemmas.Str.{chars-IsAscii}
 use Rattle.pp_model.specs.Definitions.{Definition}
 use Rattle.pp_model.specs.Names.{is_same_name, line_name}
@@ -23,4 +23,4 @@ returns-then-not-is_line_name-clause-itself c = λ none.
     let same : chars w ≡ w = chars-IsAscii w c.requires in
     rw c.in-Identifier.is
     (neither c.args.definitions.now w (sym c.is_line_name.ensures ∙ c.if-not-is_line_name.true)
-    (none_mapped _ c.find.result _ c.is_none.result (c.find.ensures.definition ∙ ap (meaning_of c.args.definitions.now) same) c.is_none.ensures none))
+    (none_mapped _ c.get.result _ c.is_none.result (c.get.ensures.definition ∙ ap (meaning_of c.args.definitions.now) same) c.is_none.ensures none))

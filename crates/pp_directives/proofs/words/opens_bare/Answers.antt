@@ -1,10 +1,10 @@
-use Rattle.std.proofs.Common.{◌≡◌, ◌∙◌, ◌&&◌, Bool, true, false, not, ℕ, List, Option, Some, IsTrue, ap, sym, refl}
-use Rattle.std.specs.Str.{chars, IsAscii}
+use Rattle.std.proofs.Common.{◌≡◌, ◌∙◌, Bool, true, false, not, ℕ, List, Some, IsTrue, ap, sym, refl}
+use Rattle.std.specs.Str.{chars}
 use Rattle.std.proofs.lemmas.Str.{chars-IsAscii}
 use Rattle.pp_model.specs.Definitions.{Definition}
 use Rattle.pp_model.specs.Names.{is_same_name, line_name}
 use Rattle.pp_macros.specs.inner.Defined.{Defined, meaning_of}
-use Rattle.pp_directives.specs.inner.PlainText.{is_bare, opens_bare}
+use Rattle.pp_directives.specs.inner.PlainText.{opens_bare}
 use Rattle.pp_directives.proofs.words.opens_bare.Goals as goal
 
 bare : (definitions : List Defined) (w : List ℕ) (definition : Definition) (function : Bool) → is_same_name w line_name ≡ false
@@ -17,7 +17,7 @@ pub returns-then-not-is_line_name-clause-opens : goal.returns-then-not-is_line_n
 returns-then-not-is_line_name-clause-opens c = λ t.
     let w = c.args.word.now.spelling.now in
     let same : chars w ≡ w = chars-IsAscii w c.requires in
-    let found = rw c.in-Some.is at c.find.ensures.definition in
+    let found = rw c.in-Some.is at c.get.ensures.definition in
     rw c.in-Identifier.is
     (bare c.args.definitions.now w c.define.result.now c.is_function_like.result (sym c.is_line_name.ensures ∙ c.if-not-is_line_name.true)
     (ap Some (c.define.ensures ∙ ap (λ d. d.definition) c.deref.ensures) ∙ found ∙ ap (meaning_of c.args.definitions.now) same)

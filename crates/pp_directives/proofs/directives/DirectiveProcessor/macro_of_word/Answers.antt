@@ -4,8 +4,8 @@ use Rattle.pp_directives.proofs.directives.DirectiveProcessor.macro_of_word.Goal
 
 pub returns-in-Identifier : goal.returns-in-Identifier
 returns-in-Identifier c =
-    rw (c.in-Identifier.is, ← chars-IsAscii c.args.word.now.spelling.now c.requires.ascii)
-    (named_macro _ _ c.find.result _ _ c.find.ensures.definition c.find.ensures.name)
+    rw (c.in-Identifier.is, ← chars-IsAscii c.args.word.now.spelling.now c.requires.ascii, ← c.self.view_is)
+    (named_macro _ _ c.get.result _ _ c.get.ensures.definition c.get.ensures.name)
 
 pub returns-in_default : goal.returns-in_default
 returns-in_default c = names_none c.args.self.now c.args.word.now.form _ c.in_default.not-Identifier c.requires.no_hash

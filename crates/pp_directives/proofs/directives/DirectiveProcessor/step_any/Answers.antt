@@ -1,4 +1,4 @@
-use Rattle.std.proofs.Common.{◌≡◌, false, Ok, Some, sym, ◌∙◌, ap, subst}
+use Rattle.std.proofs.Common.{◌≡◌, false, Ok, sym, ◌∙◌, ap, subst}
 use Rattle.pp_macros.specs.inner.LineReading.{HasTaken, next_token}
 use Rattle.pp_directives.proofs.SourceStepLemmas.{step_directive}
 use Rattle.pp_directives.proofs.directives.DirectiveProcessor.step_any.Goals as goal

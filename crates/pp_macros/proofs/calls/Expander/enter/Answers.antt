@@ -1,6 +1,6 @@
 use Rattle.std.proofs.Common.{◌∙◌, sym, ap}
 use Rattle.pp_macros.proofs.taking.SeekLemmas.{follows_plain, follows_called, opening_bare, taken_whole}
-use Rattle.pp_macros.specs.inner.Defined.{Defined}
+use Rattle.pp_macros.specs.inner.Defined.{Macro}
 use Rattle.pp_macros.proofs.calls.Expander.enter.Goals as goal
 
 pub returns-then-is_function_like-clause-follows : goal.returns-then-is_function_like-clause-follows
@@ -11,5 +11,5 @@ returns-then-is_function_like-clause-follows g c =
 pub returns-else-is_function_like-clause-follows : goal.returns-else-is_function_like-clause-follows
 returns-else-is_function_like-clause-follows g c =
     follows_plain _ c.args.read _ _ _ _ _ _ c.requires.opens
-    (ap (λ d. d.function_like) (sym (c.define.ensures ∙ ap (λ (d : Defined). d.definition) c.deref.ensures)) ∙ sym c.is_function_like.ensures
+    (ap (λ d. d.function_like) (sym (c.define.ensures ∙ ap (λ (m : Macro). m.definition) c.deref.ensures)) ∙ sym c.is_function_like.ensures
     ∙ c.if-is_function_like.false) c.open_plain.ensures.opens

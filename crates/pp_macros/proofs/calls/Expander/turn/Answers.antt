@@ -2,7 +2,7 @@ use Rattle.std.proofs.Common.{◌∙◌, ap, sym, refl}
 use Rattle.std.specs.Prelude.{not}
 use Rattle.pp_model.specs.Names.{is_identifier, line_name}
 use Rattle.pp_model.specs.Painting.{painted_among}
-use Rattle.pp_macros.specs.inner.Defined.{Defined}
+use Rattle.pp_macros.specs.inner.Defined.{Macro}
 use Rattle.pp_macros.specs.inner.Expander.{Expander}
 use Rattle.pp_macros.specs.inner.Turns.{masks}
 use Rattle.pp_macros.proofs.taking.FrameTurnLemmas.{refused_there, frame_pauses, frame_gives, frame_opens, frame_takes_some}
@@ -53,7 +53,7 @@ returns-in_err-open_bare-clause-refused g c = refused_there c.from_residual-in_e
 -- a name whose macro opens
 pub returns-clause-turns : goal.returns-clause-turns
 returns-clause-turns g c =
-    let bare = ap (λ d. d.function_like) (sym (c.define.ensures ∙ ap (λ (d : Defined). d.definition) c.deref.ensures)) ∙ sym c.is_function_like.ensures
+    let bare = ap (λ d. d.function_like) (sym (c.define.ensures ∙ ap (λ (m : Macro). m.definition) c.deref.ensures)) ∙ sym c.is_function_like.ensures
     ∙ c.if-is_function_like.false in
     rw (← c.self.view_is, c.in_ok-open_bare.ensures {u = tt}, c.pass_token.ensures, c.line-line.ensures, (c.in_ok-opened.ensures {u = tt}).cases)
     (frame_opens (record { held = c.self.inside.held; frames = c.self.inside.processor }) (g.L.MeLexer.reader c.args.lexer.now)

@@ -12,7 +12,7 @@ invariant_of-self c =
       drop-set-lt (c.self.inside.position + 1) c.self.inside.tokens.now c.self.inside.position c.take_out-read.new.place (omega arith),
       ← drop-drop 1 c.self.inside.position c.self.inside.tokens.now,
     )
-    (All-drop (λ (read : Read). HoldsOrdinary read.token.value) 1 (drop c.self.inside.position c.self.inside.tokens.now) c.self.invariant)
+    (All-drop (λ (read : Read). HoldsOrdinary read.token.value) 1 (drop c.self.inside.position c.self.inside.tokens.now) c.self.invariant.0, c.self.invariant.1)
 
 pub returns-clause-holds : goal.returns-clause-holds
 returns-clause-holds c =
@@ -20,4 +20,4 @@ returns-clause-holds c =
     rw (← length-drop c.self.inside.position c.self.inside.tokens.now) (subst (λ (l : Listing). 0 < length l.tokens) (sym c.self.view_is) c.requires) in
     let here : drop c.self.inside.position c.self.inside.tokens.now ≡ c.take_out-read.result ∷ drop (c.self.inside.position + 1) c.self.inside.tokens.now
     = rw c.take_out-read.ensures.is (drop_more c.self.inside.tokens.now c.self.inside.position c.index-self-self.result (omega (arith, within))) in
-    All-head (λ (read : Read). HoldsOrdinary read.token.value) c.take_out-read.result _ (rw here at c.self.invariant)
+    All-head (λ (read : Read). HoldsOrdinary read.token.value) c.take_out-read.result _ (rw here at c.self.invariant.0)

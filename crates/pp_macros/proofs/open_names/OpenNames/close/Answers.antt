@@ -1,7 +1,5 @@
 use Rattle.std.proofs.Common.{◌≡◌, ◌-◌, length, slice_get, Some, sym}
 use Rattle.std.proofs.lemmas.Bool.{ne_eqb}
-use Rattle.std.proofs.lemmas.List.{length-map, take-map}
-use Rattle.pp_macros.specs.inner.Defined.{Defined, macro_names}
 use Rattle.pp_macros.proofs.open_frames.OpenNamesLemmas.{last_first-last, closed_there, closed_elsewhere}
 use Rattle.pp_macros.proofs.open_names.OpenNames.close.Goals as goal
 
@@ -13,10 +11,8 @@ returns-then-last-position c =
       c.pop-then-last-position.ensures,
       c.pop.ensures.rest,
       c.self.inside.positions.ok.0,
-      ← take-map (λ (d : Defined). d.name) (length c.self.inside.macros - 1) c.self.inside.macros,
-      ← length-map c.self.inside.macros (λ (d : Defined). d.name),
       ← c.self.view_is,
-      last_first-last (macro_names c.self.inside.macros) c.self.inside.positions.items c.in-Some.last.now c.self.invariant last,
+      last_first-last c.self.inside.names c.self.inside.positions.items c.in-Some.last.now c.self.invariant last,
       c.if-last-position.true,
     )
     (sym (closed_there _ c.args.position _))
@@ -25,5 +21,5 @@ pub returns-else-last-position : goal.returns-else-last-position
 returns-else-last-position c =
     let last : slice_get c.self.inside.positions.items (length c.self.inside.positions.items - 1) ≡ Some c.in-Some.last.now =
     rw c.deref.ensures.value at (sym c.in-Some.ensures.value) in
-    rw (← c.self.view_is, last_first-last (macro_names c.self.inside.macros) c.self.inside.positions.items c.in-Some.last.now c.self.invariant last)
+    rw (← c.self.view_is, last_first-last c.self.inside.names c.self.inside.positions.items c.in-Some.last.now c.self.invariant last)
     (sym (closed_elsewhere _ c.args.position c.in-Some.last.now _ (ne_eqb c.in-Some.last.now c.args.position c.if-last-position.false)))

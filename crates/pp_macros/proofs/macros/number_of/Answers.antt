@@ -1,7 +1,0 @@
-use Rattle.std.proofs.Common.{◌∙◌}
-use Rattle.std.specs.Str.{chars}
-use Rattle.pp_macros.proofs.defined_names.SharedNamesLemmas.{position_shared}
-use Rattle.pp_macros.proofs.macros.number_of.Goals as goal
-
-pub returns-in-None : goal.returns-in-None
-returns-in-None c = c.number_among.ensures ∙ position_shared (chars c.args.name.now) c.args.macros.now
