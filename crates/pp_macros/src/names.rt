@@ -153,7 +153,7 @@ impl Definitions {
         }
         self.macros.reserve(1)?;
         let new = shared(self.alloc, text.clone()?, define)?;
-        self.names.push(text)?;
+        self.names.push(text, new.mark())?;
         self.macros.push_reserved(Some(new));
         Ok(())
     }

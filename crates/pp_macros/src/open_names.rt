@@ -61,7 +61,7 @@ impl OpenNames {
         }
         self.positions.reserve(1)?;
         let name = opened.name().clone()?;
-        self.names.push(name)?;
+        self.names.push(name, opened.mark())?;
         self.positions.push_reserved(position);
         Ok(())
     }

@@ -3,10 +3,11 @@
 ghost use Rattle.std.specs.Prelude.{◌≡◌, ◌-◌, ◌++◌, ◌∷◌, [], false, length, take, position, OnOk, OnErr, IfSome, IsTrue, Some, ◌<◌};
 ghost use Rattle.std.specs.Str.{chars};
 ghost use Rattle.pp_model.specs.Names.{is_in, is_same_name};
+ghost use Rattle.pp_macros.specs.inner.Marks.{mark_of};
 ghost use Rattle.pp_macros.specs.inner.NamePlaces.{AreDistinct, names_of};
 ghost use Rattle.pp_macros.specs.inner.NameTable.{IsTableOf};
 
-use crate::marks::{Marks, mark_of};
+use crate::marks::Marks;
 use crate::names::table::{Table, is_text};
 use pp_lexer::token::Text;
 use std::alloc::{AllocError, Global};
@@ -154,16 +155,17 @@ impl Texts {
         number < self.texts.len() && is_text(&self.texts[number], name)
     }
 
-    /// Adds a text that isn't there. If an allocation fails, nothing changes.
-    pub fn push(&mut self, text: Rc<Text>) -> Result<(), AllocError>
-        requires { is_in text.value self.old ≡ false }
+    /// Adds a text that isn't there, with its mark. If an allocation fails, nothing changes.
+    pub fn push(&mut self, text: Rc<Text>, mark: u64) -> Result<(), AllocError>
+        requires new { is_in text.value self.old ≡ false }
+        requires marked { mark ≡ mark_of text.value }
         ensures ok { OnOk result (self.new ≡ self.old ++ text.value ∷ []) }
         ensures err { OnErr result (self.new ≡ self.old) }
     {
         self.texts.reserve(1)?;
         grow(&mut self.table, self.alloc, &self.texts)?;
         put(&mut self.table, self.alloc, &self.texts, text.as_str())?;
-        self.marks.add(mark_of(text.as_str()));
+        self.marks.add(mark);
         self.texts.push_reserved(text);
         Ok(())
     }

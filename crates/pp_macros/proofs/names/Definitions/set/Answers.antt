@@ -28,8 +28,8 @@ returns-in-Some-clause-ok c =
     let change = is_set c.self.inside.names c.self.inside.macros.items c.args.name c.id.inside.0 (Some c.in_ok-shared.field-0) c.self.invariant there.0 in
     rw (← c.self.view_is, ← c.note_numbers.ensures, ← ap (λ (m : Macro). m.definition) c.in_ok-shared.ensures) change
 
-pub push-requires : goal.push-requires
-push-requires c =
+pub push-requires-clause-new : goal.push-requires-clause-new
+push-requires-clause-new c =
     let new = not_found c.args.name (names_in c.args.self.now) (sym (rw (c.as_str.ensures, c.deref.ensures, c.in_ok-text.ensures.ok) at c.in_default.ensures)) in
     rw c.in_ok-text.ensures.ok (rw (← c.self.view_is, names_as c.self.inside.names c.self.inside.macros.items c.self.invariant) at new)
 

@@ -7,8 +7,8 @@ returns-then-is_open-clause-ok c =
     let was = rw (c.as_str.ensures, c.deref-2.ensures, c.name.ensures, c.deref.ensures) at c.is_open.ensures in
     opens_again c.args.opened.now.value.name c.args.position c.args.self.now (sym was ∙ c.if-is_open.true)
 
-pub push-requires : goal.push-requires
-push-requires c =
+pub push-requires-clause-new : goal.push-requires-clause-new
+push-requires-clause-new c =
     let was = rw (c.as_str.ensures, c.deref-2.ensures, c.name.ensures, c.deref.ensures) at c.is_open.ensures in
     rw (
       c.in_ok-name.ensures.cases,
