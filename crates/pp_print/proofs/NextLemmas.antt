@@ -1,19 +1,13 @@
 -- What the next item of a preprocessor says of the states that it stands for.
-use Rattle.std.proofs.Common.{◌≡◌, ◌≢◌, ◌≤◌, Bool, true, false, Some, None, Ok, Err, inl, inr, arith}
+use Rattle.std.proofs.Common.{◌≡◌, ◌≢◌, Bool, true, false, Some, None, Ok, Err, inl, inr}
 use Rattle.std.specs.Prelude.{MatchBool}
 use Rattle.pp_model.specs.Calls.{Fault}
 use Rattle.pp_model.specs.declared.outcome.Outcome.TheVariants as outcome
 use Rattle.pp_rs.specs.Comes.{State, Comes}
-use Rattle.pp_print.specs.inner.Printing.{HasLeft}
-use Rattle.pp_rs.specs.Kept.{Preprocessing, Stands, is_spent, most_items}
-use Rattle.pp_rs.specs.Preprocessing.{IsGivenItem, IsNextItem}
+use Rattle.pp_rs.specs.Kept.{Preprocessing, Stands, is_spent}
+use Rattle.pp_rs.specs.Preprocessing.{IsGivenItem, IsNextItem, is_refusal}
 use Rattle.pp_rs.specs.declared.token.PreprocessorError.TheVariants.{OutOfMemory}
 use Rattle.pp_rs.specs.declared.token.Token.{Token}
-
--- less is left after what came later, too
-pub has_less : (pushed : Bool) (old between new : Preprocessing) → most_items between ≤ most_items old → HasLeft pushed between new → HasLeft pushed old new
-has_less true old between new no_more less = omega (arith, no_more, less)
-has_less false old between new no_more less = omega (arith, no_more, less)
 
 unspent : (spent : Bool) (A B : Type 0) → spent ≡ false → MatchBool spent A B → B
 unspent true A B e h = cc
@@ -29,9 +23,6 @@ module _ (old new : Preprocessing) (ready : is_spent old ≡ false) where
       × Comes state (outcome.Token t) after × Stands new after
   next_token t h state stands = let item = (given_token t h).item state stands in (item.after, item.emits, item.goes_on)
 
-  pub token_keeps_ready : (t : Token) → IsNextItem old (Some (Ok t)) new → is_spent new ≡ false
-  token_keeps_ready t h = (given_token t h).spent
-
   -- an error came next, unless memory was refused
   pub next_error : (fault : Fault) → IsNextItem old (Some (Err fault)) new → fault.0 ≢ OutOfMemory → (state : State) → Stands old state
       → (after : State) × Comes state (outcome.Fault fault) after
@@ -39,6 +30,13 @@ module _ (old new : Preprocessing) (ready : is_spent old ≡ false) where
     | inl refused ↦ absurd
         (wanted (let e = refused.item in cc))
     | inr given ↦ let item = given.item state stands in (item.after, item.emits)
+  ]
+
+  pub no_refusal : (fault : Fault) → IsNextItem old (Some (Err fault)) new → fault.0 ≢ OutOfMemory → is_refusal (Some (Err fault)) ≡ false
+  no_refusal fault h wanted = elim (unspent (is_spent old) _ _ ready h.gives) [
+    | inl refused ↦ absurd
+        (wanted (let e = refused.item in cc))
+    | inr given ↦ given.no_refusal
   ]
 
   -- the end came next

@@ -1,23 +1,30 @@
 -- Printing the tokens of a run one by one
-use Rattle.std.proofs.Common.{refl, ◌≡◌, ℕ, false, List, [], ◌∷◌, ◌++◌, Option, Some, None, Ok, IsTrue, sym, ap, ◌∙◌, append_assoc, append-nil}
+use Rattle.std.proofs.Common.{◌≡◌, ℕ, false, List, [], ◌∷◌, ◌++◌, Option, Some, None, Ok, refl, sym, ap, ◌∙◌, append_assoc, append-nil, String, string_bytes}
 use Rattle.std.specs.Io.KnownBytes.{Appends}
+use Rattle.std.specs.Str.{encode_utf8_all}
+use Rattle.std.proofs.lemmas.Str.{IsUtf8-string_bytes}
 use Rattle.std.proofs.lemmas.Grind.{flat_map-append}
 use Rattle.pp_model.specs.declared.outcome.Outcome.TheVariants as outcome
 use Rattle.pp_rs.specs.Comes.{State, Comes}
 use Rattle.pp_rs.specs.Kept.{Preprocessing, Stands, is_spent}
 use Rattle.pp_rs.specs.Preprocessing.{IsNextItem}
+use Rattle.pp_rs.specs.Spelling.{spelling}
 use Rattle.pp_rs.specs.TokenValue.{is_ordinary}
+use Rattle.pp_rs.specs.Giving.{AreGiven, nothing, one_more}
+use Rattle.pp_rs.specs.TokenRefs.{value_of, token_of, TakesText}
+use Rattle.pp_rs.specs.declared.pp.token_ref.TokenRef.{TokenRef}
 use Rattle.pp_rs.specs.declared.token.Token.{Token}
 use Rattle.pp_rs.proofs.runs.ComesLemmas.{gives_nothing, gives_more}
 use Rattle.pp_rs.specs.Output.{output_lines, written_lines, output}
-use Rattle.pp_rs.specs.inner.OutputLines.{begun_line, line_after, ended_lines, lines_from}
+use Rattle.pp_rs.specs.inner.OutputLines.{begun_line, extended, line_after, ended_lines, lines_from}
 use Rattle.pp_print.specs.Runs.{IsPrinted, IsBegun}
-use Rattle.pp_print.specs.inner.Printing.{IsPrinting}
-use Rattle.pp_rs.specs.NextWord.{StandsBetween, IsPassed}
+use Rattle.pp_print.specs.inner.Printing.{IsPrinting, IsPrintingText, spaced}
 use Rattle.pp_print.specs.SourceRuns.{last_outcome, AreFirstFrom, EndsFrom}
 use Rattle.pp_print.specs.declared.ends.RunEnd.{RunEnd}
 use Rattle.pp_rs.proofs.OutputLemmas.{output_lines-from}
+use Rattle.pp_rs.proofs.runs.GivingLemmas.{given_unspent, refers_to_ordinary}
 use Rattle.pp_print.proofs.NextLemmas.{next_token}
+use Rattle.pp_print.proofs.TextLemmas.{text_pushed}
 use Rattle.pp_print.proofs.WriteLemmas.{appends_nothing, appends_more}
 
 -- lines that are written after others
@@ -32,7 +39,7 @@ printing_starts start items known stands = record {
   tokens = [];
   state = start;
   given = gives_nothing start;
-  now = record { between = start; stands = stands; comes = λ o f c. c; lines = λ o f c. refl };
+  now = stands;
   done = [];
   lines = output_lines-from;
   written = appends_nothing known;
@@ -47,31 +54,12 @@ module _ (start : State) (items : Preprocessing) (line old mid new : Option (Lis
     tokens = p.tokens ++ (t ∷ []);
     state = after;
     given = gives_more p.tokens t start p.state after p.given comes;
-    now = record { between = after; stands = stands; comes = λ o f c. c; lines = λ o f c. refl };
+    now = stands;
     done = p.done ++ ended_lines line t.value;
     lines = λ more. ap output_lines (append_assoc p.tokens (t ∷ []) more) ∙ p.lines (t ∷ more)
         ∙ sym (append_assoc p.done (ended_lines line t.value) (lines_from (line_after line t.value) more));
     written = appends_lines old mid new p.done (ended_lines line t.value) p.written w;
   })
-
-  -- pauses are passed
-  pub printing_passes : (left : Preprocessing) → IsPassed items left → IsPrinting start left line old mid
-  printing_passes left passed =
-      let then : StandsBetween left p.now.between = passed.item p.now.between p.now.stands in
-      record {
-        tokens = p.tokens;
-        state = p.state;
-        given = p.given;
-        now = record {
-          between = then.between;
-          stands = then.stands;
-          comes = λ o f c. p.now.comes o f (then.comes o f c);
-          lines = λ o f c. p.now.lines o f (then.comes o f c) ∙ then.lines o f c;
-        };
-        done = p.done;
-        lines = p.lines;
-        written = p.written;
-      }
 
   -- the lines that are done and the one that has been begun are the whole output
   whole_output : Appends mid new (written_lines (begun_line line)) → Appends old new (output p.tokens)
@@ -88,14 +76,6 @@ module _ (start : State) (items : Preprocessing) (line old mid new : Option (Lis
     written = whole_output w;
   }
 
--- a token goes to the line
-pub printing_takes : (start : State) (items : Preprocessing) (line old new : Option (List ℕ)) → IsPrinting start items line old new
-    → is_spent items ≡ false → (left : Preprocessing) (t : Token) → IsNextItem items (Some (Ok t)) left → IsTrue (is_ordinary t.value)
-    → (longer : Option (List ℕ)) → longer ≡ line_after line t.value → IsPrinting start left longer old new
-printing_takes start items line old new p unspent left t next ordinary longer is =
-    let given = next_token items left unspent t next p.now.between p.now.stands in
-    printing_goes_on start items line old new new p left t given.0 longer (p.now.comes _ _ given.1) given.2 is (rw ordinary (appends_nothing new))
-
 -- what is printed so far begins the output
 pub printing_begun : (start : State) (items : Preprocessing) (line old new : Option (List ℕ)) → IsPrinting start items line old new
     → IsBegun (AreFirstFrom start) old new
@@ -105,4 +85,50 @@ printing_begun start items line old new p = record {
   lines = p.done;
   begin = λ more. (lines_from line more, p.lines more);
   written = p.written;
+}
+
+-- nothing is in the line before the first token
+pub text_starts : (start : State) (items : Preprocessing) (text : List ℕ) (known : Option (List ℕ)) → Stands items start → text ≡ []
+    → IsPrintingText start items text known known
+text_starts start items text known stands e = record { line = None; is = e; printing = printing_starts start items known stands }
+
+-- one more word of the line
+spaced_more : (line : Option (List ℕ)) (word : List ℕ) → spaced line ++ (word ++ 32 ∷ []) ≡ spaced (Some (extended line word))
+spaced_more None word = refl
+spaced_more (Some line) word = append_assoc line (32 ∷ []) (word ++ 32 ∷ []) ∙ sym (append_assoc line (32 ∷ word) (32 ∷ []))
+
+-- a token that the text takes goes to the line
+token_taken : {Z : Type 0} (start : State) (now left : Preprocessing) (before after : String Z) (old new : Option (List ℕ)) (token : TokenRef)
+    → is_spent now ≡ false → IsPrintingText start now (string_bytes before) old new → IsNextItem now (Some (Ok (token_of token))) left
+    → TakesText before token after → IsPrintingText start left (string_bytes after) old new
+token_taken start now left before after old new token fresh p next taken =
+    let word = encode_utf8_all (spelling (value_of token.value)) in
+    let longer = Some (extended p.line word) in
+    let ordinary = refers_to_ordinary token in
+    let came = next_token now left fresh (token_of token) next p.printing.state p.printing.now in
+    record {
+      line = longer;
+      is = text_pushed (string_bytes before) (string_bytes after) (spelling (value_of token.value)) (IsUtf8-string_bytes before)
+          (IsUtf8-string_bytes after) taken ∙ ap (λ t. t ++ (word ++ 32 ∷ [])) p.is ∙ spaced_more p.line word;
+      printing = printing_goes_on start now p.line old new new p.printing left (token_of token) came.0 longer came.1 came.2
+          (rw ordinary refl) (rw ordinary (appends_nothing new));
+    }
+
+-- so do all tokens that it takes
+pub tokens_taken : {Z : Type 0} (start : State) (items : Preprocessing) (text : String Z) (old new : Option (List ℕ)) → is_spent items ≡ false
+    → IsPrintingText start items (string_bytes text) old new → (left : Preprocessing) (longer : String Z) → AreGiven TakesText items text left longer
+    → IsPrintingText start left (string_bytes longer) old new
+tokens_taken start items text old new fresh p left longer (nothing q s e f) = rw (e, f) p
+tokens_taken start items text old new fresh p left longer (one_more token now q between s given next line taken) =
+    token_taken start now left between longer old new token (given_unspent TakesText items text now between given fresh)
+    (tokens_taken start items text old new fresh p now between given) next taken
+
+-- a directive is printed after the line
+pub directive_printed : (start : State) (items left : Preprocessing) (text empty : List ℕ) (old mid new : Option (List ℕ)) (t : Token) (after : State)
+    → (p : IsPrintingText start items text old mid) → Comes p.printing.state (outcome.Token t) after → Stands left after → is_ordinary t.value ≡ false
+    → Appends mid new (written_lines (ended_lines p.line t.value)) → empty ≡ [] → IsPrintingText start left empty old new
+directive_printed start items left text empty old mid new t after p comes stands directive written e = record {
+  line = None;
+  is = e;
+  printing = printing_goes_on start items p.line old mid new p.printing left t after None comes stands (rw directive refl) written;
 }

@@ -1,12 +1,15 @@
 -- Texts that a call gives where it finds memory
 use Rattle.std.specs.Result.{IsErrAnd}
+use Rattle.std.specs.Char.{encode_utf8}
 use Rattle.std.specs.Str.{chars, encode_utf8_all, IsUtf8}
-use Rattle.std.proofs.Common.{◌≡◌, ℕ, List, [], ◌∷◌, ◌++◌, codes, Option, Some, None, Result, Ok, Err, IfOk, OnOk, IsTrue, subst, ◌∙◌, ap, sym, append_assoc}
-use Rattle.std.proofs.lemmas.Str.{encodes-append, encodes-chars}
-use Rattle.pp_rs.specs.declared.token.TokenValue.{TokenValue}
-use Rattle.pp_rs.specs.Spelling.{spelling}
-use Rattle.pp_rs.specs.TokenValue.{is_ordinary}
-use Rattle.pp_rs.specs.inner.OutputLines.{line_after}
+use Rattle.std.proofs.Common.{◌≡◌, ℕ, List, [], ◌∷◌, ◌++◌, codes, Option, Some, None, Result, Ok, Err, IfOk, OnOk, subst, ◌∙◌, ap, sym, append_assoc, append-nil, length, get_or, ◌-◌, ◌<◌, ◌≤◌, arith}
+use Rattle.std.proofs.Math.Seq.{get_or-append_seam}
+use Rattle.std.proofs.lemmas.List.{append_cancel_right, length-append, nil_from_length}
+use Rattle.std.proofs.lemmas.Str.{encode_ascii, encodes-append}
+use Rattle.pp_rs.specs.Output.{written_lines}
+use Rattle.pp_rs.specs.inner.OutputLines.{begun_line}
+use Rattle.pp_print.specs.inner.Printing.{spaced}
+use Rattle.pp_rs.proofs.runs.SpellingLemmas.{bytes-pushed}
 
 -- a text that is one list is another, where the two are equal
 pub IfOk-equal : {A E B : Type 0} (f : A → B) (r : Result A E) (a b : B) → a ≡ b → IfOk r (λ x. f x ≡ a) → IfOk r (λ x. f x ≡ b)
@@ -29,24 +32,26 @@ pub IfOk-one : {A E : Type 0} (r : Result A E) (P Q : A → Type 0) (R : Type 0)
 IfOk-one (Ok x) P Q R only h done goes = subst Q (sym h.0) (goes (subst P h.0 h.1) done)
 IfOk-one (Err _) P Q R only h done goes = tt
 
--- characters that were pushed onto a text are bytes that were
-bytes_pushed : (old new word : List ℕ) → IsUtf8 old → IsUtf8 new → chars new ≡ chars old ++ word → new ≡ old ++ encode_utf8_all word
-bytes_pushed old new word u v e = sym (encodes-chars new v) ∙ ap encode_utf8_all e ∙ encodes-append (chars old) word
-    ∙ ap (λ bytes. bytes ++ encode_utf8_all word) (encodes-chars old u)
+-- characters that were pushed onto a text, with a space after them, are bytes that were
+pub text_pushed : (old new word : List ℕ) → IsUtf8 old → IsUtf8 new → chars new ≡ chars old ++ (word ++ 32 ∷ []) → new ≡ old ++ (encode_utf8_all word ++ 32 ∷ [])
+unfolding encode_utf8
+text_pushed old new word u v e = bytes-pushed new old (word ++ 32 ∷ []) v u e ∙ ap (λ t. old ++ t) (encodes-append word (32 ∷ []))
 
--- an ordinary token as a line's first word
-pub first_word : (value : TokenValue) (line : Option (List ℕ)) (old new : List ℕ) → IsTrue (is_ordinary value) → line ≡ None → old ≡ [] → IsUtf8 old
-    → IsUtf8 new → chars new ≡ chars old ++ spelling value → Some new ≡ line_after line value
-first_word value line old new ordinary e none u v h = rw (
-  ordinary,
-  e,
-) (ap Some (bytes_pushed old new (spelling value) u v h ∙ ap (λ bytes. bytes ++ encode_utf8_all (spelling value)) none))
+-- the text of a line that isn't begun is empty
+pub nothing_begun : (begun : Option (List ℕ)) (text rest : List ℕ) → text ≡ spaced begun → length text ≡ 0 → length rest ≤ length text
+    → rest ≡ written_lines (begun_line begun)
+nothing_begun None text rest e none shorter = nil_from_length rest (omega (arith, none, shorter))
+nothing_begun (Some line) text rest e none shorter = absurd (omega (arith, ap length e, length-append line (32 ∷ []), none))
 
--- and as a further one, after a space
-pub further_word : {A E : Type 0} (r : Result A E) (value : TokenValue) (line : Option (List ℕ)) (old mid new : List ℕ) → IsTrue (is_ordinary value)
-    → line ≡ Some old → mid ≡ old ++ (32 ∷ []) → IsUtf8 mid → IsUtf8 new
-    → OnOk r (chars new ≡ chars mid ++ spelling value) → OnOk r (Some new ≡ line_after line value)
-further_word (Ok a) value line old mid new ordinary e space u v h =
-    rw (ordinary, e) (ap Some (bytes_pushed mid new (spelling value) u v h ∙ ap (λ bytes. bytes ++ encode_utf8_all (spelling value)) space
-    ∙ append_assoc old (32 ∷ []) (encode_utf8_all (spelling value))))
-further_word (Err _) value line old mid new ordinary e space u v h = tt
+-- a line ends with a newline in place of its last space
+pub line_ended : (begun : Option (List ℕ)) (text rest : List ℕ) (last n : ℕ) → text ≡ spaced begun → n ≡ length text → length rest < n
+    → text ≡ rest ++ encode_utf8 last → (0 < n → get_or text (n - 1) 0 < 128 → Some last ≡ Some (get_or text (n - 1) 0))
+    → rest ++ 10 ∷ [] ≡ written_lines (begun_line begun)
+line_ended None text rest last n e len shorter cut ascii = absurd (omega (arith, ap length e, len, shorter))
+line_ended (Some line) text rest last n e len shorter cut ascii =
+    let at : n - 1 ≡ length line = omega (arith, ap length e, length-append line (32 ∷ []), len) in
+    let there : get_or text (n - 1) 0 ≡ 32 = ap (λ t. get_or t (n - 1) 0) e ∙ ap (λ k. get_or (line ++ 32 ∷ []) k 0) at ∙ get_or-append_seam line 32 [] 0 in
+    let found : Some last ≡ Some (get_or text (n - 1) 0) = ascii (omega (arith, len, shorter)) (omega (arith, there)) in
+    let is : last ≡ 32 = (let same : last ≡ get_or text (n - 1) 0 = cc in same ∙ there) in
+    ap (λ t. t ++ 10 ∷ []) (append_cancel_right rest line (32 ∷ []) (sym (rw is at cut ∙ ap (λ t. rest ++ t) (encode_ascii 32 (omega arith))) ∙ e))
+    ∙ sym (append-nil (line ++ 10 ∷ []))

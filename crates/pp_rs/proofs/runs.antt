@@ -19,3 +19,5 @@ pub mod IdleLemmas
 pub mod PassedLemmas
 pub mod OpenWordLemmas
 pub mod NextWordLemmas
+pub mod CallLineLemmas
+pub mod GivingLemmas

@@ -15,10 +15,10 @@ pub use Rattle.pp_lexer.specs.Lexed
 pub use Rattle.pp_lexer.specs.PhaseLaws
 pub use Rattle.pp_lexer.specs.ItemLaws
 pub use Rattle.pp_macros.specs.Held
-pub use Rattle.pp_directives.specs.WordTokens
 pub mod Kept
 pub mod Preprocessing
-pub mod NextWord
+pub mod TokenRefs
+pub mod Giving
 pub mod LiveBranch
 pub mod Adding
 pub mod Trying

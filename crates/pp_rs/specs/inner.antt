@@ -4,5 +4,7 @@ pub mod ItemValues
 pub mod Answering
 pub mod SourceTurns
 pub mod Fit
+pub mod NextWord
+pub mod GivingOn
 pub mod OutputLines
 pub mod ItemsText

@@ -3,11 +3,13 @@
 mod afresh;
 mod all_items;
 mod call_list;
+mod giving;
 mod items_text;
 mod preprocessor;
 mod preprocessor_step;
 mod source_turn;
 mod spelling;
+mod token_ref;
 mod trying;
 
 pub use afresh::are_read_afresh;
@@ -21,5 +23,6 @@ pub use pp_model::call::{Call, Reply};
 pub use pp_model::conversion::convert_lexer_token;
 pub use pp_model::outcome::Outcome;
 pub use preprocessor::{Preprocessor, PreprocessorItem};
-pub use spelling::{push_value, push_word, spell_tokens};
+pub use spelling::{push_value, push_value_ref, spell_tokens};
+pub use token_ref::{TokenRef, TokenSink, ValueRef};
 pub use trying::AddError;

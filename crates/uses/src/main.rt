@@ -1,13 +1,14 @@
 //! Uses of `pp_rs`, as a user writes them, each in a module of its own. The program runs six of them over the source on
 //! its standard input: two promise nothing and have no proof file (`errors`, `requirements`), and four have contracts
 //! that say what they give (`highlighter`, `minifier`, `variants`, `version`). Three more have such contracts
-//! (`code_text`, `defined_first`, `one_token`), and run over examples. With the argument `requirements` it does that
-//! one alone, and ends with 1 if the source has an error.
+//! (`code_text`, `defined_first`, `one_token`), and `from_macros` promises nothing; these run over examples. With the
+//! argument `requirements` it does that one alone, and ends with 1 if the source has an error.
 #![tactic(auto)]
 
 mod code_text;
 mod defined_first;
 mod errors;
+mod from_macros;
 mod highlighter;
 mod minifier;
 mod one_token;
@@ -19,6 +20,7 @@ use anyhow::Result;
 use code_text::code_text;
 use defined_first::first_item_with;
 use errors::print_errors;
+use from_macros::show_from_macros;
 use highlighter::highlight;
 use minifier::minify;
 use one_token::replies_to_a;
@@ -86,7 +88,7 @@ fn show_examples(rt: &impl Print, alloc: Global) -> Result<()> {
     show_code(rt, code_text(alloc, "#version 300 es\na b\n  #error c\n"))?;
     show_first(rt, first_item_with(alloc, "STEPS + 1", "STEPS", "0x10"))?;
     show_first(rt, first_item_with(alloc, "STEPS + 1", "STEPS", "4 #"))?;
-    Ok(())
+    show_from_macros(rt, alloc, REDEFINED)
 }
 
 fn show_reply(rt: &impl Print, reply: &Reply) -> io::Result<()> {

@@ -6,7 +6,7 @@ use Rattle.pp_lexer.specs.declared.token.Token.{Token}
 use Rattle.pp_directives.specs.WordTokens.{word_token}
 use Rattle.pp_macros.specs.Item.{Item}
 use Rattle.pp_rs.specs.Kept.{Preprocessing, is_spent, most_items, errors_left, error_place}
-use Rattle.pp_rs.specs.NextWord.{IsPassed, IsNextWord}
+use Rattle.pp_rs.specs.inner.NextWord.{IsPassed, IsNextWord}
 use Rattle.pp_rs.specs.Preprocessing.{IsNextItem, IsRefusedItem, IsGivenItem, IsLessLeft, ReportsError, of_lexer, of_its_own}
 
 -- what is reported once nothing was is reported from the start
@@ -17,7 +17,8 @@ reports_over old mid new (Some (Err fault)) left place (of_its_own e f) = of_its
 reports_over old mid new (Some (Ok token)) left place reports = (reports.0 ∙ left, reports.1 ∙ place)
 reports_over old mid new None left place reports = (sym left ∙ reports.0, reports.1, reports.2 ∙ place)
 
-less_over : (old mid new : Preprocessing) (answer : Option Item) → most_items mid ≤ most_items old → IsLessLeft answer mid new → IsLessLeft answer old new
+-- so is less left
+pub less_over : (old mid new : Preprocessing) (answer : Option Item) → most_items mid ≤ most_items old → IsLessLeft answer mid new → IsLessLeft answer old new
 less_over old mid new (Some item) fewer less = omega (arith, fewer, less)
 less_over old mid new None fewer less = less
 
@@ -64,14 +65,9 @@ pub word_comes : (old mid new : Preprocessing) (token : Token) (item : Item) →
 word_comes old mid new token (Ok given) fresh next of_token refused = rw (of_token.0, of_token.1) next
 word_comes old mid new token (Err e) fresh next of_token refused = rw refused.0 (word_refused old mid new token fresh next refused.1)
 
--- a word that comes once nothing was given comes from the start
-pub passed_word : (old mid new : Preprocessing) (answer : Option PlainItem) → is_spent old ≡ false → IsPassed old mid → IsNextWord mid answer new
-    → IsNextWord old answer new
-passed_word old mid new (Some word) fresh p is = record {
-  next = passed_next old mid new (Some (Ok (word_token word))) fresh p is.next;
-  plain = is.plain;
-}
-passed_word old mid new None fresh p q = record {
+-- what is passed after pauses is passed from the start
+pub passed_again : (old mid new : Preprocessing) → IsPassed old mid → IsPassed mid new → IsPassed old new
+passed_again old mid new p q = record {
   item = λ state stands.
       let first = p.item state stands in
       let second = q.item first.between first.stands in
@@ -86,6 +82,16 @@ passed_word old mid new None fresh p q = record {
   place = q.place ∙ p.place;
   no_more_left = omega (arith, p.no_more_left, q.no_more_left);
 }
+
+-- a word that comes once nothing was given comes from the start
+pub passed_word : (old mid new : Preprocessing) (answer : Option PlainItem) → is_spent old ≡ false → IsPassed old mid → IsNextWord mid answer new
+    → IsNextWord old answer new
+passed_word old mid new (Some word) fresh p is = record {
+  next = passed_next old mid new (Some (Ok (word_token word))) fresh p is.next;
+  line = is.line;
+  plain = is.plain;
+}
+passed_word old mid new None fresh p q = passed_again old mid new p q
 
 -- a word that comes at once, or else once nothing was given, comes from the start
 pub at_once_or_passed_word : (old mid new : Preprocessing) (first answer : Option PlainItem) → is_spent old ≡ false → IsNextWord old first mid

@@ -1,5 +1,5 @@
 -- A text that grows token by token.
-use Rattle.std.proofs.Common.{◌≡◌, ℕ, ◌/◌, ◌%◌, map, lit≤, ◌^◌, ◌<◌, true, false, if◌then◌else◌, List, [], ◌∷◌, ◌++◌, Result, Ok, Err, OnOk, refl, sym, ◌∙◌, ap, append_assoc, length, drop, get_or, ◌+◌, ◌≤◌, arith, suc, subst, All, IsTrue}
+use Rattle.std.proofs.Common.{◌≡◌, ℕ, ◌/◌, ◌%◌, map, lit≤, ◌^◌, ◌<◌, true, false, if◌then◌else◌, List, [], ◌∷◌, ◌++◌, Result, Ok, Err, OnOk, refl, sym, ◌∙◌, ap, append_assoc, length, drop, get_or, ◌+◌, ◌≤◌, arith, suc, subst, All}
 use Rattle.std.specs.Prelude.{is_ok, OnErr}
 use Rattle.std.proofs.Math.Nat.{le_refl}
 use Rattle.std.specs.Fmt.{decimal}
@@ -17,10 +17,6 @@ use Rattle.pp_lexer.specs.declared.token.Integer.{Integer}
 use Rattle.pp_lexer.specs.declared.token.Punct.{Punct}
 use Rattle.pp_lexer.specs.declared.token.Punct.TheVariants.{AddAssign}
 use Rattle.pp_lexer.specs.TokenValue.{is_ordinary}
-use Rattle.pp_lexer.specs.declared.lexer.plain.Form.{Form}
-use Rattle.pp_lexer.specs.declared.lexer.plain.Form.TheVariants.{Identifier, Integer as IntegerForm, Unsigned as UnsignedForm, Float as FloatForm, SuffixedFloat as SuffixedForm, Punct as PunctForm, Hash as HashForm}
-use Rattle.pp_lexer.specs.declared.lexer.plain_item.PlainItem.{PlainItem}
-use Rattle.pp_directives.specs.WordTokens.{word_value, word_token}
 use Rattle.pp_lexer.specs.declared.token.Token.{Token}
 use Rattle.pp_lexer.specs.declared.token.TokenValue.{TokenValue}
 use Rattle.pp_lexer.specs.declared.token.TokenValue.TheVariants.{Ident, Integer as IntegerValue, Float, Punct as PunctValue}
@@ -53,6 +49,13 @@ pub chars-pushed : {E : Type 0} (r : Result (Unit {0}) E) (new old more : List �
     → OnOk r (chars new ≡ chars old ++ chars more)
 chars-pushed (Ok x) new old more u e = ap chars e ∙ chars-append old more u
 chars-pushed (Err x) new old more u e = tt
+
+-- so does a space after a word
+pub space_pushed : {E : Type 0} (r : Result (Unit {0}) E) (new mid old word : List ℕ) → IsUtf8 mid → new ≡ (if is_ok r then mid ++ 32 ∷ [] else mid)
+    → chars mid ≡ chars old ++ word → OnOk r (chars new ≡ chars old ++ (word ++ 32 ∷ []))
+unfolding chars
+space_pushed (Ok x) new mid old word u e f = ap chars e ∙ chars-append mid (32 ∷ []) u ∙ ap (λ t. t ++ 32 ∷ []) f ∙ append_assoc (chars old) word (32 ∷ [])
+space_pushed (Err x) new mid old word u e f = tt
 
 -- or nothing, if there was no room
 pub not-pushed : {E : Type 0} (r : Result (Unit {0}) E) (new old more : List ℕ) → new ≡ (if is_ok r then old ++ more else old) → OnErr r (new ≡ old)
@@ -100,19 +103,6 @@ pub all_after_first : (P : Token → Type 0) (ts others : List Token) (t x : Tok
 all_after_first P ts others t x i all e low is =
     let n : length ts ≡ suc (length others) = ap length e in
     subst P (ap (λ l. get_or l (suc i) x) e ∙ sym is) (all (suc i) x (omega arith))
-
--- a word of plain text is an ordinary token
-word_ordinary_at : (form : Form) (w : List ℕ) → IsTrue (is_ordinary (word_value form w))
-word_ordinary_at Identifier w = refl
-word_ordinary_at (IntegerForm n) w = refl
-word_ordinary_at (UnsignedForm n) w = refl
-word_ordinary_at FloatForm w = refl
-word_ordinary_at SuffixedForm w = refl
-word_ordinary_at (PunctForm p) w = refl
-word_ordinary_at HashForm w = refl
-
-pub word_ordinary : (word : PlainItem) → IsTrue (is_ordinary (word_token word).value)
-word_ordinary word = word_ordinary_at word.form word.spelling.now
 
 -- the last digit of a number of several digits is that of its remainder by ten, after those of its tenth
 pub decimal-last : (n : ℕ) → 10 ≤ n → n < 2 ^ 64 → decimal n ≡ decimal (n / 10) ++ (48 + n % 10) ∷ []

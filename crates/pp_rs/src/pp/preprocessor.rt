@@ -1,7 +1,6 @@
 //! The items of a preprocessed source.
 
-ghost use Rattle.std.specs.Prelude.{◌≡◌, ◌-◌, ◌^◌, ◌<◌, ◌∷◌, [], false, length, if◌then◌else◌, true, IsTrue, OnOk, OnErr, IfOk, IfErr, None, Some, Ok, Err, unwrap_or};
-ghost use Rattle.pp_lexer.specs.TokenValue.{is_ordinary};
+ghost use Rattle.std.specs.Prelude.{◌≡◌, ◌-◌, ◌^◌, ◌<◌, ◌∷◌, [], false, length, if◌then◌else◌, true, IsTrue, OnOk, OnErr, IfOk, IfErr, ℕ, Option, None, Some, Ok, Err, unwrap_or};
 ghost use Rattle.pp_lexer.specs.declared.token.Token.{Token};
 ghost use Rattle.std.specs.Iterator.{at_most};
 ghost use Rattle.pp_lexer.specs.Location.{nowhere};
@@ -9,16 +8,19 @@ ghost use Rattle.pp_lexer.specs.PreprocessorError.{out_of_memory};
 ghost use Rattle.pp_model.specs.Run.{items_of, start};
 ghost use Rattle.pp_rs.specs.Adding.{IsAdded};
 ghost use Rattle.pp_rs.specs.inner.Fit.{ReadsText};
+ghost use Rattle.pp_rs.specs.inner.GivingOn.{IsFrontLine};
+ghost use Rattle.pp_rs.specs.TokenRefs.{token_of};
 ghost use Rattle.pp_macros.specs.Item.{is_out_of_memory};
 ghost use Rattle.pp_macros.specs.inner.Frames.{new_frame};
 ghost use Rattle.pp_rs.specs.Kept.{Stands, IsAhead, is_spent, most_items, errors_left, error_place, call_line};
 ghost use Rattle.pp_macros.specs.LexerErrors.{lexer_errors};
 ghost use Rattle.pp_directives.specs.WordTokens.{word_token};
-ghost use Rattle.pp_rs.specs.NextWord.{IsNextWord, IsPassed, IsPlain, SomeAhead};
+ghost use Rattle.pp_rs.specs.inner.NextWord.{IsNextWord, IsPassed, IsPlain, SomeAhead};
 ghost use Rattle.pp_rs.specs.Preprocessing.{IsNextItem};
 
 use crate::lexer::PlainItem;
 use crate::pp::source_turn::turn_source;
+use crate::pp::token_ref::TokenRef;
 use crate::token::{Location, NOWHERE, PreprocessorError, Token, out_of_memory};
 use pp_directives::convert::word_token;
 use pp_directives::directives::DirectiveProcessor;
@@ -142,23 +144,36 @@ impl<'a> Preprocessor<'a> {
         self.in_text
     }
 
-    /// Returns whether it is noted that the next token is one of live text, so that `next_word` is to be asked first.
-    /// `false` says nothing.
-    ///
-    /// It is private to the repository.
+    // Whether memory ran out for an item.
     #[inline(always)]
-    pub fn is_noted_in_text(&self) -> bool
+    pub(crate) fn is_spent(&self) -> bool
+        ensures { result ≡ is_spent self.now }
+    {
+        self.spent
+    }
+
+    // Gives nothing more, since memory ran out for an item.
+    #[inline(never)]
+    pub(crate) fn spend(&mut self)
+        ensures { self.new ≡ record self.old { spent = true } }
+    {
+        self.spent = true;
+        self.in_text = false;
+    }
+
+    // Whether it is noted that the next token is one of live text, so that `next_word` is to be asked first. `false`
+    // says nothing.
+    #[inline(always)]
+    pub(crate) fn is_noted_in_text(&self) -> bool
         ensures { IsTrue result → is_spent self.now ≡ false }
     {
         self.in_text
     }
 
-    /// Returns the next token before memory is taken for it, if it is a word of plain text that is given as it is
-    /// in the source. Otherwise it returns `None`, and `next` returns what comes.
-    ///
-    /// It is private to the repository. It passes newlines before the token, also if it returns `None`.
+    // The next token before memory is taken for it, if it is a word of plain text that is given as it is in the source.
+    // It passes newlines before the token, also if it returns `None`.
     #[inline(always)]
-    pub fn next_word(&mut self) -> Option<PlainItem<'a>>
+    pub(crate) fn next_word(&mut self) -> Option<PlainItem<'a>>
         ensures { IsNextWord self.old result self.new }
     {
         if !self.is_in_text() {
@@ -175,13 +190,11 @@ impl<'a> Preprocessor<'a> {
         }
     }
 
-    /// Opens the macro without parameters that the next word of plain text names, while no macro is open, and passes
-    /// the name. Then what its body has comes next. If that word is no identifier, returns it, as `next_word` does.
-    ///
-    /// It is private to the repository. Call it if `next_word` returned `None`. The only error is that an allocation
-    /// failed; then `next` returns `None` from then on.
+    // Opens the macro without parameters that the next word of plain text names, while no macro is open, and passes the
+    // name. Then what its body has comes next. If that word is no identifier, returns it, as `next_word` does. It is
+    // called if `next_word` returned `None`.
     #[inline(never)]
-    pub fn open_word(&mut self) -> Result<Option<PlainItem<'a>>, AllocError>
+    pub(crate) fn open_word(&mut self) -> Result<Option<PlainItem<'a>>, AllocError>
         ensures gives { IfOk result (λ word. IsNextWord self.old word self.new) }
         ensures refused { OnErr result (is_spent self.new ≡ true) }
         ensures some_left { OnErr result (0 < most_items self.old) }
@@ -234,12 +247,9 @@ impl<'a> Preprocessor<'a> {
         }
     }
 
-    /// Returns what `next` does.
-    ///
-    /// It is private to the repository: the program calls it after `next_word`, and the compiler builds it into the
-    /// program's loop.
+    // Does what `next` does, without asking for a word of plain text first.
     #[inline(always)]
-    pub fn next_item(&mut self) -> Option<PreprocessorItem>
+    pub(crate) fn next_item(&mut self) -> Option<PreprocessorItem>
         ensures { IsNextItem self.old result self.new }
     {
         if self.spent {
@@ -294,17 +304,14 @@ impl<'a> Preprocessor<'a> {
         self.next_item()
     }
 
-    /// Goes on in the open macros, and returns whether the next token is ordinary, and the body or an argument of an
-    /// open macro has it as it is given. Then `token` returns it before memory is taken for it, and `pass` passes it.
-    /// Otherwise `next` returns what comes.
-    ///
-    /// It is private to the repository. It passes ends of macros and names of macros without parameters, which open.
-    /// The only error is that an allocation failed; then `next` returns `None` from then on.
+    // Goes on in the open macros, and returns whether the next token is ordinary, and the body or an argument of an
+    // open macro has it as it is given. Then `front` returns it before memory is taken for it, and `pass` passes it.
+    // It passes ends of macros and names of macros without parameters, which open.
     #[inline(always)]
-    pub fn advance(&mut self) -> Result<bool, AllocError>
+    pub(crate) fn advance(&mut self) -> Result<bool, AllocError>
         ensures passed { OnOk result (IsPassed self.old self.new) }
         ensures ahead { IfOk result (λ found. found ≡ true → SomeAhead self.new) }
-        ensures refused { OnErr result (is_spent self.new ≡ true) }
+        ensures refused { OnErr result (IsNextItem self.old (Some (Err out_of_memory)) self.new) }
     {
         if self.spent || self.expander.is_idle() {
             return Ok(false);
@@ -324,28 +331,26 @@ impl<'a> Preprocessor<'a> {
         Ok(token.is_ordinary())
     }
 
-    /// Returns the token that `advance` found.
-    ///
-    /// It is private to the repository.
+    // The token that `advance` found.
     #[inline(always)]
-    pub fn token(&self) -> &Token
+    pub(crate) fn front(&self) -> TokenRef<'_>
         requires { SomeAhead self.now }
-        ensures ahead { IsAhead self.now result.now }
-        ensures ordinary { IsTrue (is_ordinary result.now.value) }
+        ensures ahead { IsAhead self.now (token_of result) }
+        ensures line { IsFrontLine result.call_line self.now }
+        ensures some_left { 0 < most_items self.now }
     {
         match self.expander.token() {
-            Some(token) => token,
+            Some(token) => TokenRef::of_token(token, self.expander.outermost_line()),
             None => unreachable!(),
         }
     }
 
-    /// Passes the token that `advance` found, as `next` does.
-    ///
-    /// It is private to the repository.
+    // Passes the token that `advance` found, as `next` does.
     #[inline(always)]
-    pub fn pass(&mut self)
+    pub(crate) fn pass(&mut self)
         requires { SomeAhead self.old }
-        ensures { (token : Token) → IsAhead self.old token → IsNextItem self.old (Some (Ok token)) self.new }
+        ensures gives { (token : Token) → IsAhead self.old token → IsNextItem self.old (Some (Ok token)) self.new }
+        ensures line { (line : Option ℕ) → IsFrontLine line self.old → line ≡ call_line self.new }
     {
         self.in_text = false;
         self.expander.pass();

@@ -4,14 +4,13 @@ ghost use Rattle.std.specs.Prelude.{◌≡◌, ◌++◌, IsTrue, All, OnOk, OnEr
 ghost use Rattle.std.specs.Fmt.{decimal};
 ghost use Rattle.std.specs.Io.{StartsWith};
 ghost use Rattle.std.specs.Str.{chars};
-ghost use Rattle.pp_directives.specs.WordTokens.{word_token};
-ghost use Rattle.pp_rs.specs.NextWord.{IsPlain};
 ghost use Rattle.pp_lexer.specs.TokenValue.{is_ordinary};
 ghost use Rattle.pp_lexer.specs.PreprocessorError.{out_of_memory};
 ghost use Rattle.pp_lexer.specs.Punctuators.{punctuator};
+ghost use Rattle.pp_rs.specs.TokenRefs.{value_of};
 ghost use Rattle.pp_lexer.specs.Spelling.{integer_literal, spelling, spelled_text, values_of};
 
-use crate::lexer::{Form, PlainItem, without_suffix};
+use crate::pp::token_ref::ValueRef;
 use crate::token::{Integer, Location, PreprocessorError, Punct, Token, TokenValue, out_of_memory};
 use std::alloc::{AllocError, Global};
 
@@ -61,15 +60,7 @@ pub fn push_value(text: &mut String, value: &TokenValue) -> Result<(), AllocErro
         ≡ chars (string_bytes text.old) ++ spelling value.now) }
     ensures refused { OnErr result (string_bytes text.new ≡ string_bytes text.old) }
 {
-    match value {
-        TokenValue::Ident(name) => text.push_str(name.as_str()),
-        TokenValue::Integer(integer) => push_integer(text, *integer),
-        TokenValue::Float(float) => text.push_str(float.text.as_str()),
-        TokenValue::Punct(punct) => push_punct(text, *punct),
-        TokenValue::Version(_) | TokenValue::Extension(_) | TokenValue::Pragma(_) => {
-            unreachable!()
-        }
-    }
+    push_value_ref(text, ValueRef::of_value(value))
 }
 
 // Appends a punctuator. Most have one character, for which no text is copied.
@@ -87,38 +78,20 @@ fn push_punct(text: &mut String, punct: Punct) -> Result<(), AllocError>
     text.push_str(spelling)
 }
 
-/// Appends the text of a word of plain text, as `spell_tokens` spells its token. It is private to the repository.
+/// Appends the text of an ordinary token, as `spell_tokens` spells it, before memory is taken for the token.
 ///
 /// Fails only if an allocation fails. Then nothing is appended.
 #[inline(always)]
-pub fn push_word(text: &mut String, word: &PlainItem<'_>) -> Result<(), AllocError>
-    requires { IsPlain word.now }
+pub fn push_value_ref(text: &mut String, value: ValueRef<'_>) -> Result<(), AllocError>
     ensures appended { OnOk result (chars (string_bytes text.new)
-        ≡ chars (string_bytes text.old) ++ spelling (word_token word.now).value) }
+        ≡ chars (string_bytes text.old) ++ spelling (value_of value.entry)) }
     ensures refused { OnErr result (string_bytes text.new ≡ string_bytes text.old) }
 {
-    match word.form {
-        Form::Identifier => text.push_str(word.spelling),
-        Form::Float => text.push_str(word.spelling),
-        Form::SuffixedFloat => text.push_str(without_suffix(word.spelling)),
-        Form::Punct(punct) => push_punct(text, punct),
-        Form::Integer(value) => push_integer(
-            text,
-            Integer {
-                value,
-                signed: true,
-                width: 32,
-            },
-        ),
-        Form::Unsigned(value) => push_integer(
-            text,
-            Integer {
-                value,
-                signed: false,
-                width: 32,
-            },
-        ),
-        Form::Hash => unreachable!(),
+    match value {
+        ValueRef::Ident(name) => text.push_str(name),
+        ValueRef::Integer(integer) => push_integer(text, integer),
+        ValueRef::Float(digits, _) => text.push_str(digits),
+        ValueRef::Punct(punct) => push_punct(text, punct),
     }
 }
 

@@ -1,15 +1,14 @@
 use Rattle.std.proofs.Common.{◌≡◌, false, string_bytes}
-use Rattle.std.specs.Option.{option_map}
 use Rattle.pp_rs.specs.Comes.{State}
 use Rattle.pp_rs.specs.Kept.{Stands, is_spent, most_items}
-use Rattle.pp_print.specs.inner.Printing.{IsPrinting}
+use Rattle.pp_print.specs.inner.Printing.{IsPrintingText}
 use Rattle.pp_print.proofs.output.print_rest.Given as goal
 
 abbrev pub invariant-items : goal.invariant-items
 invariant-items g l = record {
   ok : g.W.Sink.failed l.writer ≡ false;
   unspent : is_spent l.items ≡ false;
-  printing : (start : State) → Stands l.fn.items start → IsPrinting start l.items (option_map string_bytes l.line)
+  printing : (start : State) → Stands l.fn.items start → IsPrintingText start l.items (string_bytes l.line)
       (g.W.Sink.contents l.fn.writer) (g.W.Sink.contents l.writer);
 }
 

@@ -1,8 +1,7 @@
 use Rattle.std.proofs.Common.{refl, ◌≡◌, ◌∙◌, ap, sym, false}
 use Rattle.pp_lexer.specs.TokenValue.{is_ordinary}
 use Rattle.pp_lexer.specs.declared.token.Token.{Token}
-use Rattle.pp_rs.specs.Kept.{is_spent}
-use Rattle.pp_rs.proofs.runs.NextLemmas.{reached_first}
+use Rattle.pp_rs.proofs.runs.NextLemmas.{reached_first, next_refused}
 use Rattle.pp_rs.proofs.runs.PausesLemmas.{reached_on}
 use Rattle.pp_rs.proofs.runs.PassedLemmas.{passed_nothing, passed_pauses, token_ahead_is, same_token}
 use Rattle.pp_rs.proofs.pp.preprocessor.Preprocessor.advance.Goals as goal
@@ -50,8 +49,12 @@ returns c =
     }
 
 pub returns-in-Err-clause-refused : goal.returns-in-Err-clause-refused
-unfolding is_spent
-returns-in-Err-clause-refused c = refl
+returns-in-Err-clause-refused c =
+    let first = reached_first _ _ _ _ (ap (λ p. p.expander) c.self.view_is) (ap (λ p. p.source) c.self.view_is) (c.self.invariant.0 c.if-self.false) in
+    let refused = c.in-Err.ensures.refused in
+    let on = reached_on _ _ _ _ first _ refused.pauses in
+    let fresh : c.args.self.now.spent ≡ false = ap (λ p. p.spent) (sym c.self.view_is) ∙ c.if-self.false in
+    next_refused _ _ c.advance.new.self _ _ c.self.inside.source on.reached c.args.self.now fresh refl refl refused.some _ refl
 
 pub returns-then-self-clause-passed : goal.returns-then-self-clause-passed
 returns-then-self-clause-passed c = rw (← c.self.view_is) (passed_nothing _)

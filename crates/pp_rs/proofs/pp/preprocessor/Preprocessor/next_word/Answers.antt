@@ -4,6 +4,7 @@ use Rattle.pp_directives.specs.WordTokens.{word_token}
 use Rattle.pp_directives.specs.inner.PlainText.{IsInText}
 use Rattle.pp_rs.specs.Kept.{Preprocessing}
 use Rattle.pp_rs.specs.inner.Fit.{ReadsText}
+use Rattle.pp_rs.proofs.runs.CallLineLemmas.{line_outside}
 use Rattle.pp_rs.proofs.runs.NextLemmas.{reached_first, reached_more, falls_more, token_fits, next_token}
 use Rattle.pp_rs.proofs.runs.PassedLemmas.{newline_over, word_over, passed_nothing, passed_pauses, idle_line}
 use Rattle.pp_rs.proofs.pp.preprocessor.Preprocessor.next_word.Goals as goal
@@ -61,6 +62,7 @@ returns-in-Some c =
           c.words.self-inside.place c.words.self-inside.name_line c.words.invariant.unspent c.words.invariant.placed
           (idle_line c.words.self-inside.expander _ _ c.words.invariant.idle)
           (word_over _ _ _ (word_token c.in-Some.word) c.words.invariant.idle takes.step takes.itself) takes.holds;
+      line = line_outside _ c.words.invariant.idle;
       plain = record { no_hash = takes.no_hash; ascii = takes.ascii };
     }
 

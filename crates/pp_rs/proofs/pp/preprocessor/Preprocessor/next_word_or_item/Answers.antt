@@ -1,7 +1,7 @@
 use Rattle.std.proofs.Common.{◌∙◌, ◌<◌, arith, subst}
 use Rattle.pp_directives.specs.WordTokens.{word_token}
 use Rattle.pp_rs.specs.Kept.{Preprocessing, is_spent, most_items}
-use Rattle.pp_rs.specs.NextWord.{IsPassed}
+use Rattle.pp_rs.specs.inner.NextWord.{IsPassed}
 use Rattle.pp_rs.specs.Preprocessing.{IsNextItem}
 use Rattle.pp_rs.specs.inner.Fit.{ReadsText}
 use Rattle.pp_rs.proofs.runs.NextWordLemmas.{at_once_or_passed_word, passed_next, refused_next, word_comes}

@@ -1,6 +1,7 @@
 use Rattle.std.proofs.Common.{◌≡◌, ◌∙◌, refl, ap, sym, false}
 use Rattle.pp_directives.specs.WordTokens.{word_token}
 use Rattle.pp_rs.specs.Kept.{is_spent}
+use Rattle.pp_rs.proofs.runs.CallLineLemmas.{line_outside}
 use Rattle.pp_rs.proofs.runs.NextLemmas.{reached_first, reached_more, token_fits, next_token, some_items}
 use Rattle.pp_rs.proofs.runs.OpenWordLemmas.{bare_over, opens_over}
 use Rattle.pp_rs.proofs.runs.PassedLemmas.{passed_nothing, passed_pauses, idle_line}
@@ -29,6 +30,7 @@ returns-in_default-macro_of_word-clause-gives c =
           (idle_line c.self.inside.expander _ _ (sym c.is_idle.ensures ∙ c.if-not-is_idle.false))
           (bare_over _ _ _ c.in-Some.word (sym c.is_idle.ensures ∙ c.if-not-is_idle.false) takes
           (sym (rw c.in_default-macro_of_word.is at c.macro_of_word.ensures))) takes.holds;
+      line = line_outside _ (sym c.is_idle.ensures ∙ c.if-not-is_idle.false);
       plain = record { no_hash = takes.no_hash; ascii = takes.ascii };
     }
 

@@ -1,6 +1,7 @@
 use Rattle.std.proofs.Common.{ap, sym, ◌∙◌}
 use Rattle.std.specs.Prelude.{is_some}
 use Rattle.pp_macros.specs.inner.Giving.{token_ahead}
+use Rattle.pp_rs.proofs.runs.CallLineLemmas.{ahead_line}
 use Rattle.pp_rs.proofs.runs.PassedLemmas.{ahead_there, fresh_ahead, pass_fits, ahead_passes}
 use Rattle.pp_rs.proofs.pp.preprocessor.Preprocessor.pass.Goals as goal
 
@@ -18,10 +19,15 @@ invariant_of-self c = (
   λ h. cc,
 )
 
-pub returns : goal.returns
-returns c = λ token ahead.
+pub returns-clause-gives : goal.returns-clause-gives
+returns-clause-gives c = λ token ahead.
     let fresh = ap (λ p. p.spent) c.self.view_is ∙ fresh_ahead c.args.self.now token ahead in
     rw c.pass.ensures
     (ahead_passes c.args.self.now c.self.inside.expander c.self.inside.source (ap (λ p. p.expander) (sym c.self.view_is))
     (ap (λ p. p.source) (sym c.self.view_is)) (c.self.invariant.0 fresh) token ahead c.self.inside.spent c.self.inside.place c.self.inside.name_line fresh
     (ap (λ p. p.place) c.self.view_is))
+
+pub returns-clause-line : goal.returns-clause-line
+returns-clause-line c = λ line front.
+    rw c.pass.ensures
+    (ahead_line c.args.self.now c.requires.0 c.requires.1 line front c.self.inside.expander (ap (λ p. p.expander) (sym c.self.view_is)) _ _ _ _)

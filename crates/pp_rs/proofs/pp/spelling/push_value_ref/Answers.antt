@@ -1,0 +1,19 @@
+use Rattle.std.proofs.lemmas.Str.{IsUtf8-string_bytes}
+use Rattle.pp_rs.proofs.runs.SpellingLemmas.{chars-pushed, not-pushed}
+use Rattle.pp_rs.proofs.pp.spelling.push_value_ref.Goals as goal
+
+pub returns-in-Ident-clause-appended : goal.returns-in-Ident-clause-appended
+returns-in-Ident-clause-appended c =
+    let h = chars-pushed c.push_str.result _ _ _ (IsUtf8-string_bytes c.args.text.now) c.push_str.ensures.bytes in
+    rw c.in-Ident.is h
+
+pub returns-in-Float-clause-appended : goal.returns-in-Float-clause-appended
+returns-in-Float-clause-appended c =
+    let h = chars-pushed c.push_str-in-Float.result _ _ _ (IsUtf8-string_bytes c.args.text.now) c.push_str-in-Float.ensures.bytes in
+    rw c.in-Float.is h
+
+pub returns-in-Ident-clause-refused : goal.returns-in-Ident-clause-refused
+returns-in-Ident-clause-refused c = not-pushed c.push_str.result _ _ _ c.push_str.ensures.bytes
+
+pub returns-in-Float-clause-refused : goal.returns-in-Float-clause-refused
+returns-in-Float-clause-refused c = not-pushed c.push_str-in-Float.result _ _ _ c.push_str-in-Float.ensures.bytes

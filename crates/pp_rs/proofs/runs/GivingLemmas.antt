@@ -1,0 +1,144 @@
+-- Tokens that are given to a sink.
+use Rattle.std.proofs.Common.{◌≡◌, ◌∙◌, ◌<◌, ◌≤◌, Bool, true, false, refl, ap, sym, Option, Some, None, Ok, Err, IsTrue, inl, inr, arith}
+use Rattle.std.specs.Prelude.{OnErr, Result}
+use Rattle.pp_lexer.specs.PreprocessorError.{out_of_memory}
+use Rattle.pp_lexer.specs.TokenValue.{is_ordinary}
+use Rattle.pp_lexer.specs.declared.lexer.plain_item.PlainItem.{PlainItem}
+use Rattle.pp_lexer.specs.declared.token.Token.{Token}
+use Rattle.pp_directives.specs.WordTokens.{word_token}
+use Rattle.pp_macros.specs.Item.{Item}
+use Rattle.pp_rs.specs.Giving.{AreGiven, GivesTokens, is_ordinary_token, nothing, one_more}
+use Rattle.pp_rs.specs.Kept.{Preprocessing, is_spent, most_items, call_line}
+use Rattle.pp_rs.specs.inner.NextWord.{IsPassed, IsWord}
+use Rattle.pp_rs.specs.Preprocessing.{IsNextItem}
+use Rattle.pp_rs.specs.TokenRefs.{value_of, token_of}
+use Rattle.pp_rs.specs.declared.pp.token_ref.TokenRef.{TokenRef}
+use Rattle.pp_rs.specs.declared.pp.token_ref.ValueRef.{ValueRef}
+use Rattle.pp_rs.specs.declared.pp.token_ref.ValueRef.TheVariants as value
+use Rattle.pp_rs.specs.inner.GivingOn.{IsGiving, IsRefusedAfter, HasLeft}
+use Rattle.pp_rs.proofs.runs.NextLemmas.{next_none}
+use Rattle.pp_rs.proofs.runs.NextWordLemmas.{less_over, passed_next, passed_again, refused_next, word_refused}
+use Rattle.pp_rs.proofs.runs.PassedLemmas.{passed_nothing}
+
+-- a token reference refers to an ordinary token
+value_ordinary : (v : ValueRef) → IsTrue (is_ordinary (value_of v))
+value_ordinary (value.Ident name) = refl
+value_ordinary (value.Integer integer) = refl
+value_ordinary (value.Float text width) = refl
+value_ordinary (value.Punct punct) = refl
+
+pub refers_to_ordinary : (t : TokenRef) → IsTrue (is_ordinary (token_of t).value)
+refers_to_ordinary t = value_ordinary t.value
+
+-- memory didn't run out for a token that was given
+pub token_unspent : (old new : Preprocessing) (token : Token) → is_spent old ≡ false → IsNextItem old (Some (Ok token)) new → is_spent new ≡ false
+token_unspent old new token fresh next = elim (rw fresh at next.gives) [ inl refused ↦ let e = refused.item in cc | inr given ↦ given.spent ]
+
+-- nor once it has run out
+pub spent_next : (p new : Preprocessing) → is_spent p ≡ false → 0 < most_items p → new ≡ record p { spent = true }
+    → IsNextItem p (Some (Err out_of_memory)) new
+unfolding is_spent
+spent_next p new fresh some e = refused_next p new fresh (ap (λ (q : Preprocessing). q.spent) e) some
+
+pub on_err : {A E P : Type 0} (r : Result A E) → P → OnErr r P
+on_err (Ok x) p = tt
+on_err (Err x) p = p
+
+-- less is left after what came later, too
+pub has_less : (given : Bool) (old between new : Preprocessing) → most_items between ≤ most_items old → HasLeft given between new → HasLeft given old new
+has_less true old between new no_more less = omega (arith, no_more, less)
+has_less false old between new no_more less = omega (arith, no_more, less)
+
+pub no_more : (given : Bool) (old new : Preprocessing) → HasLeft given old new → most_items new ≤ most_items old
+no_more true old new less = omega (arith, less)
+no_more false old new same = same
+
+module _ {S : Type 0} (takes : S → TokenRef → S → Type 0) where
+  pub giving_starts : (p : Preprocessing) (sink : S) → IsGiving takes p sink p sink
+  giving_starts p sink = record { last = p; given = nothing p sink refl refl; passed = passed_nothing p }
+
+  -- memory didn't run out before the last
+  pub given_unspent : (old : Preprocessing) (before : S) (new : Preprocessing) (after : S) → AreGiven takes old before new after → is_spent old ≡ false
+      → is_spent new ≡ false
+  given_unspent old before new after (nothing p sink e f) fresh = ap is_spent e ∙ fresh
+  given_unspent old before new after (one_more token now p between sink given next line taken) fresh =
+      token_unspent now new (token_of token) (given_unspent old before now between given fresh) next
+
+  -- no more is left once tokens were given
+  given_left : (old : Preprocessing) (before : S) (new : Preprocessing) (after : S) → AreGiven takes old before new after → most_items new ≤ most_items old
+  given_left old before new after (nothing p sink e f) = omega (arith, ap most_items e)
+  given_left old before new after (one_more token now p between sink given next line taken) =
+      omega (arith, given_left old before now between given, next.less_left)
+
+  module _ (start now : Preprocessing) (first sink : S) (g : IsGiving takes start first now sink) where
+    -- pauses are passed
+    pub giving_passes : (new : Preprocessing) → IsPassed now new → IsGiving takes start first new sink
+    giving_passes new passed = record { last = g.last; given = g.given; passed = passed_again g.last now new g.passed passed }
+
+    module _ (fresh : is_spent now ≡ false) where
+      next_from_last : (answer : Option Item) (new : Preprocessing) → IsNextItem now answer new → IsNextItem g.last answer new
+      next_from_last answer new next = passed_next g.last now new answer (sym g.passed.spent ∙ fresh) g.passed next
+
+      -- a token is given
+      pub giving_takes : (token : TokenRef) (new : Preprocessing) (after : S) → IsNextItem now (Some (Ok (token_of token))) new
+          → token.call_line ≡ call_line new → takes sink token after → IsGiving takes start first new after
+      giving_takes token new after next line taken = record {
+        last = new;
+        given = one_more token g.last new sink after g.given (next_from_last (Some (Ok (token_of token))) new next) line taken;
+        passed = passed_nothing new;
+      }
+
+      -- memory runs out
+      pub giving_refused : (new : Preprocessing) → IsNextItem now (Some (Err out_of_memory)) new → IsRefusedAfter takes start first new
+      giving_refused new next =
+          record { last = g.last; taken = sink; given = g.given; next = next_from_last (Some (Err out_of_memory)) new next }
+
+      -- a word is given, or memory for it runs out
+      pub giving_word : (word : PlainItem) (mid new : Preprocessing) (token : TokenRef) (after : S) → IsWord now word mid
+          → token_of token ≡ word_token word → token.call_line ≡ None → new ≡ mid → takes sink token after
+          → IsGiving takes start first new after
+      giving_word word mid new token after is refers outside same taken =
+          rw same (giving_takes token mid after (rw refers is.next) (outside ∙ sym is.line) taken)
+
+      pub giving_no_word : (word : PlainItem) (mid new : Preprocessing) → IsWord now word mid → new ≡ record mid { spent = true }
+          → IsRefusedAfter takes start first new
+      giving_no_word word mid new is spent = giving_refused new (word_refused now mid new (word_token word) fresh is.next spent)
+
+      -- no more tokens come
+      pub giving_ends : (answer : Option Item) (new : Preprocessing) → IsNextItem now answer new → is_ordinary_token answer ≡ false
+          → GivesTokens takes start first answer new sink
+      giving_ends answer new next none = record {
+        last = g.last;
+        taken = sink;
+        given = g.given;
+        next = next_from_last answer new next;
+        no_token = none;
+        sink = λ _. refl;
+        less_left = less_over start g.last new answer (given_left start first g.last sink g.given) (next_from_last answer new next).less_left;
+      }
+
+  -- memory ran out
+  pub giving_stops : (start new : Preprocessing) (first after : S) → IsRefusedAfter takes start first new
+      → GivesTokens takes start first (Some (Err out_of_memory)) new after
+  giving_stops start new first after r = record {
+    last = r.last;
+    taken = r.taken;
+    given = r.given;
+    next = r.next;
+    no_token = refl;
+    sink = λ e. cc;
+    less_left = less_over start r.last new (Some (Err out_of_memory)) (given_left start first r.last r.taken r.given) r.next.less_left;
+  }
+
+  -- memory had run out before
+  pub giving_nothing : (p : Preprocessing) (sink : S) → is_spent p ≡ true → GivesTokens takes p sink None p sink
+  unfolding is_spent
+  giving_nothing p sink spent = record {
+    last = p;
+    taken = sink;
+    given = nothing p sink refl refl;
+    next = next_none p spent;
+    no_token = refl;
+    sink = λ _. refl;
+    less_left = (next_none p spent).less_left;
+  }

@@ -1,0 +1,134 @@
+//! Tokens before memory is taken for them, and what takes them.
+
+ghost use Rattle.std.specs.Prelude.{◌≡◌, IsTrue, OnOk, None};
+ghost use Rattle.pp_directives.specs.WordTokens.{word_token, word_value};
+ghost use Rattle.pp_lexer.specs.TokenValue.{is_ordinary};
+ghost use Rattle.pp_rs.specs.inner.NextWord.{IsPlain};
+ghost use Rattle.pp_rs.specs.TokenRefs.{TakesText, token_of, value_of};
+
+use crate::lexer::{Form, PlainItem, without_suffix};
+use crate::pp::spelling::push_value_ref;
+use crate::token::{Integer, Location, Punct, Token, TokenValue};
+use std::alloc::AllocError;
+
+/// The value of an ordinary token, before memory is taken for it.
+#[derive(Clone, Copy)]
+pub enum ValueRef<'a> {
+    /// An identifier or a keyword.
+    Ident(&'a str),
+    /// An integer.
+    Integer(Integer),
+    /// A float: its spelling, without a suffix, and its width in bits.
+    Float(&'a str, i32),
+    /// A punctuator.
+    Punct(Punct),
+}
+
+/// An ordinary token, before memory is taken for it.
+#[derive(Clone, Copy)]
+pub struct TokenRef<'a> {
+    /// What it is.
+    pub value: ValueRef<'a>,
+    /// Its place.
+    pub location: Location,
+    /// The line of the macro call that gave it, as [`Preprocessor::call_line`](crate::pp::Preprocessor::call_line)
+    /// tells it.
+    pub call_line: Option<u32>,
+}
+
+/// What takes the tokens of [`Preprocessor::give_tokens`](crate::pp::Preprocessor::give_tokens).
+pub trait TokenSink {
+    ghost use Rattle.pp_rs.specs.declared.pp.token_ref.TokenRef.{TokenRef};
+
+    // What it is once it has taken a token.
+    ghost takes: { Self → TokenRef → Self → Type 0 };
+
+    /// Takes a token. Fails only if an allocation fails.
+    fn take(&mut self, token: TokenRef<'_>) -> Result<(), AllocError>
+        ensures { OnOk result (takes self.old token.entry self.new) };
+}
+
+/// A text takes the text of each token, as `spell_tokens` spells it, and a space after it.
+impl TokenSink for String {
+    ghost takes = { TakesText };
+
+    #[inline(always)]
+    fn take(&mut self, token: TokenRef<'_>) -> Result<(), AllocError> {
+        push_value_ref(self, token.value)?;
+        self.push(' ')
+    }
+}
+
+impl<'a> TokenRef<'a> {
+    // A word of plain text, which no macro gave.
+    #[inline(always)]
+    pub(crate) fn of_word(word: &PlainItem<'a>) -> TokenRef<'a>
+        requires { IsPlain word.now }
+        ensures token { token_of result ≡ word_token word.now }
+        ensures line { result.call_line ≡ None }
+    {
+        TokenRef {
+            value: ValueRef::of_word(word),
+            location: word.location,
+            call_line: None,
+        }
+    }
+
+    // A token, and the line of the call that gave it.
+    #[inline(always)]
+    pub(crate) fn of_token(token: &'a Token, call_line: Option<u32>) -> TokenRef<'a>
+        requires { IsTrue (is_ordinary token.now.value) }
+        ensures token { token_of result ≡ token.now }
+        ensures line { result.call_line ≡ call_line }
+    {
+        TokenRef {
+            value: ValueRef::of_value(&token.value),
+            location: token.location,
+            call_line,
+        }
+    }
+}
+
+impl<'a> ValueRef<'a> {
+    // The value of a word of plain text.
+    #[inline(always)]
+    fn of_word(word: &PlainItem<'a>) -> ValueRef<'a>
+        requires { IsPlain word.now }
+        ensures { value_of result ≡ word_value word.now.form word.now.spelling.now }
+    {
+        match word.form {
+            Form::Identifier => ValueRef::Ident(word.spelling),
+            Form::Integer(value) => ValueRef::Integer(Integer {
+                value,
+                signed: true,
+                width: 32,
+            }),
+            Form::Unsigned(value) => ValueRef::Integer(Integer {
+                value,
+                signed: false,
+                width: 32,
+            }),
+            Form::Float => ValueRef::Float(word.spelling, 32),
+            Form::SuffixedFloat => ValueRef::Float(without_suffix(word.spelling), 32),
+            Form::Punct(punct) => ValueRef::Punct(punct),
+            Form::Hash => unreachable!(),
+        }
+    }
+
+    // The value of an ordinary token.
+    #[inline(always)]
+    pub(crate) fn of_value(value: &'a TokenValue) -> ValueRef<'a>
+        requires { IsTrue (is_ordinary value.now) }
+        ensures { value_of result ≡ value.now }
+    {
+        match value {
+            TokenValue::Ident(name) => ValueRef::Ident(name.as_str()),
+            TokenValue::Integer(integer) => ValueRef::Integer(*integer),
+            TokenValue::Float(float) => ValueRef::Float(float.text.as_str(), float.width),
+            TokenValue::Punct(punct) => ValueRef::Punct(*punct),
+            TokenValue::Version(_) | TokenValue::Extension(_) | TokenValue::Pragma(_) => {
+                unreachable!()
+            }
+        }
+    }
+}
