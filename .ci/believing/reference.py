@@ -2,8 +2,8 @@
 
 For each module of the library the page has a part between two marks, `<!-- MODULE: written by .ci/believed -->` and
 `<!-- MODULE: end -->`. `renewed` writes these parts: under a heading for each type, and for the functions of each source, the
-doc comments, signatures and clauses, word for word. A `clone` has one line. What is private to the repository isn't there: a
-function whose doc comment says so, and an impl that names a type of the repository that isn't public.
+doc comments, signatures and clauses, word for word. A `clone` has one line. An impl that names a type of the repository that
+isn't public isn't there.
 """
 import re
 import textwrap
@@ -14,7 +14,6 @@ PAGE, GUIDE = 'docs/REFERENCE.md', 'docs/GUIDE.md'
 CRATE = 'pp_rs'
 # the modules at which a user of `pp_rs` finds what is public, and the types with which a module begins
 MODULES, FIRST = ('pp', 'token', 'lexer', 'laws', 'lexer::laws'), ('Preprocessor', 'Lexer', 'Token')
-PRIVATE = 'private to the repository'
 # errors that no source gives: a row says why in place of an example
 WITHOUT_SOURCE = ('MacroNotDefined', 'OutOfMemory')
 
@@ -57,8 +56,7 @@ class Reference:
 
     def is_private(self, promise):
         named = re.findall(r'<(\w+)>', promise.path)
-        other = any(self.tree.has_type(crate, name) for crate in self.tree.crates for name in named if name not in self.types)
-        return other or PRIVATE in ' '.join(comment(promise.source, promise.signature[0]) if promise.signature else ())
+        return any(self.tree.has_type(crate, name) for crate in self.tree.crates for name in named if name not in self.types)
 
     def group(self, source, key, name):
         group = self.groups[module_of(source)].setdefault(key, Group())
