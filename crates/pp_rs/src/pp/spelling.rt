@@ -7,7 +7,6 @@ ghost use Rattle.std.specs.Str.{chars};
 ghost use Rattle.pp_lexer.specs.TokenValue.{is_ordinary};
 ghost use Rattle.pp_lexer.specs.PreprocessorError.{out_of_memory};
 ghost use Rattle.pp_lexer.specs.Punctuators.{punctuator};
-ghost use Rattle.pp_rs.specs.TokenRefs.{value_of};
 ghost use Rattle.pp_lexer.specs.Spelling.{integer_literal, spelling, spelled_text, values_of};
 
 use crate::pp::token_ref::ValueRef;
@@ -60,12 +59,12 @@ pub fn push_value(text: &mut String, value: &TokenValue) -> Result<(), AllocErro
         ≡ chars (string_bytes text.old) ++ spelling value.now) }
     ensures refused { OnErr result (string_bytes text.new ≡ string_bytes text.old) }
 {
-    push_value_ref(text, ValueRef::of_value(value))
+    ValueRef::of_value(value).push_to(text)
 }
 
 // Appends a punctuator. Most have one character, for which no text is copied.
 #[inline(always)]
-fn push_punct(text: &mut String, punct: Punct) -> Result<(), AllocError>
+pub(crate) fn push_punct(text: &mut String, punct: Punct) -> Result<(), AllocError>
     ensures appended { OnOk result (chars (string_bytes text.new)
         ≡ chars (string_bytes text.old) ++ punctuator punct) }
     ensures refused { OnErr result (string_bytes text.new ≡ string_bytes text.old) }
@@ -76,23 +75,6 @@ fn push_punct(text: &mut String, punct: Punct) -> Result<(), AllocError>
         return text.push(bytes[0] as char);
     }
     text.push_str(spelling)
-}
-
-/// Appends the text of an ordinary token, as `spell_tokens` spells it, before memory is taken for the token.
-///
-/// Fails only if an allocation fails. Then nothing is appended.
-#[inline(always)]
-pub fn push_value_ref(text: &mut String, value: ValueRef<'_>) -> Result<(), AllocError>
-    ensures appended { OnOk result (chars (string_bytes text.new)
-        ≡ chars (string_bytes text.old) ++ spelling (value_of value.entry)) }
-    ensures refused { OnErr result (string_bytes text.new ≡ string_bytes text.old) }
-{
-    match value {
-        ValueRef::Ident(name) => text.push_str(name),
-        ValueRef::Integer(integer) => push_integer(text, integer),
-        ValueRef::Float(digits, _) => text.push_str(digits),
-        ValueRef::Punct(punct) => push_punct(text, punct),
-    }
 }
 
 // Appends the decimal digits of a number, without a formatter: most numbers have one digit. If memory runs out, the
@@ -122,7 +104,7 @@ fn push_digits(text: &mut String, integer: Integer) -> Result<(), AllocError>
 }
 
 // Appends an integer. If memory runs out, what was appended is taken back.
-fn push_integer(text: &mut String, integer: Integer) -> Result<(), AllocError>
+pub(crate) fn push_integer(text: &mut String, integer: Integer) -> Result<(), AllocError>
     ensures appended { OnOk result (chars (string_bytes text.new)
         ≡ chars (string_bytes text.old) ++ integer_literal integer) }
     ensures refused { OnErr result (string_bytes text.new ≡ string_bytes text.old) }

@@ -1,13 +1,15 @@
 //! Tokens before memory is taken for them, and what takes them.
 
-ghost use Rattle.std.specs.Prelude.{◌≡◌, IsTrue, OnOk, None};
+ghost use Rattle.std.specs.Prelude.{◌≡◌, ◌++◌, IsTrue, OnOk, OnErr, None, string_bytes};
+ghost use Rattle.std.specs.Str.{chars};
+ghost use Rattle.pp_lexer.specs.Spelling.{spelling};
 ghost use Rattle.pp_directives.specs.WordTokens.{word_token, word_value};
 ghost use Rattle.pp_lexer.specs.TokenValue.{is_ordinary};
 ghost use Rattle.pp_rs.specs.inner.NextWord.{IsPlain};
 ghost use Rattle.pp_rs.specs.TokenRefs.{TakesText, token_of, value_of};
 
 use crate::lexer::{Form, PlainItem, without_suffix};
-use crate::pp::spelling::push_value_ref;
+use crate::pp::spelling::{push_integer, push_punct};
 use crate::token::{Integer, Location, Punct, Token, TokenValue};
 use std::alloc::AllocError;
 
@@ -54,7 +56,7 @@ impl TokenSink for String {
 
     #[inline(always)]
     fn take(&mut self, token: TokenRef<'_>) -> Result<(), AllocError> {
-        push_value_ref(self, token.value)?;
+        token.value.push_to(self)?;
         self.push(' ')
     }
 }
@@ -90,6 +92,23 @@ impl<'a> TokenRef<'a> {
 }
 
 impl<'a> ValueRef<'a> {
+    /// Appends the token's text, as `spell_tokens` spells it.
+    ///
+    /// Fails only if an allocation fails. Then nothing is appended.
+    #[inline(always)]
+    pub fn push_to(self, text: &mut String) -> Result<(), AllocError>
+        ensures appended { OnOk result (chars (string_bytes text.new)
+            ≡ chars (string_bytes text.old) ++ spelling (value_of self.entry)) }
+        ensures refused { OnErr result (string_bytes text.new ≡ string_bytes text.old) }
+    {
+        match self {
+            ValueRef::Ident(name) => text.push_str(name),
+            ValueRef::Integer(integer) => push_integer(text, integer),
+            ValueRef::Float(digits, _) => text.push_str(digits),
+            ValueRef::Punct(punct) => push_punct(text, punct),
+        }
+    }
+
     // The value of a word of plain text.
     #[inline(always)]
     fn of_word(word: &PlainItem<'a>) -> ValueRef<'a>

@@ -5,5 +5,5 @@ use Rattle.pp_rs.proofs.pp.token_ref.StringTokenSink.take.Goals as goal
 
 pub returns : goal.returns
 returns c =
-    space_pushed c.push.result _ (string_bytes c.push_value_ref.new.text) _ _ (IsUtf8-string_bytes c.push_value_ref.new.text) (rw (c.push.ensures.ascii (omega arith)) at c.push.ensures.bytes)
-    (c.in_ok-push_value_ref.ensures {u = tt}).appended
+    space_pushed c.push.result _ (string_bytes c.push_to.new.text) _ _ (IsUtf8-string_bytes c.push_to.new.text) (rw (c.push.ensures.ascii (omega arith)) at c.push.ensures.bytes)
+    (c.in_ok-push_to.ensures {u = tt}).appended

@@ -1,6 +1,6 @@
 use Rattle.std.proofs.lemmas.Str.{IsUtf8-string_bytes}
 use Rattle.pp_rs.proofs.runs.SpellingLemmas.{chars-pushed, not-pushed}
-use Rattle.pp_rs.proofs.pp.spelling.push_value_ref.Goals as goal
+use Rattle.pp_rs.proofs.pp.token_ref.ValueRef.push_to.Goals as goal
 
 pub returns-in-Ident-clause-appended : goal.returns-in-Ident-clause-appended
 returns-in-Ident-clause-appended c =
