@@ -1,4 +1,4 @@
-//! The reader of tokens that comes after the frames.
+//! Where tokens come from when no macro is open.
 
 ghost use Rattle.std.specs.Prelude.{◌≡◌, ◌++◌, ◌∷◌, [], List, IfOk, Some, option_map, ok_or, position};
 ghost use Rattle.std.specs.Str.{chars};

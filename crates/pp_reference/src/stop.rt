@@ -51,7 +51,7 @@ impl<T: Drop> From<AllocFailed<T>> for Stop {
     }
 }
 
-/// Why a part of a line has no value.
+/// A fault of a line, or no answer of the program.
 #[derive(Drop)]
 pub enum Halt {
     /// Its first fault.

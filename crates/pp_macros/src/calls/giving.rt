@@ -216,8 +216,7 @@ impl Expander {
         }
     }
 
-    // Whether the token that `token` gives is better moved to a list than copied: its list gives it for the last time,
-    // and a copy takes memory.
+    // Whether `token` gives its token for the last time, and copying would allocate.
     #[inline(always)]
     fn moves_next(&self) -> bool {
         if !self.processor.reads_last() {
