@@ -13,7 +13,7 @@ use Rattle.pp_rs.specs.declared.token.Token.{Token}
 use Rattle.pp_c.specs.Calls.{name_in, content_in, with_answer, with_fault}
 use Rattle.pp_c.specs.Numbers.{error_number}
 use Rattle.pp_c.specs.Preprocessed.{token, error}
-use Rattle.pp_c.specs.inner.Making.{GivesNext, AddsOne}
+use Rattle.pp_c.specs.inner.Making.{given_of, GivesNext, AddsOne}
 use Rattle.pp_c.specs.inner.Making as made
 use Rattle.pp_c.specs.declared.items.Definition.{Definition}
 
@@ -37,6 +37,10 @@ module _ (old new : Preprocessing) (ready : is_spent old ≡ false) where
   pub next_error : (fault : Fault) → is_out_of_memory fault.0 ≡ false → IsNextItem old (Some (Err fault)) new
       → GivesNext old (Some (error fault (error_place new))) new
   next_error fault reported h = record { given = given_by (Some (Err fault)) reported h; placed = refl }
+
+  pub next_item : (item : Item) → is_refusal (Some item) ≡ false → IsNextItem old (Some item) new → GivesNext old (Some (given_of item (error_place new))) new
+  next_item (Ok t) reported h = next_token t h
+  next_item (Err fault) reported h = next_error fault reported h
 
 module _ (words : List ℕ) (definition after : Definition) (name content : List ℕ) (old new : Preprocessing)
     (is_name : name ≡ name_in words definition) (is_content : content ≡ content_in words definition) where

@@ -1,16 +1,19 @@
 -- The items that are left after the last definition, and all of them together.
-use Rattle.std.proofs.Common.{◌≡◌, ◌+◌, true, false, [], ◌∷◌, ◌++◌, map, length, refl, Option, Some, None, is_some, MatchOption}
+use Rattle.std.proofs.Common.{◌≡◌, ◌+◌, arith, true, false, [], ◌∷◌, ◌++◌, map, length, refl, Option, Some, None, is_some, MatchOption}
 use Rattle.std.proofs.lemmas.List.{replicate_more, map_push, length_push}
 use Rattle.std.proofs.Math.ListN.{replicate}
 use Rattle.pp_model.specs.Run.{next}
 use Rattle.pp_rs.specs.Kept.{Preprocessing, is_spent}
-use Rattle.pp_c.specs.Preprocessed.{Given, given_entries}
+use Rattle.pp_rs.specs.Giving.{AreGiven, nothing, one_more}
+use Rattle.pp_rs.specs.TokenRefs.{token_of}
+use Rattle.pp_c.specs.Preprocessed.{Given, given_entries, token as made_token}
 use Rattle.pp_c.specs.inner.Making.{GivesNext, Made, NextIsWritten, answers_of, made_of, IsSmall, HasCome, IsUntil, GoesOn, HasRest, GivesRest, GivesToEnd, IsPossible, HasAdded, HasAll, AddsOne}
 use Rattle.pp_c.specs.inner.Making as made
-use Rattle.pp_c.specs.inner.Taking.{Takes}
+use Rattle.pp_c.specs.inner.Taking.{Takes, TakesToken}
 use Rattle.pp_c.specs.declared.output.Output.{Output}
 use Rattle.pp_c.specs.declared.preprocessing.Progress.{Progress}
 use Rattle.pp_c.proofs.MadeLemmas.{made_then}
+use Rattle.pp_c.proofs.NextLemmas.{next_token}
 use Rattle.pp_c.proofs.ProgressLemmas.{takes_item, made_one}
 use Rattle.pp_c.proofs.TakingLemmas.{takes_none}
 
@@ -55,3 +58,21 @@ module _ (begun : Preprocessing) (first : Output) (old : Preprocessing) (output 
     ended = λ e. cc;
     rest = λ e. end_by w.answer w.gives w.takes w.is_more;
   }
+
+module _ (begun : Preprocessing) (first : Output) (small : IsSmall first) where
+  -- the memory stays small
+  pub rest_small : (old : Preprocessing) (output : Output) → GivesRest begun first old output → IsSmall output
+  rest_small old output h = record { items = omega (arith, h.takes.items_room, small.items); texts = omega (arith, h.takes.texts_room, small.texts) }
+
+  -- tokens that the output took
+  pub rest_given : (old : Preprocessing) (output : Output) → GivesRest begun first old output → (last : Preprocessing) (taken : Output)
+      → AreGiven TakesToken old output last taken → GivesRest begun first last taken
+  rest_given old output h last taken (nothing p s e f) = rw (e, f) h
+  rest_given old output h last taken (one_more token now p between s given came line takes) =
+      let before = rest_given old output h now between given in
+      rest_more begun first now between last taken (rest_small now between before) before (record {
+        answer = Some (made_token (token_of token));
+        gives = next_token now last before.unspent (token_of token) came;
+        takes = takes;
+        is_more = refl;
+      })

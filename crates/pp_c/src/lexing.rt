@@ -32,43 +32,33 @@ pub(crate) fn lex(alloc: Global, source: &[u8], output: &mut Output<'_>) -> Resu
         return Err(Refusal::NotUtf8);
     };
     let mut lexer = Lexer::new(alloc, source);
-    let mut spelling = String::new(alloc);
     'items: while let Some(item) = lexer.next() {
-        give_item(item, lexer.place(), &mut spelling, output)?;
+        give_item(item, lexer.place(), output)?;
     }
     Ok(())
 }
 
 // Gives an item of the lexer. `place` is its place, also for an error.
-fn give_item(
-    item: LexerItem,
-    place: Location,
-    spelling: &mut String,
-    output: &mut Output<'_>,
-) -> Result<(), AllocError>
+fn give_item(item: LexerItem, place: Location, output: &mut Output<'_>) -> Result<(), AllocError>
     ensures given { OnOk result (Takes output.old (lexeme_entries item place) output.new) }
     ensures reported { OnOk result (item ≢ Err out_of_memory) }
 {
     match item {
-        Ok(token) => give_token(&token, spelling, output),
+        Ok(token) => give_token(&token, output),
         Err((error, location)) => {
             if is_out_of_memory(&error) {
                 return Err(AllocError);
             }
             give_error(&error, location, place, 0, output);
-            Ok(())
         }
     }
+    Ok(())
 }
 
 // Gives a token of the lexer.
-fn give_token(
-    token: &Token,
-    spelling: &mut String,
-    output: &mut Output<'_>,
-) -> Result<(), AllocError>
-    ensures { OnOk result (Takes output.old
-        (lexer_entry token.now.location (lexer_flags token.now) token.now.value ∷ []) output.new) }
+fn give_token(token: &Token, output: &mut Output<'_>)
+    ensures { Takes output.old
+        (lexer_entry token.now.location (lexer_flags token.now) token.now.value ∷ []) output.new }
 {
     let place = token.location;
     let flags = bit_if(token.leading_whitespace, LEADING_WHITESPACE)
@@ -76,12 +66,11 @@ fn give_token(
     match &token.value {
         TokenValue::Hash => output.take(item_at(place, Kind::Hash, flags)),
         TokenValue::NewLine => output.take(item_at(place, Kind::NewLine, flags)),
-        TokenValue::Ident(name) => give_name(place, flags, name, output),
+        TokenValue::Ident(name) => give_name(place, flags, name.as_str(), output),
         TokenValue::Integer(integer) => give_integer(place, flags, *integer, output),
-        TokenValue::Float(float) => give_float(place, flags, float, output),
-        TokenValue::Punct(punct) => {
-            return give_punctuator(place, flags, *punct, spelling, output);
+        TokenValue::Float(float) => {
+            give_float(place, flags, float.text.as_str(), float.width, output)
         }
+        TokenValue::Punct(punct) => give_punctuator(place, flags, *punct, output),
     }
-    Ok(())
 }

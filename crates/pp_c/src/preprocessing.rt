@@ -1,8 +1,11 @@
 //! The items of a preprocessed source.
 
 ghost use Rattle.std.specs.Prelude.{◌≡◌, ◌↔◌, ◌⊎◌, ◌<◌, ◌≤◌, ◌-◌, ◌^◌, ◌∷◌, [], true, false, map, length};
-ghost use Rattle.std.specs.Prelude.{IsOk, OnOk, IfOk, IfErr, IsTrue, IsUtf8, All, Any};
+ghost use Rattle.std.specs.Prelude.{IsOk, OnOk, IfOk, IfErr, IsTrue, IsUtf8, All, Any, Some};
 ghost use Rattle.pp_macros.specs.Item.{is_out_of_memory};
+ghost use Rattle.pp_rs.specs.Preprocessing.{is_refusal};
+ghost use Rattle.pp_rs.specs.TokenRefs.{value_of};
+ghost use Rattle.pp_c.specs.Preprocessed.{given_entries};
 ghost use Rattle.pp_rs.specs.Preorder.{preorder, inner, leaf_of};
 ghost use Rattle.pp_rs.specs.TokenValue.{is_ordinary};
 ghost use Rattle.pp_rs.specs.Kept.{is_spent, most_items};
@@ -11,7 +14,7 @@ ghost use Rattle.pp_c.specs.Entries.{in_32_bits};
 ghost use Rattle.pp_c.specs.Tokens.{item_at, leaf_entry, token_entries, error_entries};
 ghost use Rattle.pp_c.specs.inner.Kinds.{kind_number};
 ghost use Rattle.pp_c.specs.inner.Refusing.{IsAddingRefusal};
-ghost use Rattle.pp_c.specs.inner.Making.{NextIsWritten, IsUntil, GoesOn, HasRest, HasAll, Gives};
+ghost use Rattle.pp_c.specs.inner.Making.{given_of, NextIsWritten, IsUntil, GoesOn, HasRest, HasAll, Gives};
 ghost use Rattle.pp_c.specs.inner.Taking.{Takes};
 
 use crate::definitions::{LIMIT, add};
@@ -21,7 +24,7 @@ use crate::items::{
 use crate::output::Output;
 use crate::status::Refusal;
 use crate::words::{give_error, give_float, give_integer, give_name, give_punctuator, item_at};
-use pp_rs::pp::Preprocessor;
+use pp_rs::pp::{Preprocessor, PreprocessorItem, TokenRef, TokenSink, ValueRef};
 use pp_rs::token::{Location, PreprocessorError, Token, TokenValue};
 use std::alloc::{AllocError, Global};
 use std::str;
@@ -53,7 +56,7 @@ pub(crate) fn preprocess(
         return Err(Refusal::NotUtf8);
     };
     let mut pp = Preprocessor::new(alloc, source);
-    let end = give_all(alloc, &mut pp, words, definitions, output);
+    let end = give_all(&mut pp, words, definitions, output);
     drop(pp);
     end
 }
@@ -67,7 +70,6 @@ struct Progress {
 
 // Gives all items, with the definitions added at their numbers.
 fn give_all(
-    alloc: Global,
     pp: &mut Preprocessor<'_>,
     words: &str,
     definitions: &mut [Definition],
@@ -80,17 +82,16 @@ fn give_all(
     ensures err { IfErr result (λ refusal. IsAddingRefusal refusal
         (Any (HasLongContent words.now) definitions.old) (Any (LiesOutside words.now) definitions.old)) }
 {
-    let mut spelling = String::new(alloc);
     let mut progress = Progress {
         given: 0,
         has_ended: false,
     };
     for i in 0..definitions.len() {
         let after = definitions[i].after;
-        give_until(pp, after, &mut progress, &mut spelling, output)?;
+        give_until(pp, after, &mut progress, output)?;
         add(pp, words, &mut definitions[i])?;
     }
-    give_rest(pp, progress, &mut spelling, output)?;
+    give_rest(pp, progress, output)?;
     Ok(())
 }
 
@@ -99,7 +100,6 @@ fn give_until(
     pp: &mut Preprocessor<'_>,
     count: u64,
     progress: &mut Progress,
-    spelling: &mut String,
     output: &mut Output<'_>,
 ) -> Result<(), AllocError>
     requires { is_spent pp.old ≡ false }
@@ -108,7 +108,7 @@ fn give_until(
     ensures given { OnOk result (GoesOn pp.old output.old progress.old pp.new output.new progress.new) }
 {
     'items: while !progress.has_ended && progress.given < count {
-        if give_next(pp, spelling, output)? {
+        if give_next(pp, output)? {
             progress.given += 1;
         } else {
             progress.has_ended = true;
@@ -121,7 +121,6 @@ fn give_until(
 fn give_rest(
     pp: &mut Preprocessor<'_>,
     progress: Progress,
-    spelling: &mut String,
     output: &mut Output<'_>,
 ) -> Result<(), AllocError>
     requires { is_spent pp.old ≡ false }
@@ -130,33 +129,65 @@ fn give_rest(
     if progress.has_ended {
         return Ok(());
     }
-    'items: loop {
-        if !give_next(pp, spelling, output)? {
-            return Ok(());
-        }
+    'items: while let Some(item) = pp.give_tokens(output) {
+        give_item(item, pp.place(), output)?;
     }
+    Ok(())
 }
 
 // Gives the next item, if there is one.
-fn give_next(
-    pp: &mut Preprocessor<'_>,
-    spelling: &mut String,
-    output: &mut Output<'_>,
-) -> Result<bool, AllocError>
+fn give_next(pp: &mut Preprocessor<'_>, output: &mut Output<'_>) -> Result<bool, AllocError>
     requires { is_spent pp.old ≡ false }
     ensures given { IfOk result (λ more. NextIsWritten pp.old pp.new output.old output.new more) }
     ensures less { IfOk result (λ more. more ≡ true → most_items pp.new < most_items pp.old) }
 {
-    match pp.next() {
-        None => Ok(false),
-        Some(Ok(token)) => {
-            give_value(token.location, &token.value, spelling, output)?;
-            Ok(true)
+    let Some(item) = pp.next() else {
+        return Ok(false);
+    };
+    give_item(item, pp.place(), output)?;
+    Ok(true)
+}
+
+impl TokenSink for Output<'_> {
+    ghost use Rattle.pp_c.specs.inner.Taking.{TakesToken};
+
+    ghost takes = { TakesToken };
+
+    #[inline(always)]
+    fn take(&mut self, token: TokenRef<'_>) -> Result<(), AllocError> {
+        give_ordinary(token.location, token.value, self);
+        Ok(())
+    }
+}
+
+// Gives an ordinary token.
+#[inline(always)]
+fn give_ordinary(place: Location, value: ValueRef<'_>, output: &mut Output<'_>)
+    ensures { Takes output.old (token_entries place (value_of value.entry)) output.new }
+{
+    match value {
+        ValueRef::Ident(name) => give_name(place, 0, name, output),
+        ValueRef::Integer(integer) => give_integer(place, 0, integer, output),
+        ValueRef::Float(digits, width) => give_float(place, 0, digits, width, output),
+        ValueRef::Punct(punct) => give_punctuator(place, 0, punct, output),
+    }
+}
+
+// Gives an item. `place` is its true place, if it is an error.
+fn give_item(
+    item: PreprocessorItem,
+    place: Location,
+    output: &mut Output<'_>,
+) -> Result<(), AllocError>
+    ensures given { OnOk result (Takes output.old (given_entries (given_of item place)) output.new) }
+    ensures reported { OnOk result (is_refusal (Some item) ≡ false) }
+{
+    match item {
+        Ok(token) => {
+            give_value(token.location, &token.value, output);
+            Ok(())
         }
-        Some(Err((error, location))) => {
-            give_fault(&error, location, pp.place(), spelling, output)?;
-            Ok(true)
-        }
+        Err((error, location)) => give_fault(&error, location, place, output),
     }
 }
 
@@ -165,41 +196,32 @@ fn give_fault(
     error: &PreprocessorError,
     location: Location,
     place: Location,
-    spelling: &mut String,
     output: &mut Output<'_>,
 ) -> Result<(), AllocError>
     ensures given { OnOk result (Takes output.old (error_entries error.now location place) output.new) }
     ensures reported { OnOk result (is_out_of_memory error.now ≡ false) }
 {
     match error {
-        PreprocessorError::OutOfMemory => Err(AllocError),
+        PreprocessorError::OutOfMemory => return Err(AllocError),
         PreprocessorError::UnexpectedToken(value) => {
             let held = count(tokens_of(value).len());
             give_error(error, location, place, held.saturating_add(1), output);
-            give_value(location, value, spelling, output)
+            give_value(location, value, output);
         }
-        _ => {
-            give_error(error, location, place, 0, output);
-            Ok(())
-        }
+        _ => give_error(error, location, place, 0, output),
     }
+    Ok(())
 }
 
 // Gives a token, and after it the tokens of its line.
-fn give_value(
-    place: Location,
-    value: &TokenValue,
-    spelling: &mut String,
-    output: &mut Output<'_>,
-) -> Result<(), AllocError>
-    ensures { OnOk result (Takes output.old (token_entries place value.now) output.new) }
+fn give_value(place: Location, value: &TokenValue, output: &mut Output<'_>)
+    ensures { Takes output.old (token_entries place value.now) output.new }
 {
     let line = tokens_of(value);
-    give_word(place, value, count(line.len()), spelling, output)?;
+    give_word(place, value, count(line.len()), output);
     for token in line {
-        give_word(token.location, &token.value, 0, spelling, output)?;
+        give_word(token.location, &token.value, 0, output);
     }
-    Ok(())
 }
 
 // The tokens of a directive's line.
@@ -223,21 +245,17 @@ fn count(tokens: usize) -> u32
 }
 
 // Gives one item for a token. If it is a directive, the `children` items that follow belong to it.
-fn give_word(
-    place: Location,
-    value: &TokenValue,
-    children: u32,
-    spelling: &mut String,
-    output: &mut Output<'_>,
-) -> Result<(), AllocError>
+fn give_word(place: Location, value: &TokenValue, children: u32, output: &mut Output<'_>)
     requires { IsTrue (is_ordinary value.now) → children ≡ 0 }
-    ensures { OnOk result (Takes output.old (leaf_entry place 0 children (leaf_of value.now) ∷ []) output.new) }
+    ensures { Takes output.old (leaf_entry place 0 children (leaf_of value.now) ∷ []) output.new }
 {
     match value {
-        TokenValue::Ident(name) => give_name(place, 0, name, output),
+        TokenValue::Ident(name) => give_name(place, 0, name.as_str(), output),
         TokenValue::Integer(integer) => give_integer(place, 0, *integer, output),
-        TokenValue::Float(float) => give_float(place, 0, float, output),
-        TokenValue::Punct(punct) => return give_punctuator(place, 0, *punct, spelling, output),
+        TokenValue::Float(float) => {
+            give_float(place, 0, float.text.as_str(), float.width, output)
+        }
+        TokenValue::Punct(punct) => give_punctuator(place, 0, *punct, output),
         TokenValue::Version(version) => {
             let flags = bit_if(version.is_first_directive, FIRST_DIRECTIVE)
                 | bit_if(version.has_comments_before, COMMENTS_BEFORE);
@@ -251,7 +269,6 @@ fn give_word(
             output.take(directive_item(place, Kind::Pragma, 0, children));
         }
     }
-    Ok(())
 }
 
 // The item of a directive.

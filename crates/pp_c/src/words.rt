@@ -1,6 +1,7 @@
 //! The items of words, numbers, punctuators and errors.
 
-ghost use Rattle.std.specs.Prelude.{◌≡◌, ◌+◌, ◌∷◌, [], OnOk};
+ghost use Rattle.std.specs.Prelude.{◌≡◌, ◌+◌, ◌∷◌, []};
+ghost use Rattle.std.specs.Str.{chars};
 ghost use Rattle.pp_rs.specs.Entry.{ident as ident_leaf, integer as integer_leaf};
 ghost use Rattle.pp_rs.specs.Entry.{float as float_leaf, punct as punct_leaf};
 ghost use Rattle.pp_c.specs.Entries.{in_32_bits};
@@ -12,9 +13,7 @@ ghost use Rattle.pp_c.specs.inner.Taking.{Takes};
 use crate::faults::number_of;
 use crate::items::{FIRST_PUNCTUATOR, Item, Kind, SIGNED, bit_if};
 use crate::output::Output;
-use pp_rs::pp::push_value;
-use pp_rs::token::{Float, Integer, Location, PreprocessorError, Punct, Text, TokenValue};
-use std::alloc::AllocError;
+use pp_rs::token::{Integer, Location, PreprocessorError, Punct};
 
 // An item that has no text, no number and no items that belong to it.
 fn numbered_item_at(place: Location, kind: u16, flags: u32) -> Item
@@ -52,19 +51,25 @@ pub(crate) fn give_integer(place: Location, flags: u32, integer: Integer, output
 }
 
 /// Gives an identifier or a keyword.
-pub(crate) fn give_name(place: Location, flags: u32, name: &Text, output: &mut Output<'_>)
-    ensures { Takes output.old (leaf_entry place flags 0 (ident_leaf name.now) ∷ []) output.new }
+pub(crate) fn give_name(place: Location, flags: u32, name: &str, output: &mut Output<'_>)
+    ensures { Takes output.old (leaf_entry place flags 0 (ident_leaf (chars name.now)) ∷ []) output.new }
 {
-    output.take_text(item_at(place, Kind::Ident, flags), name.as_str());
+    output.take_text(item_at(place, Kind::Ident, flags), name);
 }
 
 /// Gives a float literal.
-pub(crate) fn give_float(place: Location, flags: u32, float: &Float, output: &mut Output<'_>)
-    ensures { Takes output.old (leaf_entry place flags 0 (float_leaf float.now.text float.now.width) ∷ []) output.new }
+pub(crate) fn give_float(
+    place: Location,
+    flags: u32,
+    digits: &str,
+    width: i32,
+    output: &mut Output<'_>,
+)
+    ensures { Takes output.old (leaf_entry place flags 0 (float_leaf (chars digits.now) width) ∷ []) output.new }
 {
     let mut item = item_at(place, Kind::Float, flags);
-    item.width = float.width;
-    output.take_text(item, float.text.as_str());
+    item.width = width;
+    output.take_text(item, digits);
 }
 
 // The number of a punctuator.
@@ -74,21 +79,12 @@ fn number_of_punctuator(punct: Punct) -> u16
     FIRST_PUNCTUATOR + punct as u16
 }
 
-/// Gives a punctuator. Its text is made in `spelling`.
-pub(crate) fn give_punctuator(
-    place: Location,
-    flags: u32,
-    punct: Punct,
-    spelling: &mut String,
-    output: &mut Output<'_>,
-) -> Result<(), AllocError>
-    ensures { OnOk result (Takes output.old (leaf_entry place flags 0 (punct_leaf punct) ∷ []) output.new) }
+/// Gives a punctuator.
+pub(crate) fn give_punctuator(place: Location, flags: u32, punct: Punct, output: &mut Output<'_>)
+    ensures { Takes output.old (leaf_entry place flags 0 (punct_leaf punct) ∷ []) output.new }
 {
-    spelling.clear();
-    push_value(spelling, &TokenValue::Punct(punct))?;
     let item = numbered_item_at(place, number_of_punctuator(punct), flags);
-    output.take_text(item, spelling.as_str());
-    Ok(())
+    output.take_text(item, punct.spelling());
 }
 
 /// Gives an error and its true place. The place and the `others` items that follow it belong to the

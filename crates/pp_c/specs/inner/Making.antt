@@ -22,6 +22,11 @@ abbrev pub item_of : Given → Given_item
 item_of (token t) = Ok t
 item_of (error fault place) = Err fault
 
+-- an item that came with this true place, if it is an error
+abbrev pub given_of : Given_item → Location → Given
+given_of (Ok t) place = token t
+given_of (Err fault) place = error fault place
+
 -- an error is at this place
 abbrev pub IsAt : Given → Location → Type 0
 IsAt (token t) place = ⊤

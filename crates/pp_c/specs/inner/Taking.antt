@@ -3,7 +3,9 @@ use Rattle.std.specs.Prelude.{◌≡◌, ℕ, ◌+◌, ◌≤◌, List, [], ◌�
 use Rattle.pp_c.specs.Entries.{Entry, bare, with_text, in_64_bits, items_from, texts_of}
 use Rattle.pp_rs.specs.Preorder.{leaf_of}
 use Rattle.pp_rs.specs.declared.token.Token.{Token}
-use Rattle.pp_c.specs.Tokens.{leaf_entry}
+use Rattle.pp_rs.specs.TokenRefs.{value_of}
+use Rattle.pp_rs.specs.declared.pp.token_ref.TokenRef.{TokenRef}
+use Rattle.pp_c.specs.Tokens.{leaf_entry, token_entries}
 use Rattle.pp_c.specs.declared.items.Sizes.{Sizes}
 use Rattle.pp_c.specs.declared.output.Output.{Output}
 
@@ -40,6 +42,10 @@ pub record Takes (old : Output) (more : List Entry) (new : Output) : Type 0 wher
       → new.items.now ≡ written_over old.sizes.items (items_from old.sizes.texts more) old.items.now
   pub texts : HaveRoom old more
       → new.texts.now ≡ written_over old.sizes.texts (texts_of more) old.texts.now
+
+-- the token's entries are taken
+abbrev pub TakesToken : Output → TokenRef → Output → Type 0
+TakesToken old token new = Takes old (token_entries token.location (value_of token.value)) new
 
 -- a token of a directive's line
 abbrev pub outer_entry : Token → Entry

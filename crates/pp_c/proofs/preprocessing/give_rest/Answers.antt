@@ -1,19 +1,36 @@
-use Rattle.std.proofs.Common.{arith}
-use Rattle.pp_c.proofs.RestLemmas.{rest_none, rest_more, rest_end}
-use Rattle.pp_c.specs.inner.Making.{IsSmall}
+use Rattle.std.proofs.Common.{arith, refl, Some, None}
+use Rattle.pp_c.proofs.NextLemmas.{next_item, next_end}
+use Rattle.pp_c.proofs.RestLemmas.{rest_none, rest_small, rest_given, rest_more, rest_end}
+use Rattle.pp_c.specs.inner.Making.{given_of, IsSmall}
 use Rattle.pp_c.proofs.preprocessing.give_rest.Goals as goal
 
 pub items-init : goal.items-init
 items-init c = rest_none c.args.pp.now c.args.output.now c.requires
 
-pub returns-then-not-branch : goal.returns-then-not-branch
-returns-then-not-branch c =
-    let small : IsSmall c.items.output = record { items = omega (arith, c.items.invariant.takes.items_room); texts = omega (arith, c.items.invariant.takes.texts_room) } in
-    rest_end c.args.pp.now c.args.output.now c.items.pp c.items.output c.give_next.new.pp c.give_next.new.output small c.items.invariant c.args.progress c.if-progress.false
-    (rw c.if-not-branch.true at c.in_ok-give_next.ensures.given)
-
 pub items-preserved : goal.items-preserved
 items-preserved c =
-    let small : IsSmall c.items.output = record { items = omega (arith, c.items.invariant.takes.items_room); texts = omega (arith, c.items.invariant.takes.texts_room) } in
-    rest_more c.args.pp.now c.args.output.now c.items.pp c.items.output c.give_next.new.pp c.give_next.new.output small c.items.invariant
-    (rw c.if-not-branch.false at c.in_ok-give_next.ensures.given)
+    let small : IsSmall c.args.output.now = record { items = omega arith; texts = omega arith } in
+    let gives = c.in-Some.ensures in
+    let given = c.in_ok-give_item.ensures {u = tt} in
+    let before = rest_given c.args.pp.now c.args.output.now small _ _ c.items.invariant _ _ gives.given in
+    rest_more _ _ _ _ _ _ (rest_small _ _ small _ _ before) before (record {
+      answer = Some (given_of c.in-Some.item c.place.result);
+      gives = rw c.place.ensures (next_item _ _ before.unspent c.in-Some.item given.reported gives.next);
+      takes = rw (gives.sink given.reported) at given.given;
+      is_more = refl;
+    })
+
+pub items-smaller : goal.items-smaller
+items-smaller c = c.in-Some.ensures.less_left
+
+pub returns : goal.returns
+returns c =
+    let small : IsSmall c.args.output.now = record { items = omega arith; texts = omega arith } in
+    let gives = c.in_default.ensures in
+    let before = rest_given c.args.pp.now c.args.output.now small _ _ c.items.invariant _ _ gives.given in
+    rest_end _ _ _ _ _ _ (rest_small _ _ small _ _ before) before c.args.progress c.if-progress.false (record {
+      answer = None;
+      gives = next_end _ _ before.unspent gives.next;
+      takes = gives.sink refl;
+      is_more = refl;
+    })

@@ -14,7 +14,7 @@ loop-token-preserved c =
     rw (map_more outer_entry c.tokens_of-line.result.now c.loop-token.token-index c.token-item.result (omega arith), ← c.token-item.is)
     (takes_more c.args.output.now c.loop-token.output c.give_word-in-loop-token.new.output
     (first ∷ map outer_entry (take c.loop-token.token-index c.tokens_of-line.result.now)) (outer_entry c.token-item.result ∷ [])
-    (omega arith) (omega arith) c.loop-token.invariant c.in_ok-give_word-2.ensures)
+    (omega arith) (omega arith) c.loop-token.invariant c.give_word-in-loop-token.ensures)
 
 pub returns : goal.returns
 returns c =

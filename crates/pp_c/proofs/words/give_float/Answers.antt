@@ -3,11 +3,11 @@ use Rattle.std.proofs.lemmas.Int.{to_z-of_z}
 use mir.Val.{SFits}
 use mir.Syntax.{w32}
 use Rattle.std.specs.Int.Bits.{or_zero_r}
-use Rattle.pp_c.proofs.TextLemmas.{bytes_of_chars}
+use Rattle.std.proofs.lemmas.Str.{encodes-chars}
 use Rattle.pp_c.proofs.words.give_float.Goals as goal
 
 pub returns : goal.returns
 returns c =
     let h = rw c.item_at-item.ensures at c.take_text.ensures in
-    let f : SFits w32 c.args.float.now.width = grind arith in
-    rw (or_zero_r c.args.flags, bytes_of_chars c.as_str.result.now c.args.float.now.text c.as_str.utf8 c.as_str.ensures) (simp to_z-of_z at h)
+    let f : SFits w32 c.args.width = grind arith in
+    rw (or_zero_r c.args.flags, encodes-chars c.args.digits.now c.utf8.digits) (simp to_z-of_z at h)

@@ -1,9 +1,9 @@
-use Rattle.std.proofs.Common.{◌≡◌, ◌∙◌, ap, sym, refl, true, false, ℕ, List, Option, Some, None}
+use Rattle.std.proofs.Common.{◌≡◌, ◌∙◌, sym, refl, true, false, ℕ, List, Option, Some, None}
 use Rattle.std.specs.Prelude.{is_some}
 use Rattle.pp_model.specs.declared.read.Read.{Read}
 use Rattle.pp_macros.specs.Item.{Step}
 use Rattle.pp_macros.specs.inner.Frames.{Frame, outermost_frame_line}
-use Rattle.pp_rs.specs.Kept.{Preprocessing, kept_line, call_line}
+use Rattle.pp_rs.specs.Kept.{kept_line, call_line}
 use Rattle.pp_rs.proofs.pp.preprocessor.Preprocessor.call_line.Goals as goal
 
 held_line : (o : Option (Step Read)) (line : Option ℕ) (frames : List Frame) → is_some o ≡ true → line ≡ kept_line o line frames
