@@ -196,8 +196,6 @@ struct Run<'a> {
     finder: FaultFinder<'a>,
     // What the warnings found and wasn't said yet, from the end of the source to its start.
     findings: Vec<Diagnostic<'a>>,
-    // The byte offset of the source after the last word that no macro gave.
-    end: u32,
 }
 
 impl<'a> Run<'a> {
@@ -216,14 +214,13 @@ impl<'a> Run<'a> {
             reporter,
             is_first_error_alone: arguments.is_first_error_alone,
             most_reports: arguments.most_errors,
-            output: Output::new(alloc, arguments.form, texts.source),
+            output: Output::new(alloc, arguments.form, texts),
             reports: String::new(alloc),
             errors: 0,
             fault_line: None,
             fault_start: None,
             finder: FaultFinder::new(alloc, texts),
             findings,
-            end: 0,
         }
     }
 
@@ -236,11 +233,11 @@ impl<'a> Run<'a> {
 
     // Takes all items, or those up to the first error.
     fn read(&mut self, items: &mut Preprocessor<'_>) -> Result<(), Failure> {
-        'items: while let Some(item) = items.next() {
+        'items: while let Some(item) = items.give_tokens(&mut self.output) {
             match item {
                 Ok(token) => {
-                    let call_line = items.call_line();
-                    self.take_token(&token, call_line)?;
+                    let line = items.call_line().unwrap_or(token.location.line);
+                    self.take_directive(&token, line)?;
                 }
                 Err((PreprocessorError::OutOfMemory, _)) => return Err(Failure::OutOfMemory),
                 Err((error, _)) => {
@@ -260,40 +257,23 @@ impl<'a> Run<'a> {
         self.is_first_error_alone && self.errors > 0
     }
 
-    // Takes a token, unless it is on the line of the last error.
-    fn take_token(&mut self, token: &Token, call_line: Option<u32>) -> Result<(), AllocError> {
-        if call_line.is_none() {
-            self.end = token.location.end;
-        }
-        if let Some(fault) = self.fault_line
-            && fault.is_in_source
-            && fault.line == call_line.unwrap_or(token.location.line)
-        {
-            return Ok(());
-        }
-        if !token.is_ordinary() {
-            return self.take_directive(token);
-        }
-        self.output.push_token(self.texts, token, call_line)
-    }
-
-    // Takes a directive, or the error that it has and that the library lets pass.
-    #[inline(never)]
-    fn take_directive(&mut self, token: &Token) -> Result<(), AllocError>
+    // Takes a directive, or the error that it has and that the library lets pass, unless it is on the line of the last
+    // error.
+    fn take_directive(&mut self, token: &Token, line: u32) -> Result<(), AllocError>
         requires { is_ordinary token.now.value ≡ false }
     {
-        if self.is_over() {
+        if self.is_over() || self.output.is_left_out(line) {
             return Ok(());
         }
         match self.finder.fault_of(token)? {
             Some(fault) => {
-                self.fault_line = Some(FaultLine {
+                self.leave_out(FaultLine {
                     is_in_source: true,
                     line: token.location.line,
                 });
                 self.push_fault(&fault)
             }
-            None => self.output.push_directive(self.texts, token),
+            None => self.output.push_directive(token),
         }
     }
 
@@ -315,11 +295,19 @@ impl<'a> Run<'a> {
         if self.fault_line == Some(here) {
             return Ok(());
         }
-        self.fault_line = Some(here);
+        self.leave_out(here);
         let Some(diagnostic) = self.explainer.explain(&error, location)? else {
             return Ok(());
         };
         self.push_error(error.name(), location, &diagnostic)
+    }
+
+    // Leaves out what is still to come of the line of an error.
+    fn leave_out(&mut self, here: FaultLine) {
+        self.fault_line = Some(here);
+        if here.is_in_source {
+            self.output.leave_out(here.line);
+        }
     }
 
     // Takes an error with this name, after what the warnings found before its line.
@@ -337,7 +325,7 @@ impl<'a> Run<'a> {
         }
         self.fault_start = diagnostic.site.start();
         let message = diagnostic.message.as_str();
-        self.output.push_error(self.texts, name, location, message)?;
+        self.output.push_error(name, location, message)?;
         self.say(diagnostic)
     }
 
@@ -379,7 +367,7 @@ impl<'a> Run<'a> {
     fn end(&mut self) -> Result<(), AllocError> {
         let texts = self.texts;
         if !self.is_over()
-            && let Some(location) = open_comment(texts.source, self.end as usize)
+            && let Some(location) = open_comment(texts.source, self.output.read_end() as usize)
         {
             let fault = self.finder.unterminated_comment(location)?;
             self.push_fault(&fault)?;

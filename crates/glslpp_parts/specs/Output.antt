@@ -1,9 +1,13 @@
 -- What each item of a source adds to the output.
-use Rattle.std.specs.Prelude.{◌≡◌, ◌⊎◌, ℕ, Bool, true, false, IsTrue, List, ◌++◌, codes, Option, Some, None, unwrap_or}
+use Rattle.std.specs.Prelude.{◌≡◌, ◌⊎◌, ℕ, Bool, true, false, IsTrue, List, ◌++◌, codes, Option, Some, None}
+use Rattle.std.specs.Prelude.{◌==◌, unwrap_or, MatchBool}
+use Rattle.pp_lexer.specs.declared.token.Location.{Location}
 use Rattle.pp_lexer.specs.declared.token.Token.{Token}
 use Rattle.pp_lexer.specs.declared.token.TokenValue.{TokenValue}
 use Rattle.pp_lexer.specs.declared.token.TokenValue.TheVariants.{Punct}
 use Rattle.pp_lexer.specs.declared.token.Punct.TheVariants.{Semicolon, Comma, RightParen, RightBracket}
+use Rattle.pp_rs.specs.TokenRefs.{token_of}
+use Rattle.pp_rs.specs.declared.pp.token_ref.TokenRef.{TokenRef}
 use Rattle.glslpp_parts.specs.declared.arguments.Form.{Form}
 use Rattle.glslpp_parts.specs.declared.arguments.Form.TheVariants.{Lines, Compact, Tokens, Directives}
 use Rattle.glslpp_parts.specs.declared.layout.Gap.{Gap}
@@ -12,12 +16,13 @@ use Rattle.glslpp_parts.specs.Layout.{Laid, on_line, with_directive}
 use Rattle.glslpp_parts.specs.Reading.{IsTextOf, IsDirectiveText}
 
 -- the form of the output, the words on their lines, the end in the source of the last word, if its text is from there,
--- and the lines of JSON
+-- the lines of JSON, and the line whose tokens are left out
 pub record Printed : Type 0 where
   pub form : Form
   pub laid : Laid
   pub end : Option ℕ
   pub items : List ℕ
+  pub left_out : Option ℕ
 
 -- a punctuator that ends what comes before it, and is no part of a longer one
 abbrev pub is_closing : TokenValue → Bool
@@ -27,16 +32,21 @@ is_closing (Punct RightParen) = true
 is_closing (Punct RightBracket) = true
 is_closing value = false
 
--- A token's word is put on the line: a text that is read again as the token's value. The space before it is left out
--- only if the token begins in the source at the end of the word before, or is a closing punctuator.
-pub record PutsWord (old : Printed) (token : Token) (line : ℕ) (new : Printed) : Type 0 where
+-- A word with this place is put on the line. The space before it is left out only if it begins in the source at the end
+-- of the word before, or is a closing punctuator.
+pub record PutsText (old : Printed) (place : Location) (closes : Bool) (line : ℕ) (word : List ℕ) (new : Printed)
+    : Type 0 where
   pub gap : Gap
+  pub side_by_side : gap ≡ Nothing → (old.end ≡ Some place.start) ⊎ IsTrue closes
+  pub laid : new.laid ≡ on_line old.laid line gap word
+  pub end : (new.end ≡ None) ⊎ (new.end ≡ Some place.end)
+  pub items : new.items ≡ old.items
+
+-- a token's word is put on the line: a text that is read again as the token's value
+pub record PutsWord (old : Printed) (token : Token) (line : ℕ) (new : Printed) : Type 0 where
   pub word : List ℕ
   pub is_text : IsTextOf token.value word
-  pub side_by_side : gap ≡ Nothing → (old.end ≡ Some token.location.start) ⊎ IsTrue (is_closing token.value)
-  pub laid : new.laid ≡ on_line old.laid line gap word
-  pub end : (new.end ≡ None) ⊎ (new.end ≡ Some token.location.end)
-  pub items : new.items ≡ old.items
+  pub puts : PutsText old token.location (is_closing token.value) line word new
 
 -- a directive is put on a line by itself
 pub record PutsDirective (old : Printed) (token : Token) (line : ℕ) (new : Printed) : Type 0 where
@@ -72,6 +82,23 @@ Puts Lines false old token call new = PutsDirective old token token.location.lin
 Puts Compact false old token call new = PutsDirective old token old.laid.line new
 Puts Tokens false old token call new = PutsItem old new
 Puts Directives false old token call new = PutsDirective old token old.laid.line new
+
+-- the line of the call that gave the token, or else its own line
+abbrev pub line_of : TokenRef → ℕ
+line_of token = unwrap_or token.call_line token.location.line
+
+abbrev pub is_left_out : Option ℕ → ℕ → Bool
+is_left_out None line = false
+is_left_out (Some other) line = other == line
+
+-- A token is put, unless it is on the line whose tokens are left out.
+pub record Takes (old : Printed) (token : TokenRef) (new : Printed) : Type 0 where
+  pub form : new.form ≡ old.form
+  pub left_out : new.left_out ≡ old.left_out
+  pub puts :
+      MatchBool (is_left_out old.left_out (line_of token))
+      (new ≡ old)
+      (Puts old.form true old (token_of token) token.call_line new)
 
 -- what an error with this name adds to the lines of JSON, by the form of the output
 abbrev pub PutsError : Form → List ℕ → List ℕ → List ℕ → Type 0

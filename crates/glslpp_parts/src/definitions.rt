@@ -12,8 +12,8 @@ use crate::failure::{Failure, failure_of};
 use crate::reading::is_read_as;
 use crate::texts::Texts;
 use pp_rs::SOURCE_LIMIT;
-use pp_rs::pp::Preprocessor;
-use pp_rs::token::{PreprocessorError, Text, TokenValue};
+use pp_rs::pp::{Preprocessor, ValueRef};
+use pp_rs::token::PreprocessorError;
 use std::alloc::{AllocError, Global};
 
 /// Fails at the first `-D` or `-U` that can't define or undefine a macro: its name is no identifier, or its content has
@@ -109,8 +109,7 @@ fn is_name(alloc: Global, text: &str) -> Result<bool, AllocError>
     if text.len() >= SOURCE_LIMIT {
         return Ok(false);
     }
-    let name = TokenValue::Ident(Text::from(String::from_str(alloc, text)?));
-    is_read_as(alloc, text, &name)
+    is_read_as(alloc, text, ValueRef::Ident(text))
 }
 
 /// Adds the definitions to the preprocessor, and their contents to the texts.

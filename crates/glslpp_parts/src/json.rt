@@ -9,28 +9,44 @@ use crate::diagnostic::{Diagnostic, Note, Site};
 use crate::place::first_byte;
 use crate::report::COMMAND_LINE;
 use crate::texts::Spot;
+use pp_rs::pp::{TokenRef, ValueRef};
 use pp_rs::token::{Location, TokenValue};
 use std::alloc::AllocError;
 
-/// Appends a token: its kind and text, its place and, if a macro gave it, the line of the macro's
-/// call.
+/// Appends a token with this text: its kind, the text, its place and, if a macro gave it, the line of the macro's call.
 pub(crate) fn push_token(
+    output: &mut String,
+    columns: &mut Columns<'_>,
+    token: TokenRef<'_>,
+    spot: Option<Spot<'_>>,
+    text: &str,
+) -> Result<(), AllocError>
+    ensures { OnOk result (IsItem (string_bytes output.old) (string_bytes output.new)) }
+{
+    let kind = kind_of(token.value);
+    write!(output, "{{\"kind\":\"{kind}\",\"text\":")?;
+    push_string(output, text)?;
+    push_place(output, columns, spot, token.location)?;
+    push_call(output, token.call_line)?;
+    push_number(output, token.value)?;
+    output.push_str("}\n")
+}
+
+/// Appends a directive with this text: its kind, the text and its place.
+pub(crate) fn push_directive(
     output: &mut String,
     columns: &mut Columns<'_>,
     value: &TokenValue,
     spot: Option<Spot<'_>>,
     location: Location,
-    call_line: Option<u32>,
     text: &str,
 ) -> Result<(), AllocError>
     ensures { OnOk result (IsItem (string_bytes output.old) (string_bytes output.new)) }
 {
-    let kind = kind_of(value);
+    let kind = directive_kind(value);
     write!(output, "{{\"kind\":\"{kind}\",\"text\":")?;
     push_string(output, text)?;
     push_place(output, columns, spot, location)?;
-    push_call(output, call_line)?;
-    push_number(output, value)?;
     output.push_str("}\n")
 }
 
@@ -45,10 +61,10 @@ fn push_call(output: &mut String, call_line: Option<u32>) -> Result<(), AllocErr
 }
 
 // Appends the number of an integer.
-fn push_number(output: &mut String, value: &TokenValue) -> Result<(), AllocError>
+fn push_number(output: &mut String, value: ValueRef<'_>) -> Result<(), AllocError>
     ensures { OnOk result (IsLonger (string_bytes output.old) (string_bytes output.new)) }
 {
-    let TokenValue::Integer(integer) = value else {
+    let ValueRef::Integer(integer) = value else {
         return Ok(());
     };
     let (value, signed, width) = (integer.value, integer.signed, integer.width);
@@ -183,14 +199,19 @@ fn push_place(
     }
 }
 
-fn kind_of(value: &TokenValue) -> &'static str {
+fn kind_of(value: ValueRef<'_>) -> &'static str {
     match value {
-        TokenValue::Ident(_) => "identifier",
-        TokenValue::Integer(_) => "integer",
-        TokenValue::Float(_) => "float",
-        TokenValue::Punct(_) => "punctuator",
+        ValueRef::Ident(_) => "identifier",
+        ValueRef::Integer(_) => "integer",
+        ValueRef::Float(..) => "float",
+        ValueRef::Punct(_) => "punctuator",
+    }
+}
+
+fn directive_kind(value: &TokenValue) -> &'static str {
+    match value {
         TokenValue::Version(_) => "version",
         TokenValue::Extension(_) => "extension",
-        TokenValue::Pragma(_) => "pragma",
+        _ => "pragma",
     }
 }

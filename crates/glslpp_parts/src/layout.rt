@@ -53,6 +53,7 @@ impl Layout {
     }
 
     /// Appends a word on its line, or after the last word if the text is already past that line.
+    #[inline(always)]
     pub fn push_word(&mut self, line: u32, gap: Gap, word: &str) -> Result<(), AllocError>
         ensures { OnOk result (self.new ≡ on_line self.old line gap word.now) }
     {
@@ -61,6 +62,7 @@ impl Layout {
     }
 
     // Appends a word.
+    #[inline(always)]
     fn append(&mut self, gap: Gap, word: &str) -> Result<(), AllocError>
         ensures { OnOk result (self.new ≡ with_word self.old gap word.now) }
     {
@@ -94,6 +96,7 @@ impl Layout {
     }
 
     // Moves to the line, if it lies ahead.
+    #[inline(always)]
     fn go_to(&mut self, line: u32) -> Result<(), AllocError>
         ensures { OnOk result (self.new ≡ at_line self.old line) }
     {
@@ -116,6 +119,7 @@ impl Layout {
     }
 }
 
+#[inline(never)]
 fn push_line_ends(text: &mut String, count: u32) -> Result<(), AllocError>
     ensures { OnOk result (string_bytes text.new ≡ string_bytes text.old ++ replicate count 10) }
 {

@@ -1,25 +1,29 @@
 //! The output of a source, in each form.
 
-ghost use Rattle.std.specs.Prelude.{◌≡◌, ◌≢◌, ◌⊎◌, [], false, None, IsTrue, OnOk, IfOk, string_bytes, unwrap_or};
+ghost use Rattle.std.specs.Prelude.{◌≡◌, ◌≢◌, ◌⊎◌, [], true, false, None, Some, IsTrue, OnOk, IfOk, string_bytes};
+ghost use Rattle.pp_lexer.specs.declared.token.TokenValue.TheVariants as value;
+ghost use Rattle.pp_rs.specs.TokenRefs.{token_of};
 ghost use Rattle.pp_rs.specs.TokenValue.{is_ordinary};
-ghost use Rattle.glslpp_parts.specs.Layout.{finished};
-ghost use Rattle.glslpp_parts.specs.Output.{is_closing, PutsWord, PutsDirective, Puts, PutsError, IsItem};
+ghost use Rattle.glslpp_parts.specs.Layout.{finished, on_line};
+ghost use Rattle.glslpp_parts.specs.Output.{is_closing, is_left_out, line_of, PutsText, PutsWord, PutsDirective, Puts, PutsError, Takes, IsItem};
 
 use crate::arguments::Form;
 use crate::columns::Columns;
 use crate::directive_text::directive_text;
 use crate::json;
 use crate::layout::{Gap, Layout};
-use crate::texts::{Spot, Texts};
+use crate::texts::Texts;
 use crate::words::{compact_word, made_word, written_word};
-use pp_rs::token::{Location, Punct, Token, TokenValue};
+use pp_rs::pp::{TokenRef, TokenSink, ValueRef};
+use pp_rs::token::{Location, Punct, Token};
 use std::alloc::{AllocError, Global};
 use std::marker::Model;
 
-/// The output of a source so far.
+/// The output of a source so far. It takes the tokens of [`Preprocessor::give_tokens`](pp_rs::pp::Preprocessor::give_tokens).
 #[derive(Drop)]
 pub struct Output<'a> {
     alloc: Global,
+    texts: &'a Texts<'a>,
     form: Form,
     layout: Layout,
     // The lines of JSON.
@@ -28,6 +32,10 @@ pub struct Output<'a> {
     columns: Columns<'a>,
     // The byte offset in the source at which the last word ends, if its text is from the source.
     end: Option<u32>,
+    // The line whose tokens are left out.
+    left_out: Option<u32>,
+    // The byte offset in the source after the last token that no macro gave.
+    read_end: u32,
 }
 
 impl<'a> Model for Output<'a> {
@@ -36,157 +44,200 @@ impl<'a> Model for Output<'a> {
 
     ghost Value = { Printed };
 
-    ghost view = { λ o. record { form = o.form; laid = o.layout; end = o.end; items = string_bytes o.lines } };
+    ghost view = { λ o. record { form = o.form; laid = o.layout; end = o.end; items = string_bytes o.lines; left_out = o.left_out } };
+}
+
+/// Takes an ordinary token, unless it is on the line that is left out. A token that a macro gives is on the line of the
+/// macro's call.
+impl<'a> TokenSink for Output<'a> {
+    ghost takes = { Takes };
+
+    #[inline(always)]
+    fn take(&mut self, token: TokenRef<'_>) -> Result<(), AllocError> {
+        if token.call_line.is_none() {
+            self.read_end = token.location.end;
+        }
+        if self.is_left_out(line_of(token)) {
+            return Ok(());
+        }
+        match self.form {
+            Form::Lines => self.push_on_its_line(token),
+            Form::Compact => self.push_on_last_line(token),
+            Form::Tokens => self.push_item(token),
+            Form::Directives => Ok(()),
+        }
+    }
 }
 
 impl<'a> Output<'a> {
     /// Returns the output of a source before its first item.
-    pub fn new(alloc: Global, form: Form, source: &'a str) -> Output<'a>
+    pub fn new(alloc: Global, form: Form, texts: &'a Texts<'a>) -> Output<'a>
         ensures { result ≡ record {
           form = form;
           laid = record { text = []; line = 1; is_line_begun = false };
           end = None;
           items = [];
+          left_out = None;
         } }
     {
         Output {
             alloc,
+            texts,
             form,
             layout: Layout::new(alloc),
             lines: String::new(alloc),
-            columns: Columns::new(source),
+            columns: Columns::new(texts.source),
             end: None,
+            left_out: None,
+            read_end: 0,
         }
     }
 
-    /// Takes a token. `call_line` is the 1-based line of the macro call that gave it, or `None` for
-    /// a token of the source itself.
-    pub fn push_token(
+    /// Leaves out the tokens to come of this line, and of no other.
+    pub fn leave_out(&mut self, line: u32)
+        ensures { self.new ≡ record self.old { left_out = Some line } }
+    {
+        self.left_out = Some(line);
+    }
+
+    /// Whether the tokens of this line are left out.
+    #[inline(always)]
+    pub fn is_left_out(&self, line: u32) -> bool
+        ensures { result ≡ is_left_out self.now.left_out line }
+    {
+        match self.left_out {
+            Some(other) => other == line,
+            None => false,
+        }
+    }
+
+    /// Returns the byte offset in the source after the last token that no macro gave, directives included, and 0 before
+    /// the first.
+    pub fn read_end(&self) -> u32 {
+        self.read_end
+    }
+
+    // A name and a punctuator are printed by their values, which is their text in the source but for continuations.
+    #[inline(always)]
+    fn push_on_its_line(&mut self, token: TokenRef<'_>) -> Result<(), AllocError>
+        ensures form { self.new.form ≡ self.old.form }
+        ensures left_out { self.new.left_out ≡ self.old.left_out }
+        ensures puts { OnOk result (PutsWord self.old (token_of token.entry) (line_of token.entry) self.new) }
+    {
+        let (place, line) = (token.location, line_of(token));
+        match token.value {
+            ValueRef::Ident(name) => self.push_word(place, line, false, name),
+            ValueRef::Punct(punct) => {
+                self.push_word(place, line, is_closing(punct), punct.spelling())
+            }
+            ValueRef::Integer(_) | ValueRef::Float(..) => self.push_number(token),
+        }
+    }
+
+    // Puts a word on its line. No gap is before a word that directly follows the last word in the source, nor before a
+    // closing punctuator that directly follows something there, such as a macro's name; and otherwise a space.
+    #[inline(never)]
+    fn push_word(
         &mut self,
-        texts: &Texts<'_>,
-        token: &Token,
-        call_line: Option<u32>,
+        place: Location,
+        line: u32,
+        is_closing: bool,
+        word: &str,
     ) -> Result<(), AllocError>
         ensures form { self.new.form ≡ self.old.form }
-        ensures puts { OnOk result
-            (Puts self.old.form (is_ordinary token.now.value) self.old token.now call_line self.new) }
+        ensures left_out { self.new.left_out ≡ self.old.left_out }
+        ensures puts { OnOk result (PutsText self.old place is_closing line word.now self.new) }
     {
-        if !token.is_ordinary() {
-            return self.push_directive(texts, token);
+        if !self.texts.is_in_source(place) {
+            return self.push_made_word(line, word);
         }
-        match self.form {
-            Form::Lines => self.push_on_its_line(texts, token, call_line),
-            Form::Compact => self.push_on_last_line(texts, token),
-            Form::Tokens => self.push_item(texts, token, call_line),
-            Form::Directives => Ok(()),
-        }
-    }
-
-    fn push_on_its_line(
-        &mut self,
-        texts: &Texts<'_>,
-        token: &Token,
-        call_line: Option<u32>,
-    ) -> Result<(), AllocError>
-        requires { IsTrue (is_ordinary token.now.value) }
-        ensures form { self.new.form ≡ self.old.form }
-        ensures puts { OnOk result (PutsWord self.old token.now
-            (unwrap_or call_line token.now.location.line) self.new) }
-    {
-        let place = token.location;
-        let line = call_line.unwrap_or(place.line);
-        let spot = texts.spot(place);
-        if let Some(word) = written_word(self.alloc, &token.value, spot)? {
-            let gap = self.gap_before(texts, token);
-            self.layout.push_word(line, gap, word)?;
-            self.end = Some(place.end);
-            return Ok(());
-        }
-        let word = made_word(self.alloc, &token.value, spot)?;
-        self.end = None;
-        self.layout.push_word(line, Gap::Space, word.as_str())
-    }
-
-    // No gap before a word that directly follows the last word in the source, nor before a closing punctuator that
-    // directly follows something there, such as a macro's name; and otherwise a space.
-    fn gap_before(&self, texts: &Texts<'_>, token: &Token) -> Gap
-        ensures { result ≡ Gap.Nothing → (self.now.end ≡ Some token.now.location.start)
-            ⊎ IsTrue (is_closing token.now.value) }
-    {
-        let start = token.location.start;
-        if self.end == Some(start) || is_closing(&token.value) && !texts.is_after_blank(start) {
+        let start = place.start;
+        let gap = if self.end == Some(start) || is_closing && !self.texts.is_after_blank(start) {
             Gap::Nothing
         } else {
             Gap::Space
-        }
+        };
+        self.layout.push_word(line, gap, word)?;
+        self.end = Some(place.end);
+        Ok(())
     }
 
-    fn push_on_last_line(&mut self, texts: &Texts<'_>, token: &Token) -> Result<(), AllocError>
-        requires { IsTrue (is_ordinary token.now.value) }
+    // Puts a word on its line that isn't printed as the source has it.
+    #[inline(never)]
+    fn push_made_word(&mut self, line: u32, word: &str) -> Result<(), AllocError>
         ensures form { self.new.form ≡ self.old.form }
-        ensures puts { OnOk result (PutsWord self.old token.now self.old.laid.line self.new) }
+        ensures left_out { self.new.left_out ≡ self.old.left_out }
+        ensures put { OnOk result (self.new ≡ record self.old {
+          laid = on_line self.old.laid line Gap.Space word.now;
+          end = None;
+        }) }
     {
-        let spot = texts.spot(token.location);
-        let word = compact_word(self.alloc, &token.value, spot)?;
+        self.end = None;
+        self.layout.push_word(line, Gap::Space, word)
+    }
+
+    // Puts a number on its line, as it is written if the source has it.
+    #[inline(never)]
+    fn push_number(&mut self, token: TokenRef<'_>) -> Result<(), AllocError>
+        ensures form { self.new.form ≡ self.old.form }
+        ensures left_out { self.new.left_out ≡ self.old.left_out }
+        ensures puts { OnOk result (PutsWord self.old (token_of token.entry) (line_of token.entry) self.new) }
+    {
+        let (place, line) = (token.location, line_of(token));
+        let spot = self.texts.spot(place);
+        if let Some(word) = written_word(self.alloc, token.value, spot)? {
+            return self.push_word(place, line, false, word);
+        }
+        let word = made_word(self.alloc, token.value, spot)?;
+        self.push_made_word(line, word.as_str())
+    }
+
+    #[inline(never)]
+    fn push_on_last_line(&mut self, token: TokenRef<'_>) -> Result<(), AllocError>
+        ensures form { self.new.form ≡ self.old.form }
+        ensures puts { OnOk result (PutsWord self.old (token_of token.entry) self.old.laid.line self.new) }
+    {
+        let word = compact_word(self.alloc, token.value, self.texts.spot(token.location))?;
         let line = self.layout.line();
         self.end = None;
         self.layout.push_word(line, Gap::Space, word.as_str())
     }
 
-    fn push_item(
-        &mut self,
-        texts: &Texts<'_>,
-        token: &Token,
-        call_line: Option<u32>,
-    ) -> Result<(), AllocError>
-        requires { IsTrue (is_ordinary token.now.value) }
-        ensures form { self.new.form ≡ self.old.form }
-        ensures same { self.new.laid ≡ self.old.laid }
+    #[inline(never)]
+    fn push_item(&mut self, token: TokenRef<'_>) -> Result<(), AllocError>
+        ensures same { self.new ≡ record self.old { items = self.new.items } }
         ensures item { OnOk result (IsItem self.old.items self.new.items) }
     {
-        let spot = texts.spot(token.location);
-        if let Some(word) = written_word(self.alloc, &token.value, spot)? {
-            return self.push_json(spot, token, call_line, word);
+        let spot = self.texts.spot(token.location);
+        if let Some(word) = written_word(self.alloc, token.value, spot)? {
+            return json::push_token(&mut self.lines, &mut self.columns, token, spot, word);
         }
-        let word = made_word(self.alloc, &token.value, spot)?;
-        self.push_json(spot, token, call_line, word.as_str())
-    }
-
-    fn push_json(
-        &mut self,
-        spot: Option<Spot<'_>>,
-        token: &Token,
-        call_line: Option<u32>,
-        text: &str,
-    ) -> Result<(), AllocError>
-        ensures form { self.new.form ≡ self.old.form }
-        ensures same { self.new.laid ≡ self.old.laid }
-        ensures item { OnOk result (IsItem self.old.items self.new.items) }
-    {
+        let word = made_word(self.alloc, token.value, spot)?;
         json::push_token(
             &mut self.lines,
             &mut self.columns,
-            &token.value,
+            token,
             spot,
-            token.location,
-            call_line,
-            text,
+            word.as_str(),
         )
     }
 
-    /// Takes a directive, as `push_token` does.
-    pub fn push_directive(&mut self, texts: &Texts<'_>, token: &Token) -> Result<(), AllocError>
+    /// Takes a directive.
+    pub fn push_directive(&mut self, token: &Token) -> Result<(), AllocError>
         requires { is_ordinary token.now.value ≡ false }
         ensures form { self.new.form ≡ self.old.form }
+        ensures left_out { self.new.left_out ≡ self.old.left_out }
         ensures puts { OnOk result (Puts self.old.form false self.old token.now None self.new) }
     {
+        let spot = self.texts.spot(token.location);
         let line = match self.form {
             Form::Compact => format!(in self.alloc; "{}", token.value)?,
             Form::Lines | Form::Tokens | Form::Directives => {
-                directive_text(self.alloc, &token.value, texts.spot(token.location))?
+                directive_text(self.alloc, &token.value, spot)?
             }
         };
         self.end = None;
+        self.read_end = token.location.end;
         match self.form {
             Form::Lines => self
                 .layout
@@ -195,17 +246,20 @@ impl<'a> Output<'a> {
                 let last = self.layout.line();
                 self.layout.push_directive(last, line.as_str())
             }
-            Form::Tokens => {
-                let spot = texts.spot(token.location);
-                self.push_json(spot, token, None, line.as_str())
-            }
+            Form::Tokens => json::push_directive(
+                &mut self.lines,
+                &mut self.columns,
+                &token.value,
+                spot,
+                token.location,
+                line.as_str(),
+            ),
         }
     }
 
     /// Takes an error with this name, which is an item of the output if items are printed.
     pub fn push_error(
         &mut self,
-        texts: &Texts<'_>,
         name: &str,
         location: Location,
         message: &str,
@@ -216,7 +270,7 @@ impl<'a> Output<'a> {
         if self.form != Form::Tokens {
             return Ok(());
         }
-        let spot = texts.spot(location);
+        let spot = self.texts.spot(location);
         json::push_error(
             &mut self.lines,
             &mut self.columns,
@@ -242,14 +296,21 @@ impl<'a> Output<'a> {
     }
 }
 
-// Whether it is a punctuator that ends what comes before it, and is no part of a longer one.
-fn is_closing(value: &TokenValue) -> bool
-    ensures { result ≡ is_closing value.now }
+// The line of the call that gave the token, or else its own line.
+#[inline(always)]
+fn line_of(token: TokenRef<'_>) -> u32
+    ensures { result ≡ line_of token.entry }
 {
-    match value {
-        TokenValue::Punct(
-            Punct::Semicolon | Punct::Comma | Punct::RightParen | Punct::RightBracket,
-        ) => true,
+    token.call_line.unwrap_or(token.location.line)
+}
+
+// Whether the punctuator ends what comes before it, and is no part of a longer one.
+#[inline(always)]
+fn is_closing(punct: Punct) -> bool
+    ensures { result ≡ is_closing (value.Punct punct) }
+{
+    match punct {
+        Punct::Semicolon | Punct::Comma | Punct::RightParen | Punct::RightBracket => true,
         _ => false,
     }
 }

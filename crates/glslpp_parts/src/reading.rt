@@ -2,11 +2,12 @@
 
 ghost use Rattle.std.specs.Prelude.{◌≡◌, ◌-◌, ◌^◌, ◌<◌, ◌∷◌, [], ◌↔◌, IsTrue, false, length, IfOk, OnOk, MatchOption};
 ghost use Rattle.pp_lexer.specs.Respelling.{lexer_value};
-ghost use Rattle.pp_rs.specs.TokenValue.{is_ordinary};
+ghost use Rattle.pp_rs.specs.TokenRefs.{value_of};
 ghost use Rattle.glslpp_parts.specs.Reading.{values_ahead, IsReadAs};
 
 use pp_rs::lexer::{Lexer, TokenValue as Word};
-use pp_rs::token::{PreprocessorError, TokenValue};
+use pp_rs::pp::ValueRef;
+use pp_rs::token::PreprocessorError;
 use std::alloc::{AllocError, Global};
 
 /// A value of the lexer, or an error instead of one.
@@ -28,10 +29,9 @@ pub(crate) fn read_next(lexer: &mut Lexer<'_>) -> Result<Option<Read>, AllocErro
 }
 
 /// Whether the text, read again, is one token of this value.
-pub(crate) fn is_read_as(alloc: Global, text: &str, value: &TokenValue) -> Result<bool, AllocError>
-    requires short { length text.now < 2 ^ 32 - 1 }
-    requires ordinary { IsTrue (is_ordinary value.now) }
-    ensures { IfOk result (λ is. IsTrue is ↔ IsReadAs value.now text.now) }
+pub(crate) fn is_read_as(alloc: Global, text: &str, value: ValueRef<'_>) -> Result<bool, AllocError>
+    requires { length text.now < 2 ^ 32 - 1 }
+    ensures { IfOk result (λ is. IsTrue is ↔ IsReadAs (value_of value.entry) text.now) }
 {
     let mut lexer = Lexer::new(alloc, text);
     let Some(Ok(word)) = read_next(&mut lexer)? else {
@@ -47,15 +47,16 @@ pub(crate) fn is_read_as(alloc: Global, text: &str, value: &TokenValue) -> Resul
 }
 
 // Whether the lexer's value is this one.
-fn is_same(word: &Word, value: &TokenValue) -> bool
-    requires { IsTrue (is_ordinary value.now) }
-    ensures { IsTrue result ↔ (word.now ≡ lexer_value value.now) }
+fn is_same(word: &Word, value: ValueRef<'_>) -> bool
+    ensures { IsTrue result ↔ (word.now ≡ lexer_value (value_of value.entry)) }
 {
     match (word, value) {
-        (Word::Ident(a), TokenValue::Ident(b)) => a == b,
-        (Word::Integer(a), TokenValue::Integer(b)) => a == b,
-        (Word::Float(a), TokenValue::Float(b)) => a == b,
-        (Word::Punct(a), TokenValue::Punct(b)) => a == b,
+        (Word::Ident(a), ValueRef::Ident(b)) => a.as_str() == b,
+        (Word::Integer(a), ValueRef::Integer(b)) => *a == b,
+        (Word::Float(a), ValueRef::Float(text, width)) => {
+            a.text.as_str() == text && a.width == width
+        }
+        (Word::Punct(a), ValueRef::Punct(b)) => *a == b,
         _ => false,
     }
 }

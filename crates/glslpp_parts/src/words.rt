@@ -4,15 +4,15 @@ ghost use Rattle.std.specs.Prelude.{◌≡◌, ◌-◌, ◌^◌, ◌<◌, IsTrue
 ghost use Rattle.std.specs.Fmt.{decimal};
 ghost use Rattle.std.specs.Str.{chars};
 ghost use Rattle.pp_lexer.specs.Respelling.{IsSpellable};
-ghost use Rattle.pp_rs.specs.TokenValue.{is_ordinary};
+ghost use Rattle.pp_rs.specs.TokenRefs.{value_of};
 ghost use Rattle.glslpp_parts.specs.Reading.{IsReadAs, IsTextOf, as_signed};
 
 use crate::place::after_continuations;
 use crate::reading::is_read_as;
 use crate::texts::Spot;
 use pp_rs::SOURCE_LIMIT;
-use pp_rs::pp::push_value;
-use pp_rs::token::{Integer, Text, TokenValue};
+use pp_rs::pp::{ValueRef, push_value_ref};
+use pp_rs::token::Integer;
 use std::alloc::{AllocError, Global};
 
 // The name of the line number.
@@ -20,14 +20,14 @@ const LINE: &str = "__LINE__";
 
 /// The text of a token as the source has it at its place, if the place is in the source and the text is read as the
 /// token's value.
+#[inline(always)]
 pub(crate) fn written_word<'a>(
     alloc: Global,
-    value: &TokenValue,
+    value: ValueRef<'_>,
     spot: Option<Spot<'a>>,
 ) -> Result<Option<&'a str>, AllocError>
-    requires { IsTrue (is_ordinary value.now) }
-    ensures { IfOk result (λ written. IfSome written (λ word. IsSpellable value.now
-        → IsReadAs value.now word.now)) }
+    ensures { IfOk result (λ written. IfSome written (λ word. IsSpellable (value_of value.entry)
+        → IsReadAs (value_of value.entry) word.now)) }
 {
     let Some(word) = source_word(spot) else {
         return Ok(None);
@@ -39,6 +39,7 @@ pub(crate) fn written_word<'a>(
 }
 
 // The text at the place, if the place is in the source.
+#[inline(always)]
 fn source_word<'a>(spot: Option<Spot<'a>>) -> Option<&'a str> {
     match spot {
         Some(spot) if spot.is_in_source => spot.word(),
@@ -47,30 +48,30 @@ fn source_word<'a>(spot: Option<Spot<'a>>) -> Option<&'a str> {
 }
 
 // Whether a word can be printed for the value as it is: it is read as the value, and has no continuation.
-fn is_text_of(alloc: Global, word: &str, value: &TokenValue) -> Result<bool, AllocError>
-    requires { IsTrue (is_ordinary value.now) }
-    ensures { IfOk result (λ is. IsTrue is → IsSpellable value.now → IsReadAs value.now word.now) }
+#[inline(always)]
+fn is_text_of(alloc: Global, word: &str, value: ValueRef<'_>) -> Result<bool, AllocError>
+    ensures { IfOk result (λ is. IsTrue is → IsSpellable (value_of value.entry)
+        → IsReadAs (value_of value.entry) word.now) }
 {
     match value {
-        TokenValue::Ident(name) => Ok(is_spelled(name, word)),
-        TokenValue::Punct(punct) => Ok(punct.spelling() == word),
-        TokenValue::Integer(integer)
+        ValueRef::Ident(name) => Ok(name == word),
+        ValueRef::Punct(punct) => Ok(punct.spelling() == word),
+        ValueRef::Integer(integer)
             if integer.signed && is_decimal(word.as_bytes(), integer.value) => Ok(true),
-        TokenValue::Float(float) if is_spelled(&float.text, word) => Ok(true),
-        _ => {
-            if word.contains('\\') || word.len() >= SOURCE_LIMIT {
-                return Ok(false);
-            }
-            is_read_as(alloc, word, value)
-        }
+        ValueRef::Float(text, _) if text == word => Ok(true),
+        _ => is_other_text_of(alloc, word, value),
     }
 }
 
-// Whether the text is this word.
-fn is_spelled(text: &Text, word: &str) -> bool
-    ensures { IsTrue result → chars word.now ≡ text.now }
+// The same for a text that isn't the one by which the library spells the value.
+#[inline(never)]
+fn is_other_text_of(alloc: Global, word: &str, value: ValueRef<'_>) -> Result<bool, AllocError>
+    ensures { IfOk result (λ is. IsTrue is → IsReadAs (value_of value.entry) word.now) }
 {
-    text.as_str() == word
+    if word.contains('\\') || word.len() >= SOURCE_LIMIT {
+        return Ok(false);
+    }
+    is_read_as(alloc, word, value)
 }
 
 // Whether these are the digits of the number.
@@ -93,11 +94,10 @@ fn is_decimal(bytes: &[u8], number: u64) -> bool
 /// an added definition gave it. A line number has no `u`, since GLSL's `__LINE__` is an `int`.
 pub(crate) fn made_word(
     alloc: Global,
-    value: &TokenValue,
+    value: ValueRef<'_>,
     spot: Option<Spot<'_>>,
 ) -> Result<String, AllocError>
-    requires { IsTrue (is_ordinary value.now) }
-    ensures { IfOk result (λ word. IsTextOf value.now (string_bytes word)) }
+    ensures { IfOk result (λ word. IsTextOf (value_of value.entry) (string_bytes word)) }
 {
     let Some(spot) = spot else {
         return spelled_word(alloc, value);
@@ -115,13 +115,12 @@ pub(crate) fn made_word(
 /// The text of a token by its value, except that a line number has no `u`.
 pub(crate) fn compact_word(
     alloc: Global,
-    value: &TokenValue,
+    value: ValueRef<'_>,
     spot: Option<Spot<'_>>,
 ) -> Result<String, AllocError>
-    requires { IsTrue (is_ordinary value.now) }
-    ensures { IfOk result (λ word. IsTextOf value.now (string_bytes word)) }
+    ensures { IfOk result (λ word. IsTextOf (value_of value.entry) (string_bytes word)) }
 {
-    if let TokenValue::Integer(_) = value
+    if let ValueRef::Integer(_) = value
         && let Some(spot) = spot
         && joined_word(alloc, spot)?.as_str() == LINE
     {
@@ -131,28 +130,27 @@ pub(crate) fn compact_word(
 }
 
 // The token as the library spells it.
-fn spelled_word(alloc: Global, value: &TokenValue) -> Result<String, AllocError>
-    requires { IsTrue (is_ordinary value.now) }
-    ensures { IfOk result (λ word. IsSpellable value.now → IsReadAs value.now (string_bytes word)) }
+fn spelled_word(alloc: Global, value: ValueRef<'_>) -> Result<String, AllocError>
+    ensures { IfOk result (λ word. IsSpellable (value_of value.entry)
+        → IsReadAs (value_of value.entry) (string_bytes word)) }
 {
     let mut word = String::new(alloc);
-    push_value(&mut word, value)?;
+    push_value_ref(&mut word, value)?;
     Ok(word)
 }
 
 // The token as the library spells it, except that a number has no `u`.
-fn signed_word(alloc: Global, value: &TokenValue) -> Result<String, AllocError>
-    requires { IsTrue (is_ordinary value.now) }
-    ensures { IfOk result (λ word. IsSpellable value.now
-        → IsReadAs (as_signed value.now) (string_bytes word)) }
+fn signed_word(alloc: Global, value: ValueRef<'_>) -> Result<String, AllocError>
+    ensures { IfOk result (λ word. IsSpellable (value_of value.entry)
+        → IsReadAs (as_signed (value_of value.entry)) (string_bytes word)) }
 {
     match value {
-        TokenValue::Integer(integer) => {
+        ValueRef::Integer(integer) => {
             let signed = Integer {
                 signed: true,
-                ..*integer
+                ..integer
             };
-            spelled_word(alloc, &TokenValue::Integer(signed))
+            spelled_word(alloc, ValueRef::Integer(signed))
         }
         _ => spelled_word(alloc, value),
     }
