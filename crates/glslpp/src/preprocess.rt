@@ -137,14 +137,14 @@ fn run_over_items<'x>(
     arguments: &Arguments<'_>,
     source: &'x str,
     replaced: &'x [usize],
-    definitions: &[Definition<'_>],
+    definitions: &'x [Definition<'x>],
     items: &mut Preprocessor<'_>,
     texts: &'x Texts<'x>,
 ) -> Result<Ended, Failure>
     requires { length source.now < 2 ^ 32 - 1 }
 {
     let findings = findings_backwards(alloc, source, arguments.warnings, definitions)?;
-    let explainer = Explainer::new(alloc, source, texts, replaced);
+    let explainer = Explainer::new(alloc, source, texts, replaced, definitions);
     let mut run = Run::new(alloc, reporter, arguments, texts, explainer, findings);
     run.read_to_end(items)?;
     let output = run.output.finish()?;
@@ -169,13 +169,6 @@ fn findings_backwards<'a>(
     Ok(findings)
 }
 
-// The line of the last error.
-#[derive(Clone, Copy, PartialEq, Eq, Debug)]
-struct FaultLine {
-    is_in_source: bool,
-    line: u32,
-}
-
 // A run over one source.
 #[derive(Drop)]
 struct Run<'a> {
@@ -189,7 +182,6 @@ struct Run<'a> {
     output: Output<'a>,
     reports: String,
     errors: usize,
-    fault_line: Option<FaultLine>,
     // The byte offset of the last error in the source.
     fault_start: Option<usize>,
     // The errors that the library lets pass.
@@ -217,7 +209,6 @@ impl<'a> Run<'a> {
             output: Output::new(alloc, arguments.form, texts),
             reports: String::new(alloc),
             errors: 0,
-            fault_line: None,
             fault_start: None,
             finder: FaultFinder::new(alloc, texts),
             findings,
@@ -241,8 +232,8 @@ impl<'a> Run<'a> {
                 }
                 Err((PreprocessorError::OutOfMemory, _)) => return Err(Failure::OutOfMemory),
                 Err((error, _)) => {
-                    let place = items.place();
-                    self.take_error(error, place)?;
+                    let (place, call_line) = (items.place(), items.call_line());
+                    self.take_error(error, place, call_line)?;
                     if self.is_over() {
                         break 'items;
                     }
@@ -267,10 +258,7 @@ impl<'a> Run<'a> {
         }
         match self.finder.fault_of(token)? {
             Some(fault) => {
-                self.leave_out(FaultLine {
-                    is_in_source: true,
-                    line: token.location.line,
-                });
+                self.output.leave_out(token.location.line);
                 self.push_fault(&fault)
             }
             None => self.output.push_directive(token),
@@ -282,32 +270,31 @@ impl<'a> Run<'a> {
         self.push_error(fault.kind.name(), fault.location, &fault.diagnostic)
     }
 
-    // Takes an error, unless it is on the line of the last one or only follows from another.
+    // Takes an error, unless it is on the line of the last one or only follows from another. If it comes from a macro,
+    // its line is that on which the macro was used.
     fn take_error(
         &mut self,
         error: PreprocessorError,
         location: Location,
+        call_line: Option<u32>,
     ) -> Result<(), AllocError> {
-        let here = FaultLine {
-            is_in_source: is_in_source(self.texts, location),
-            line: location.line,
+        let read = self.output.read();
+        let used = self.explainer.use_of(&error, location, call_line, read)?;
+        let line = match &used {
+            Some(used) => Some(used.line),
+            None => line_in_source(self.texts, location),
         };
-        if self.fault_line == Some(here) {
-            return Ok(());
+        if let Some(line) = line {
+            if self.output.is_left_out(line) {
+                return Ok(());
+            }
+            self.output.leave_out(line);
         }
-        self.leave_out(here);
-        let Some(diagnostic) = self.explainer.explain(&error, location)? else {
+        let Some(mut diagnostic) = self.explainer.explain(&error, location)? else {
             return Ok(());
         };
+        diagnostic.used = used;
         self.push_error(error.name(), location, &diagnostic)
-    }
-
-    // Leaves out what is still to come of the line of an error.
-    fn leave_out(&mut self, here: FaultLine) {
-        self.fault_line = Some(here);
-        if here.is_in_source {
-            self.output.leave_out(here.line);
-        }
     }
 
     // Takes an error with this name, after what the warnings found before its line.
@@ -367,7 +354,7 @@ impl<'a> Run<'a> {
     fn end(&mut self) -> Result<(), AllocError> {
         let texts = self.texts;
         if !self.is_over()
-            && let Some(location) = open_comment(texts.source, self.output.read_end() as usize)
+            && let Some(location) = open_comment(texts.source, self.output.read().end as usize)
         {
             let fault = self.finder.unterminated_comment(location)?;
             self.push_fault(&fault)?;
@@ -391,6 +378,7 @@ impl<'a> Run<'a> {
             is_of_cause: false,
             site: Site::InFile,
             note: None,
+            used: None,
         };
         self.reporter.push(&mut self.reports, &diagnostic)
     }
@@ -404,9 +392,10 @@ fn is_before(diagnostic: &Diagnostic<'_>, line: u32) -> bool {
     }
 }
 
-fn is_in_source(texts: &Texts<'_>, location: Location) -> bool {
+// The line of a place, if it is in the source.
+fn line_in_source(texts: &Texts<'_>, location: Location) -> Option<u32> {
     match texts.spot(location) {
-        Some(spot) => spot.is_in_source,
-        None => true,
+        Some(spot) if !spot.is_in_source => None,
+        _ => Some(location.line),
     }
 }

@@ -3,6 +3,7 @@
 ghost use Rattle.std.specs.Prelude.{◌≡◌};
 ghost use Rattle.glslpp_parts.specs.Reports.{name_of};
 
+use crate::macro_use::MacroUse;
 use crate::outline::Define;
 use crate::place::Place;
 use crate::texts::Texts;
@@ -103,6 +104,8 @@ pub struct Diagnostic<'a> {
     pub site: Site<'a>,
     /// What is said beside it.
     pub note: Option<Note<'a>>,
+    /// The use of the macro from which it comes.
+    pub used: Option<MacroUse<'a>>,
 }
 
 /// What is said beside a message, with its place.

@@ -8,8 +8,10 @@ use crate::causes::{
     Cause, macro_at_end, macro_before, of_early_end, of_float, of_integer, of_unexpected_token,
     of_unfinished_expression, only_operator,
 };
+use crate::changes::Definition;
 use crate::diagnostic::{Diagnostic, Note, Severity, Site};
 use crate::directive_line::DirectiveLine;
+use crate::macro_use::{MacroUse, UseFinder};
 use crate::outline::Outline;
 use crate::place::Place;
 use crate::quoting::{is_typographic_quote, push_char};
@@ -31,17 +33,19 @@ pub struct Explainer<'a> {
     // The byte offsets in the source of characters that stand for bytes that aren't UTF-8.
     replaced: &'a [usize],
     outline: Option<Outline>,
+    uses: UseFinder<'a>,
     ghost is_short: { length source.now < 2 ^ 32 - 1 },
 }
 
 impl<'a> Explainer<'a> {
     /// The messages for the errors of a source, in which the characters at these byte offsets stand for bytes that
-    /// aren't UTF-8. `texts` has the same source.
+    /// aren't UTF-8. `texts` has the same source, and the contents of these definitions before it.
     pub fn new(
         alloc: Global,
         source: &'a str,
         texts: &'a Texts<'a>,
         replaced: &'a [usize],
+        definitions: &'a [Definition<'a>],
     ) -> Explainer<'a>
         requires { length source.now < 2 ^ 32 - 1 }
     {
@@ -51,7 +55,27 @@ impl<'a> Explainer<'a> {
             texts,
             replaced,
             outline: None,
+            uses: UseFinder::new(alloc, source, texts, definitions),
         }
+    }
+
+    /// Returns the use of the macro in whose content the error at this place is, or `None` if it is in none, or the use
+    /// isn't found. `call_line` is the line of the call that gave the error, and `read` is the place of the last token
+    /// before it that no macro gave. It is called for each error, in order.
+    pub fn use_of(
+        &mut self,
+        error: &PreprocessorError,
+        location: Location,
+        call_line: Option<u32>,
+        read: Location,
+    ) -> Result<Option<MacroUse<'a>>, AllocError> {
+        let outline = match self.outline.take() {
+            Some(outline) => outline,
+            None => Outline::of(self.alloc, self.source)?,
+        };
+        let used = self.uses.find(&outline, error, location, call_line, read);
+        self.outline = Some(outline);
+        used
     }
 
     /// Returns the message for an error: the library's sentence, and what the source adds to it. It returns `None` if
@@ -77,6 +101,7 @@ impl<'a> Explainer<'a> {
                 is_of_cause: true,
                 site: cause.site,
                 note: cause.note,
+                used: None,
             }));
         }
         let more = self.more(error, location, site)?;
@@ -89,6 +114,7 @@ impl<'a> Explainer<'a> {
             is_of_cause: false,
             site,
             note,
+            used: None,
         }))
     }
 

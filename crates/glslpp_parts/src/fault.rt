@@ -154,6 +154,7 @@ impl<'a> FaultFinder<'a> {
                 is_of_cause: true,
                 site: Site::of(self.texts, location),
                 note,
+                used: None,
             },
         }
     }

@@ -99,6 +99,7 @@ impl<'a> Findings<'a> {
             is_of_cause: true,
             site,
             note,
+            used: None,
         })?;
         Ok(())
     }

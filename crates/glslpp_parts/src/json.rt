@@ -5,7 +5,7 @@ ghost use Rattle.glslpp_parts.specs.Output.{IsItem, IsErrorItem};
 ghost use Rattle.glslpp_parts.specs.inner.Adding.{IsLonger};
 
 use crate::columns::Columns;
-use crate::diagnostic::{Diagnostic, Note, Site};
+use crate::diagnostic::{Diagnostic, Site};
 use crate::place::first_byte;
 use crate::report::COMMAND_LINE;
 use crate::texts::Spot;
@@ -106,7 +106,7 @@ pub(crate) fn push_diagnostic(
     write!(output, "{{\"severity\":\"{severity}\",")?;
     push_site(output, file, diagnostic.site)?;
     push_message(output, diagnostic.message.as_str())?;
-    push_notes(output, file, diagnostic.note)?;
+    push_notes(output, file, diagnostic)?;
     output.push_str("}\n")
 }
 
@@ -117,17 +117,49 @@ fn push_message(output: &mut String, message: &str) -> Result<(), AllocError>
     push_string(output, message)
 }
 
-fn push_notes(output: &mut String, file: &str, note: Option<Note<'_>>) -> Result<(), AllocError>
+fn push_notes(
+    output: &mut String,
+    file: &str,
+    diagnostic: &Diagnostic<'_>,
+) -> Result<(), AllocError>
     ensures { OnOk result (IsLonger (string_bytes output.old) (string_bytes output.new)) }
 {
     output.push_str(",\"notes\":[")?;
-    if let Some(note) = note {
-        output.push('{')?;
-        push_site(output, file, note.site)?;
-        push_message(output, note.message)?;
-        output.push('}')?;
-    }
+    push_note_objects(output, file, diagnostic)?;
     output.push(']')
+}
+
+fn push_note_objects(
+    output: &mut String,
+    file: &str,
+    diagnostic: &Diagnostic<'_>,
+) -> Result<(), AllocError>
+    ensures { OnOk result (IsLonger (string_bytes output.old) (string_bytes output.new)) }
+{
+    match (diagnostic.note, &diagnostic.used) {
+        (Some(note), Some(used)) => {
+            push_note(output, file, note.site, note.message)?;
+            output.push(',')?;
+            push_note(output, file, used.site, used.message.as_str())
+        }
+        (Some(note), None) => push_note(output, file, note.site, note.message),
+        (None, Some(used)) => push_note(output, file, used.site, used.message.as_str()),
+        (None, None) => Ok(()),
+    }
+}
+
+fn push_note(
+    output: &mut String,
+    file: &str,
+    site: Site<'_>,
+    message: &str,
+) -> Result<(), AllocError>
+    ensures { OnOk result (IsLonger (string_bytes output.old) (string_bytes output.new)) }
+{
+    output.push('{')?;
+    push_site(output, file, site)?;
+    push_message(output, message)?;
+    output.push('}')
 }
 
 // Appends the file of a place, its line and column, and the number of characters at it, each with a comma.

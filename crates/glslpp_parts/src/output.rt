@@ -1,6 +1,7 @@
 //! The output of a source, in each form.
 
 ghost use Rattle.std.specs.Prelude.{◌≡◌, ◌≢◌, ◌⊎◌, [], true, false, None, Some, IsTrue, OnOk, IfOk, string_bytes};
+ghost use Rattle.std.specs.Str.{IsUtf8};
 ghost use Rattle.pp_lexer.specs.declared.token.TokenValue.TheVariants as value;
 ghost use Rattle.pp_rs.specs.TokenRefs.{token_of};
 ghost use Rattle.pp_rs.specs.TokenValue.{is_ordinary};
@@ -15,11 +16,11 @@ use crate::layout::{Gap, Layout};
 use crate::texts::Texts;
 use crate::words::{compact_word, made_word, written_word};
 use pp_rs::pp::{TokenRef, TokenSink, ValueRef};
-use pp_rs::token::{Location, Punct, Token};
+use pp_rs::token::{Location, NOWHERE, Punct, Token};
 use std::alloc::{AllocError, Global};
 use std::marker::Model;
 
-/// The output of a source so far. It takes the tokens of [`Preprocessor::give_tokens`](pp_rs::pp::Preprocessor::give_tokens).
+/// The output of a source so far. It is what takes the tokens of `Preprocessor::give_tokens`.
 #[derive(Drop)]
 pub struct Output<'a> {
     alloc: Global,
@@ -34,8 +35,8 @@ pub struct Output<'a> {
     end: Option<u32>,
     // The line whose tokens are left out.
     left_out: Option<u32>,
-    // The byte offset in the source after the last token that no macro gave.
-    read_end: u32,
+    // The place of the last token that no macro gave.
+    read: Location,
 }
 
 impl<'a> Model for Output<'a> {
@@ -55,7 +56,7 @@ impl<'a> TokenSink for Output<'a> {
     #[inline(always)]
     fn take(&mut self, token: TokenRef<'_>) -> Result<(), AllocError> {
         if token.call_line.is_none() {
-            self.read_end = token.location.end;
+            self.read = token.location;
         }
         if self.is_left_out(line_of(token)) {
             return Ok(());
@@ -89,7 +90,7 @@ impl<'a> Output<'a> {
             columns: Columns::new(texts.source),
             end: None,
             left_out: None,
-            read_end: 0,
+            read: NOWHERE,
         }
     }
 
@@ -111,10 +112,10 @@ impl<'a> Output<'a> {
         }
     }
 
-    /// Returns the byte offset in the source after the last token that no macro gave, directives included, and 0 before
+    /// Returns the place in the source of the last token that no macro gave, directives included, and `NOWHERE` before
     /// the first.
-    pub fn read_end(&self) -> u32 {
-        self.read_end
+    pub fn read(&self) -> Location {
+        self.read
     }
 
     // A name and a punctuator are printed by their values, which is their text in the source but for continuations.
@@ -147,6 +148,7 @@ impl<'a> Output<'a> {
         ensures form { self.new.form ≡ self.old.form }
         ensures left_out { self.new.left_out ≡ self.old.left_out }
         ensures puts { OnOk result (PutsText self.old place is_closing line word.now self.new) }
+        ensures text { IsUtf8 word.now }
     {
         if !self.texts.is_in_source(place) {
             return self.push_made_word(line, word);
@@ -195,6 +197,7 @@ impl<'a> Output<'a> {
     #[inline(never)]
     fn push_on_last_line(&mut self, token: TokenRef<'_>) -> Result<(), AllocError>
         ensures form { self.new.form ≡ self.old.form }
+        ensures left_out { self.new.left_out ≡ self.old.left_out }
         ensures puts { OnOk result (PutsWord self.old (token_of token.entry) self.old.laid.line self.new) }
     {
         let word = compact_word(self.alloc, token.value, self.texts.spot(token.location))?;
@@ -237,7 +240,7 @@ impl<'a> Output<'a> {
             }
         };
         self.end = None;
-        self.read_end = token.location.end;
+        self.read = token.location;
         match self.form {
             Form::Lines => self
                 .layout

@@ -1,13 +1,14 @@
 //! Texts as the lexer reads them.
 
 ghost use Rattle.std.specs.Prelude.{◌≡◌, ◌-◌, ◌^◌, ◌<◌, ◌∷◌, [], ◌↔◌, IsTrue, false, length, IfOk, OnOk, MatchOption};
+ghost use Rattle.std.specs.Str.{chars};
 ghost use Rattle.pp_lexer.specs.Respelling.{lexer_value};
 ghost use Rattle.pp_rs.specs.TokenRefs.{value_of};
 ghost use Rattle.glslpp_parts.specs.Reading.{values_ahead, IsReadAs};
 
 use pp_rs::lexer::{Lexer, TokenValue as Word};
 use pp_rs::pp::ValueRef;
-use pp_rs::token::PreprocessorError;
+use pp_rs::token::{Float, PreprocessorError, Text};
 use std::alloc::{AllocError, Global};
 
 /// A value of the lexer, or an error instead of one.
@@ -51,12 +52,25 @@ fn is_same(word: &Word, value: ValueRef<'_>) -> bool
     ensures { IsTrue result ↔ (word.now ≡ lexer_value (value_of value.entry)) }
 {
     match (word, value) {
-        (Word::Ident(a), ValueRef::Ident(b)) => a.as_str() == b,
+        (Word::Ident(a), ValueRef::Ident(b)) => is_text(a, b),
         (Word::Integer(a), ValueRef::Integer(b)) => *a == b,
-        (Word::Float(a), ValueRef::Float(text, width)) => {
-            a.text.as_str() == text && a.width == width
-        }
+        (Word::Float(a), ValueRef::Float(text, width)) => is_float(a, text, width),
         (Word::Punct(a), ValueRef::Punct(b)) => *a == b,
         _ => false,
     }
+}
+
+fn is_float(float: &Float, text: &str, width: i32) -> bool
+    ensures { IsTrue result ↔ (float.now ≡ record { text = chars text.now; width = width }) }
+{
+    if float.width != width {
+        return false;
+    }
+    is_text(&float.text, text)
+}
+
+fn is_text(text: &Text, word: &str) -> bool
+    ensures { IsTrue result ↔ (text.now ≡ chars word.now) }
+{
+    text.as_str() == word
 }

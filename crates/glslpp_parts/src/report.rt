@@ -77,17 +77,35 @@ impl<'a> Reporter<'a> {
         }
     }
 
-    // Appends a message and its note as text.
+    // Appends a message and what is said beside it as text.
     fn push_report(&self, text: &mut String, diagnostic: &Diagnostic<'_>) -> Result<(), AllocError>
         ensures { OnOk result (IsReported self.now.style self.now.file.now diagnostic.now.severity
             (string_bytes diagnostic.now.message) (string_bytes text.old) (string_bytes text.new)) }
     {
         let message = diagnostic.message.as_str();
         self.push_lines(text, diagnostic.severity, message, diagnostic.site)?;
-        match diagnostic.note {
-            Some(note) => self.push_lines(text, Severity::Note, note.message, note.site),
-            None => Ok(()),
+        self.push_notes(text, diagnostic)
+    }
+
+    // Appends what is said beside a message.
+    fn push_notes(&self, text: &mut String, diagnostic: &Diagnostic<'_>) -> Result<(), AllocError>
+        ensures { OnOk result (IsLonger (string_bytes text.old) (string_bytes text.new)) }
+    {
+        match (diagnostic.note, &diagnostic.used) {
+            (Some(note), Some(used)) => {
+                self.push_note(text, note.message, note.site)?;
+                self.push_note(text, used.message.as_str(), used.site)
+            }
+            (Some(note), None) => self.push_note(text, note.message, note.site),
+            (None, Some(used)) => self.push_note(text, used.message.as_str(), used.site),
+            (None, None) => Ok(()),
         }
+    }
+
+    fn push_note(&self, text: &mut String, message: &str, site: Site<'_>) -> Result<(), AllocError>
+        ensures { OnOk result (IsLonger (string_bytes text.old) (string_bytes text.new)) }
+    {
+        self.push_lines(text, Severity::Note, message, site)
     }
 
     // Appends a message with its place, and the line of the place with a caret.

@@ -90,13 +90,12 @@ impl<'a> Texts<'a> {
 
     // Whether an item's place is in the source.
     #[inline(always)]
-    pub(crate) fn is_in_source(&self, location: Location) -> bool
-        ensures { IsTrue result ↔ (location ≢ nowhere) × IsTrue (nat_lt 1 location.line || nat_lt location.start self.now.blanks) }
-    {
-        location.line > 1 || (location.start as usize) < self.blanks && location != NOWHERE
+    pub(crate) fn is_in_source(&self, location: Location) -> bool {
+        matches!(self.spot(location), Some(spot) if spot.is_in_source)
     }
 
     /// Returns the spot of an item's place, or `None` if the place is `NOWHERE`.
+    #[inline(always)]
     pub fn spot(&self, location: Location) -> Option<Spot<'_>>
         ensures none { IsNone result ↔ (location ≡ nowhere) }
         ensures told { IfSome result (λ spot. spot.is_in_source
@@ -108,7 +107,7 @@ impl<'a> Texts<'a> {
             (location.end - self.now.blanks)) }
     {
         let (start, end) = (location.start as usize, location.end as usize);
-        if self.is_in_source(location) {
+        if location.line > 1 || start < self.blanks && location != NOWHERE {
             return Some(Spot {
                 text: self.source,
                 start,

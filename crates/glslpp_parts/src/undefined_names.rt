@@ -1,23 +1,21 @@
 //! Names in conditions that are not defined, and count as 0.
 //!
 //! Whether a name is defined where a condition is computed, and whether the condition is computed at all, is left to
-//! the preprocessor. It reads a text of the source's directives, each on a line, with an `#else` and an `#if` for each
-//! `#elif`. Before a condition this text has a line for each name of the condition. The names that the preprocessor
-//! gives for such a line are not defined, and it gives none where the condition isn't computed.
+//! the preprocessor, which reads a [`Probe`] with a line for each name of a condition. The names that it gives for such
+//! a line are not defined, and it gives none where the condition isn't computed.
 
 ghost use Rattle.std.specs.Prelude.{◌-◌, ◌^◌, ◌<◌, length};
 
 use crate::changes::Definition;
 use crate::definitions::add_definitions;
-use crate::directive_line::{is_punct, name_of};
 use crate::failure::Failure;
 use crate::findings::Findings;
+use crate::probe::{Asked, Probe};
 use crate::texts::Texts;
 use crate::warning::Warning;
 use pp_rs::SOURCE_LIMIT;
-use pp_rs::lexer::{Lexer, Token as Word, TokenValue as WordValue};
 use pp_rs::pp::Preprocessor;
-use pp_rs::token::{Location, PreprocessorError, Punct, TokenValue};
+use pp_rs::token::{PreprocessorError, TokenValue};
 use std::alloc::{AllocError, Global};
 
 /// Finds the names that are not defined in the conditions that are computed, with these definitions before the source,
@@ -30,7 +28,7 @@ pub(crate) fn find_undefined_names(
 ) -> Result<(), AllocError>
     requires { length source.now < 2 ^ 32 - 1 }
 {
-    let probe = Probe::of(alloc, source)?;
+    let probe = Probe::of(alloc, source, Asked::Names)?;
     let text = probe.text.as_str();
     if text.len() >= SOURCE_LIMIT {
         return Ok(());
@@ -79,291 +77,4 @@ fn message_of(alloc: Global, name: &str, asked: &str) -> Result<String, AllocErr
         return format!(in alloc; "`{name}` is not defined, and counts as 0");
     }
     format!(in alloc; "`{name}`, which `{asked}` gives, is not defined, and counts as 0")
-}
-
-/// A name in a condition, for which the text has a line.
-#[derive(Drop)]
-struct Question {
-    // The number of that line.
-    line: u32,
-    name: String,
-    // The place of the name in the source.
-    location: Location,
-}
-
-/// Where an operand of `&&` and one of `||` begin among the words of a condition, and what is open since.
-#[derive(Clone, Copy)]
-struct Group {
-    start_of_and: usize,
-    start_of_or: usize,
-    // The numbers of `#if` lines, of `&&` since the last `||`, and of `||`.
-    ands: usize,
-    ors: usize,
-}
-
-impl Group {
-    fn new(start: usize) -> Group {
-        Group {
-            start_of_and: start,
-            start_of_or: start,
-            ands: 0,
-            ors: 0,
-        }
-    }
-}
-
-// How many parentheses around an `&&` or `||` are looked at: the left operand of each is repeated in the text.
-const DEEPEST: usize = 32;
-
-/// The text that asks for the names of conditions.
-#[derive(Drop)]
-struct Probe {
-    alloc: Global,
-    text: String,
-    // The number of the line that the next text is on.
-    line: u32,
-    // In the order of their lines.
-    questions: Vec<Question>,
-    // For each open block the number of its `#elif` lines so far.
-    elifs: Vec<usize>,
-}
-
-impl Probe {
-    fn of(alloc: Global, source: &str) -> Result<Probe, AllocError>
-        requires { length source.now < 2 ^ 32 - 1 }
-    {
-        let mut probe = Probe {
-            alloc,
-            text: String::new(alloc),
-            line: 1,
-            questions: Vec::new(alloc),
-            elifs: Vec::new(alloc),
-        };
-        let mut lexer = Lexer::new(alloc, source);
-        let mut words = Vec::new(alloc);
-        let mut is_directive = false;
-        'words: while let Some(item) = lexer.next() {
-            match item {
-                Ok(word) => match word.value {
-                    WordValue::Hash if word.start_of_line => is_directive = true,
-                    WordValue::NewLine => {
-                        probe.take_directive(words.as_slice())?;
-                        words.clear();
-                        is_directive = false;
-                    }
-                    _ if is_directive => words.push(word)?,
-                    _ => {}
-                },
-                Err((PreprocessorError::OutOfMemory, _)) => return Err(AllocError),
-                Err((_error, _)) => {}
-            }
-        }
-        Ok(probe)
-    }
-
-    // The question on a line of the text.
-    fn question(&self, line: u32) -> Option<&Question> {
-        let questions = self.questions.as_slice();
-        let before = questions.partition_point(|question| question.line < line);
-        match questions.get(before) {
-            Some(question) if question.line == line => Some(question),
-            _ => None,
-        }
-    }
-
-    // Takes the words of a directive after its `#`.
-    fn take_directive(&mut self, words: &[Word]) -> Result<(), AllocError> {
-        let Some((first, rest)) = words.split_first() else {
-            return Ok(());
-        };
-        match name_of(first).unwrap_or("") {
-            "define" | "undef" | "else" => self.push_directive("", words),
-            "ifdef" | "ifndef" => {
-                self.elifs.push(0)?;
-                self.push_directive("", words)
-            }
-            "if" => {
-                self.elifs.push(0)?;
-                self.ask(rest)?;
-                self.push_directive("if", rest)
-            }
-            "elif" => {
-                let Some(count) = self.elifs.last_mut() else {
-                    return Ok(());
-                };
-                *count = count.saturating_add(1);
-                self.push_directive("else", &[])?;
-                self.ask(rest)?;
-                self.push_directive("if", rest)
-            }
-            "endif" => match self.elifs.pop() {
-                Some(count) => self.push_ends(count.saturating_add(1)),
-                None => Ok(()),
-            },
-            _ => Ok(()),
-        }
-    }
-
-    // Asks for the names of a condition, each only if what is before it makes it count.
-    fn ask(&mut self, words: &[Word]) -> Result<(), AllocError> {
-        let mut groups = Vec::new(self.alloc);
-        groups.push(Group::new(0))?;
-        let mut next = 0;
-        for index in 0..words.len() {
-            if index >= next {
-                next = self.ask_at(words, index, &mut groups)?;
-            }
-        }
-        for group in groups {
-            self.push_ends(group.ands.saturating_add(group.ors))?;
-        }
-        Ok(())
-    }
-
-    // Asks for what begins at a word. Returns the index of the word after it.
-    fn ask_at(
-        &mut self,
-        words: &[Word],
-        index: usize,
-        groups: &mut Vec<Group>,
-    ) -> Result<usize, AllocError> {
-        let after = index.saturating_add(1);
-        let Some(word) = words.get(index) else {
-            return Ok(after);
-        };
-        match &word.value {
-            WordValue::Ident(name) => {
-                let end = end_of_name(words, index);
-                if name.as_str() != "defined" {
-                    self.push_question(name.as_str(), word.location)?;
-                    self.push_words(words.get(index..end).unwrap_or(&[]))?;
-                    self.push_line_end()?;
-                }
-                return Ok(end);
-            }
-            WordValue::Punct(Punct::LeftParen) => groups.push(Group::new(after))?,
-            WordValue::Punct(Punct::RightParen) if groups.len() > 1 => {
-                if let Some(group) = groups.pop() {
-                    self.push_ends(group.ands.saturating_add(group.ors))?;
-                }
-            }
-            WordValue::Punct(punct @ (Punct::LogicalAnd | Punct::LogicalOr))
-                if groups.len() <= DEEPEST => {
-                if let Some(group) = groups.last_mut() {
-                    self.push_operand(words, index, *punct, group)?;
-                }
-            }
-            _ => {}
-        }
-        Ok(after)
-    }
-
-    // Opens an `#if` for the left operand of an `&&` or `||`, in which is what follows if its right one counts.
-    fn push_operand(
-        &mut self,
-        words: &[Word],
-        index: usize,
-        punct: Punct,
-        group: &mut Group,
-    ) -> Result<(), AllocError> {
-        let after = index.saturating_add(1);
-        if punct == Punct::LogicalAnd {
-            self.push_directive("if", words.get(group.start_of_and..index).unwrap_or(&[]))?;
-            group.ands = group.ands.saturating_add(1);
-        } else {
-            self.push_ends(group.ands)?;
-            self.push_directive("if", words.get(group.start_of_or..index).unwrap_or(&[]))?;
-            self.push_directive("else", &[])?;
-            group.ands = 0;
-            group.ors = group.ors.saturating_add(1);
-            group.start_of_or = after;
-        }
-        group.start_of_and = after;
-        Ok(())
-    }
-
-    fn push_question(&mut self, name: &str, location: Location) -> Result<(), AllocError> {
-        let question = Question {
-            line: self.line,
-            name: String::from_str(self.alloc, name)?,
-            location,
-        };
-        self.questions.push(question)?;
-        Ok(())
-    }
-
-    fn push_ends(&mut self, count: usize) -> Result<(), AllocError> {
-        for _ in 0..count {
-            self.push_directive("endif", &[])?;
-        }
-        Ok(())
-    }
-
-    fn push_directive(&mut self, word: &str, words: &[Word]) -> Result<(), AllocError> {
-        self.text.push('#')?;
-        self.text.push_str(word)?;
-        self.push_words(words)?;
-        self.push_line_end()
-    }
-
-    // A `(` stands beside the word before it if it does so in the source, where it may begin parameters.
-    fn push_words(&mut self, words: &[Word]) -> Result<(), AllocError> {
-        for word in words {
-            if word.leading_whitespace || !is_punct(word, Punct::LeftParen) {
-                self.text.push(' ')?;
-            }
-            push_value(&mut self.text, &word.value)?;
-        }
-        Ok(())
-    }
-
-    fn push_line_end(&mut self) -> Result<(), AllocError> {
-        self.line = self.line.saturating_add(1);
-        self.text.push('\n')
-    }
-}
-
-// The index after a name: after its arguments if a `(` follows, and after the operand of a `defined`.
-fn end_of_name(words: &[Word], index: usize) -> usize {
-    let after = index.saturating_add(1);
-    let is_called = words
-        .get(after)
-        .is_some_and(|word| is_punct(word, Punct::LeftParen));
-    let is_defined = words
-        .get(index)
-        .is_some_and(|word| name_of(word) == Some("defined"));
-    if !is_called {
-        return if is_defined {
-            after.saturating_add(1)
-        } else {
-            after
-        };
-    }
-    let mut depth = 0usize;
-    for end in after..words.len() {
-        let word = &words[end];
-        if is_punct(word, Punct::LeftParen) {
-            depth = depth.saturating_add(1);
-        } else if is_punct(word, Punct::RightParen) {
-            depth = depth.saturating_sub(1);
-            if depth == 0 {
-                return end.saturating_add(1);
-            }
-        }
-    }
-    words.len()
-}
-
-fn push_value(text: &mut String, value: &WordValue) -> Result<(), AllocError> {
-    match value {
-        WordValue::Ident(name) => text.push_str(name.as_str()),
-        WordValue::Integer(integer) => {
-            let suffix = if integer.signed { "" } else { "u" };
-            write!(text, "{}{suffix}", integer.value)
-        }
-        WordValue::Float(float) => text.push_str(float.text.as_str()),
-        WordValue::Punct(punct) => text.push_str(punct.spelling()),
-        WordValue::Hash => text.push('#'),
-        WordValue::NewLine => Ok(()),
-    }
 }

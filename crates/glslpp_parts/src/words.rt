@@ -11,7 +11,7 @@ use crate::place::after_continuations;
 use crate::reading::is_read_as;
 use crate::texts::Spot;
 use pp_rs::SOURCE_LIMIT;
-use pp_rs::pp::{ValueRef, push_value_ref};
+use pp_rs::pp::ValueRef;
 use pp_rs::token::Integer;
 use std::alloc::{AllocError, Global};
 
@@ -135,7 +135,7 @@ fn spelled_word(alloc: Global, value: ValueRef<'_>) -> Result<String, AllocError
         → IsReadAs (value_of value.entry) (string_bytes word)) }
 {
     let mut word = String::new(alloc);
-    push_value_ref(&mut word, value)?;
+    value.push_to(&mut word)?;
     Ok(word)
 }
 

@@ -1,4 +1,4 @@
-use Rattle.std.proofs.Common.{◌≡◌, ◌∙◌, ap, sym, refl}
+use Rattle.std.proofs.Common.{◌≡◌, ◌∙◌, ap, sym}
 use Rattle.std.specs.Cmp.Lexicographic.{bytes_decides}
 use Rattle.std.specs.Str.{chars}
 use Rattle.pp_lexer.specs.declared.token.TokenValue.TheVariants.{Ident, Integer, Float, Punct}
@@ -7,12 +7,15 @@ use Rattle.glslpp_parts.proofs.SpelledLemmas.{spelled_read, signed_literal}
 use Rattle.glslpp_parts.proofs.words.is_text_of.Goals as goal
 
 pub returns-in-Ident : goal.returns-in-Ident
-returns-in-Ident c = rw c.in-Ident.is (λ h. spelled_read (Ident c.in-Ident.name) c.args.word.now c.utf8.word (c.is_spelled.ensures h))
+returns-in-Ident c =
+    rw c.in-Ident.is
+    (λ h. let same : c.in-Ident.name.now ≡ c.args.word.now = (bytes_decides c.in-Ident.name.now c.args.word.now).0 (sym c.eq.ensures ∙ h) in
+    spelled_read (Ident (chars c.in-Ident.name.now)) c.args.word.now c.utf8.word (ap chars (sym same)))
 
 pub returns-in-Punct : goal.returns-in-Punct
 returns-in-Punct c =
     rw c.in-Punct.is
-    (λ h. let same : c.spelling.result.now ≡ c.args.word.now = (bytes_decides c.spelling.result.now c.args.word.now).0 (sym c.eq.ensures ∙ h) in
+    (λ h. let same : c.spelling.result.now ≡ c.args.word.now = (bytes_decides c.spelling.result.now c.args.word.now).0 (sym c.eq-in-Punct.ensures ∙ h) in
     spelled_read (Punct c.in-Punct.punct) c.args.word.now c.utf8.word (ap chars (sym same ∙ c.spelling.ensures) ∙ chars-punctuator c.in-Punct.punct))
 
 pub returns-in-Integer : goal.returns-in-Integer
@@ -24,4 +27,9 @@ returns-in-Integer c =
 
 pub returns-in-Float : goal.returns-in-Float
 returns-in-Float c =
-    rw c.in-Float.is (λ _. spelled_read (Float c.in-Float.float) c.args.word.now c.utf8.word (c.if-is_spelled.ensures {u = tt} refl))
+    rw c.in-Float.is (λ _.
+    let is = c.in-Float.text-is in
+    let known = (bytes_decides _ c.args.word.now).0 (sym (c.if-eq.ensures {u = tt})) in
+    let same : c.in-Float.text.now ≡ c.args.word.now = cc in
+    spelled_read (Float (record { text = chars c.in-Float.text.now; width = c.in-Float.field-1 })) c.args.word.now c.utf8.word
+    (ap chars (sym same)))
