@@ -23,6 +23,6 @@ pub use pp_model::call::{Call, Reply};
 pub use pp_model::conversion::convert_lexer_token;
 pub use pp_model::outcome::Outcome;
 pub use preprocessor::{Preprocessor, PreprocessorItem};
-pub use spelling::{push_value, spell_tokens};
+pub use spelling::spell_tokens;
 pub use token_ref::{TokenRef, TokenSink, ValueRef};
 pub use trying::AddError;

@@ -50,10 +50,8 @@ fn join_spellings(alloc: Global, tokens: &[Token]) -> Result<String, AllocError>
     Ok(text)
 }
 
-/// Appends the text of an ordinary token, as `spell_tokens` spells it.
-///
-/// Fails only if an allocation fails. Then nothing is appended.
-pub fn push_value(text: &mut String, value: &TokenValue) -> Result<(), AllocError>
+// Appends the text of an ordinary token. If memory runs out, nothing is appended.
+pub(crate) fn push_value(text: &mut String, value: &TokenValue) -> Result<(), AllocError>
     requires { IsTrue (is_ordinary value.now) }
     ensures appended { OnOk result (chars (string_bytes text.new)
         ≡ chars (string_bytes text.old) ++ spelling value.now) }
