@@ -53,7 +53,7 @@ pub(crate) fn of_unfinished_expression<'a>(
     }
     let message = match (&last.value, name_of(last)) {
         (_, Some("defined")) => String::from_str(alloc, "no macro name after `defined`")?,
-        (TokenValue::Punct(punct), _) => {
+        (TokenValue::Punct(punct), _) if *punct != Punct::RightParen => {
             format!(in alloc; "operator `{}` has no right operand", punct.spelling())?
         }
         _ => return Ok(None),
@@ -73,6 +73,19 @@ fn open_parenthesis(tokens: &[Token]) -> Option<&Token> {
             }
             closed = closed.saturating_sub(1);
         }
+    }
+    None
+}
+
+// The token before the last parenthesis that opens and isn't closed.
+fn before_parenthesis(tokens: &[Token]) -> Option<&Token> {
+    let open = open_parenthesis(tokens)?;
+    let mut before = None;
+    for token in tokens {
+        if token.location.start == open.location.start {
+            return before;
+        }
+        before = Some(token);
     }
     None
 }
@@ -353,11 +366,16 @@ pub(crate) fn macro_at_end<'l>(line: &'l DirectiveLine<'_>) -> Option<&'l Token>
     }
 }
 
-// The name with which tokens end.
+// The name with which tokens end, or that of the call with which they end.
 fn last_macro(tokens: &[Token]) -> Option<&Token> {
-    match tokens.last() {
-        Some(last) if name_of(last).is_some() && !is_defined(last) => Some(last),
-        _ => None,
+    let name = match tokens.split_last()? {
+        (last, others) if is_punct(last, Punct::RightParen) => before_parenthesis(others)?,
+        (last, _) => last,
+    };
+    if name_of(name).is_some() && !is_defined(name) {
+        Some(name)
+    } else {
+        None
     }
 }
 
