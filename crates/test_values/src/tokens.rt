@@ -216,8 +216,8 @@ fn plain_words_are_given(rt: HostRuntime) -> Result<(), Fail> {
     };
     assert!(rt; is_passed(&mut items, "a", 0));
     assert!(rt; is_passed(&mut items, "12u", 10));
-    assert!(rt; !is_passed(&mut items, "", 14) && items.had_comments() && items.pass_newline());
-    assert!(rt; is_passed(&mut items, "#", 15) && !items.pass_newline());
+    assert!(rt; !is_passed(&mut items, "", 13) && items.had_comments() && items.pass_newline());
+    assert!(rt; is_passed(&mut items, "#", 14) && !items.pass_newline());
     items.spend();
     assert!(rt; items.is_spent() && items.next().is_none());
     Ok(())
