@@ -10,5 +10,6 @@ pub mod LineItems
 pub mod DefineReading
 pub mod LineHalts
 pub mod IfParsing
+pub mod ReadingWords
 pub mod Starting
 pub mod TokenTaking

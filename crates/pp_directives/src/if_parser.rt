@@ -1,287 +1,90 @@
-//! The words of an `#if`, `#elif` or `#line` line.
+//! The expressions of an `#if`, `#elif` or `#line` line.
 
-ghost use Rattle.std.specs.Prelude.{◌≡◌, [], IfOk, is_some};
-ghost use Rattle.pp_model.specs.LineWords.{unwanted_closing};
-ghost use Rattle.pp_model.specs.inner.LineWords.{is_open_paren, is_close_paren};
-ghost use Rattle.pp_macros.specs.inner.Defined.{meaning_of};
+ghost use Rattle.std.specs.Prelude.{◌≡◌, slice_get, IfOk, OnErr};
+ghost use Rattle.std.specs.Option.{option_copied};
+ghost use Rattle.pp_model.specs.Emitting.{expansion_limit};
+ghost use Rattle.pp_model.specs.LineValues.{IsAlone};
 ghost use Rattle.pp_macros.specs.Held.{AllHoldOrdinary};
-ghost use Rattle.pp_directives.specs.inner.IfParsing.{IsReading, GivesItem, TakesOff, GivesTaken, IsNameOrFault, GivesOperand, GivesInParentheses, GivesClosed, AreWordsOf, AreWordsOfLine};
-ghost use Rattle.pp_directives.specs.inner.LineItems.{taken_of_read};
+ghost use Rattle.pp_macros.specs.inner.Expander.{Satisfies};
+ghost use Rattle.pp_directives.specs.inner.IfParsing.{IsAtFront, TakesExpression};
 
+use crate::limit::expansion_limit;
+use crate::line_words::line_words;
 use crate::token_list::LineReads;
-use pp_lexer::token::{Location, PreprocessorError, Text, Token, TokenValue};
-use pp_macros::arguments::finish_call;
-use pp_macros::calls::{Expander, Taken};
-use pp_macros::halt::{Halt, halt_of};
-use pp_macros::list_lexer::ListLexer;
-use pp_macros::list_step::{step_list, step_unnamed, take_list};
+use pp_lexer::token::Location;
+use pp_macros::halt::Halt;
 use pp_macros::names::Definitions;
-use pp_macros::open_around::OpenAround;
-use pp_macros::step::StepExit;
-use pp_model::outcome::Fault;
-use pp_model::parentheses::{is_left_paren, is_right_paren};
-use pp_model::read::Read;
-use pp_model::word::{LineKind, Word, WordReading, Words, reading_of, unwanted_reading};
+use pp_model::line_value::unwanted_word;
+use pp_model::word::{LineKind, Word, Words};
 use std::alloc::{AllocError, Global};
+use std::marker::Model;
 
-// A line that is being read: the open macros, and the rest of its tokens.
+/// The words of an `#if`, `#elif` or `#line` line that no expression has taken yet.
 #[derive(Drop)]
-struct LineExpander<'a> {
-    expander: Expander,
-    lexer: ListLexer<'a>,
-}
-
-// The reader of a line's words: the kind of the line, the place of its directive, the definitions there, and how many
-// levels deep arguments may be read inside each other.
-#[derive(Drop)]
-struct IfParser<'a> {
+pub struct IfParser {
     alloc: Global,
-    kind: LineKind,
     directive: Location,
-    definitions: &'a Definitions,
-    levels: u32,
+    words: Words,
 }
 
-// Whether it is a `(`.
-fn is_open_paren(found: &Option<Read>) -> bool
-    ensures { result ≡ is_open_paren (taken_of_read found.now) }
-{
-    match found {
-        Some(read) => is_left_paren(&read.token.value),
-        None => false,
-    }
+impl Model for IfParser {
+    ghost use Rattle.pp_directives.specs.inner.IfParsing as spec;
+
+    ghost Value = { spec.IfParser };
+
+    ghost view = { λ p. record { directive = p.directive; words = p.words } };
 }
 
-// Whether it is a `)`.
-fn is_close_paren(found: &Option<Read>) -> bool
-    ensures { result ≡ is_close_paren (taken_of_read found.now) }
-{
-    match found {
-        Some(read) => is_right_paren(&read.token.value),
-        None => false,
-    }
-}
-
-impl<'a> IfParser<'a> {
-    // The next item of the line, or `None` at its end.
-    #[inline(always)]
-    fn next_item(&self, line: &mut LineExpander<'_>) -> Result<Option<Read>, Halt>
-        requires { IsReading self.now line.old }
-        ensures reads { GivesItem self.now line.old result line.new }
-        ensures less { TakesOff self.now line.old result line.new }
-    {
-        if let Some(read) = step_unnamed(&line.expander, &mut line.lexer) {
-            return Ok(Some(read));
-        }
-        self.next_expanded(line)
-    }
-
-    // Does the same with any item. It is a function of its own, so that other items are moved less.
-    #[inline(never)]
-    fn next_expanded(&self, line: &mut LineExpander<'_>) -> Result<Option<Read>, Halt>
-        requires { IsReading self.now line.old }
-        ensures reads { GivesItem self.now line.old result line.new }
-        ensures less { TakesOff self.now line.old result line.new }
-    {
-        let nothing = OpenAround::nothing(self.alloc);
-        self.item_inside(line, &nothing)
-    }
-
-    // The next item of the line. No macro is open around the line.
-    fn item_inside(
-        &self,
-        line: &mut LineExpander<'_>,
-        around: &OpenAround<'_>,
-    ) -> Result<Option<Read>, Halt>
-        requires stands { IsReading self.now line.old }
-        requires alone { around.now ≡ [] }
-        ensures reads { GivesItem self.now line.old result line.new }
-        ensures less { TakesOff self.now line.old result line.new }
-    {
-        'items: loop {
-            match step_list(&mut line.expander, &mut line.lexer) {
-                Ok(Taken::Token(read)) => return Ok(Some(read)),
-                Ok(Taken::Call(call)) => finish_call(
-                    self.alloc,
-                    &mut line.expander,
-                    call,
-                    self.definitions,
-                    around,
-                    self.levels,
-                )?,
-                Err(StepExit::Continue) => {}
-                Err(StepExit::Finished) => return Ok(None),
-                Err(StepExit::Error(fault)) => return Err(halt_of(fault)),
-            }
-        }
-    }
-
-    // Takes the next token without looking it up, or `None` at the end of the line.
-    #[inline(always)]
-    fn take(&self, line: &mut LineExpander<'_>) -> Result<Option<Read>, Halt>
-        requires { IsReading self.now line.old }
-        ensures { GivesTaken self.now line.old result line.new }
-    {
-        match take_list(&mut line.expander, &mut line.lexer) {
-            Ok(read) => Ok(Some(read)),
-            Err(StepExit::Finished) => Ok(None),
-            Err(StepExit::Continue) => Ok(None),
-            Err(StepExit::Error(fault)) => Err(halt_of(fault)),
-        }
-    }
-
-    // Whether the name is defined.
-    fn is_defined(&self, name: &Text) -> bool
-        ensures { result ≡ is_some (meaning_of self.now.definitions.now name.now) }
-    {
-        self.definitions.get(name.as_str()).is_some()
-    }
-
-    // The fault of an item where `defined` needs its operand or a parenthesis.
-    fn unwanted_word(&self, found: Option<Read>) -> Fault
-        ensures { result ≡ unwanted_closing self.now.kind self.now.directive (taken_of_read found) }
-    {
-        match found {
-            Some(read) => unwanted_reading(reading_of(self.kind, read.token)),
-            None => (PreprocessorError::UnexpectedEndOfInput, self.directive),
-        }
-    }
-
-    // The name of an identifier, or the fault of anything else where `defined` needs a name.
-    fn name_or_fault(&self, found: Option<Read>) -> Result<Text, Fault>
-        ensures { IsNameOrFault self.now.directive found result }
-    {
-        match found {
-            Some(read) => {
-                let Token { value, location } = read.token;
-                match value {
-                    TokenValue::Ident(name) => Ok(name),
-                    other => Err((PreprocessorError::UnexpectedToken(other), location)),
-                }
-            }
-            None => Err((PreprocessorError::UnexpectedEndOfInput, self.directive)),
-        }
-    }
-
-    // The value of a `defined` after its `(` and the name.
-    fn closed_operand(&self, line: &mut LineExpander<'_>, name: &Text) -> Result<bool, Halt>
-        requires { IsReading self.now line.old }
-        ensures { GivesClosed self.now name.now line.old result line.new }
-    {
-        let found = self.next_item(line)?;
-        if is_close_paren(&found) {
-            drop(found);
-            Ok(self.is_defined(name))
-        } else {
-            Err(Halt::Fault(self.unwanted_word(found)))
-        }
-    }
-
-    // The value of a `defined` after its `(`.
-    fn operand_in_parentheses(&self, line: &mut LineExpander<'_>) -> Result<bool, Halt>
-        requires { IsReading self.now line.old }
-        ensures { GivesInParentheses self.now line.old result line.new }
-    {
-        let found = self.take(line)?;
-        match self.name_or_fault(found) {
-            Ok(name) => self.closed_operand(line, &name),
-            Err(fault) => Err(Halt::Fault(fault)),
-        }
-    }
-
-    // The value of a `defined`, from its operand.
-    fn operand(&self, line: &mut LineExpander<'_>) -> Result<bool, Halt>
-        requires { IsReading self.now line.old }
-        ensures { GivesOperand self.now line.old result line.new }
-    {
-        let found = self.take(line)?;
-        if is_open_paren(&found) {
-            drop(found);
-            return self.operand_in_parentheses(line);
-        }
-        match self.name_or_fault(found) {
-            Ok(name) => Ok(self.is_defined(&name)),
-            Err(fault) => Err(Halt::Fault(fault)),
-        }
-    }
-
-    // The words of the rest of a line.
-    fn read_words(&self, line: &mut LineExpander<'_>) -> Result<Words, AllocError>
-        requires { IsReading self.now line.old }
-        ensures { IfOk result (AreWordsOf self.now line.old) }
-    {
-        let mut words = Vec::with_capacity(self.alloc, 16)?;
-        'words: loop {
-            let token = match self.next_item(line) {
-                Ok(Some(read)) => read.token,
-                Ok(None) => return Ok(Words::new(words, None)),
-                Err(Halt::Fault(fault)) => return Ok(Words::new(words, Some(fault))),
-                Err(Halt::OutOfMemory) => return Err(AllocError),
-            };
-            let place = token.location;
-            match reading_of(self.kind, token) {
-                WordReading::Refused(fault) => return Ok(Words::new(words, Some(fault))),
-                WordReading::Word(word) => words.push(Word::Plain(word))?,
-                WordReading::Operator(operator) => {
-                    drop(operator);
-                    match self.operand(line) {
-                        Ok(answer) => words.push(Word::Defined(place, Ok(answer)))?,
-                        Err(Halt::Fault(fault)) => {
-                            words.push(Word::Defined(place, Err(fault)))?;
-                            return Ok(Words::new(words, None));
-                        }
-                        Err(Halt::OutOfMemory) => return Err(AllocError),
-                    }
-                }
-            }
-        }
-    }
-
-    // The words of a line. No macro is open around it.
-    fn words_of_line(
-        &self,
+impl IfParser {
+    /// Reads the words of a line of this kind.
+    ///
+    /// `directive` is the place of the directive's word, and `tokens` are those after it. The only error is that an
+    /// allocation failed.
+    pub fn new(
+        alloc: Global,
+        kind: LineKind,
+        directive: Location,
         tokens: LineReads,
         definitions: &Definitions,
-        around: &OpenAround<'_>,
-    ) -> Result<Words, AllocError>
-        requires holds { AllHoldOrdinary tokens }
-        requires same { self.now.definitions.now ≡ definitions.now }
-        requires alone { around.now ≡ [] }
-        ensures { IfOk result
-            (AreWordsOfLine self.now.kind self.now.directive self.now.levels tokens
-            definitions.now) }
+    ) -> Result<IfParser, AllocError>
+        requires { AllHoldOrdinary tokens }
+        ensures { IfOk result (IsAtFront kind directive tokens definitions.now) }
     {
-        let mut reads = tokens.into_reads();
-        let lexer = ListLexer::line(&mut reads, definitions, &*around);
-        let mut line = LineExpander {
-            expander: Expander::new(self.alloc),
-            lexer,
-        };
-        let words = self.read_words(&mut line);
-        drop(line);
-        words
+        let levels = expansion_limit();
+        Ok(IfParser {
+            alloc,
+            directive,
+            words: line_words(alloc, kind, directive, tokens, definitions, levels)?,
+        })
     }
-}
 
-/// The words of a line, and the fault that ends their reading, if there is one.
-pub fn line_words(
-    alloc: Global,
-    kind: LineKind,
-    directive: Location,
-    tokens: LineReads,
-    definitions: &Definitions,
-    levels: u32,
-) -> Result<Words, AllocError>
-    requires { AllHoldOrdinary tokens }
-    ensures { IfOk result (AreWordsOfLine kind directive levels tokens definitions.now) }
-{
-    let parser = IfParser {
-        alloc,
-        kind,
-        directive,
-        definitions,
-        levels,
-    };
-    let around = OpenAround::nothing(alloc);
-    parser.words_of_line(tokens, definitions, &around)
+    /// The next word, or `None` if no word is left.
+    pub fn peek(&self) -> Option<&Word>
+        ensures { option_copied result ≡ slice_get self.now.words.words 0 }
+    {
+        self.words.peek()
+    }
+
+    /// Takes the longest expression at the front of the words, and gives its value.
+    ///
+    /// The error is its first fault, and then nothing is taken, or `OutOfMemory` if an allocation failed.
+    pub fn evaluate_expression(&mut self) -> Result<i64, Halt>
+        ensures takes { Satisfies result (λ taken. TakesExpression self.old taken self.new) }
+        ensures keeps { Satisfies result (λ taken. OnErr taken (self.new ≡ self.old)) }
+    {
+        Ok(self.words.take_expression(self.alloc, self.directive)??)
+    }
+
+    /// Takes the expression that all words are together, and gives its value.
+    ///
+    /// The error is the first fault, a word after the expression among them, or `OutOfMemory` if an allocation failed.
+    pub fn evaluate_line(&mut self) -> Result<i64, Halt>
+        ensures { Satisfies result (IsAlone self.old.directive self.old.words (λ value. value)) }
+    {
+        let value = self.evaluate_expression()?;
+        match self.peek() {
+            Some(word) => Err(Halt::Fault(unwanted_word(self.alloc, word)?)),
+            None => Ok(value),
+        }
+    }
 }

@@ -7,6 +7,7 @@ pub mod directives;
 pub mod if_parser;
 pub mod limit;
 pub mod line_value;
+mod line_words;
 pub mod lines;
 pub mod parameters;
 pub mod source_lexer;

@@ -1,19 +1,18 @@
 //! The value of an `#if`, `#elif` or `#line` line.
 
+ghost use Rattle.std.specs.Prelude.{◌≡◌};
 ghost use Rattle.pp_model.specs.Emitting.{answers_at, expansion_limit};
-ghost use Rattle.pp_model.specs.LineValues.{IsCondition, IsLineNumber};
+ghost use Rattle.pp_model.specs.LineValues.{IsCondition, IsLineNumber, as_line_number};
 ghost use Rattle.pp_macros.specs.inner.Defined.{meaning_of};
 ghost use Rattle.pp_macros.specs.Held.{AllHoldOrdinary};
 ghost use Rattle.pp_macros.specs.inner.Expander.{Satisfies};
 ghost use Rattle.pp_directives.specs.inner.LineHalts.{without_number};
 
-use crate::if_parser::line_words;
-use crate::limit::expansion_limit;
+use crate::if_parser::IfParser;
 use crate::token_list::LineReads;
-use pp_lexer::token::Location;
+use pp_lexer::token::{Location, PreprocessorError};
 use pp_macros::halt::Halt;
 use pp_macros::names::Definitions;
-use pp_model::line_value::{LineFault, condition_of, number_of};
 use pp_model::word::LineKind;
 use std::alloc::{AllocError, Global};
 
@@ -31,10 +30,9 @@ pub fn condition(
     ensures { Satisfies result (IsCondition (answers_at expansion_limit) directive tokens
         (meaning_of definitions.now)) }
 {
-    let kind = LineKind::Condition;
-    let levels = expansion_limit();
-    let words = line_words(alloc, kind, directive, tokens, definitions, levels)?;
-    Ok(condition_of(alloc, directive, words)??)
+    let mut parser = IfParser::new(alloc, LineKind::Condition, directive, tokens, definitions)?;
+    let value = parser.evaluate_line()?;
+    Ok(value != 0)
 }
 
 /// Why a `#line` gives no line number that the rules allow.
@@ -70,18 +68,11 @@ impl From<Halt> for LineHalt {
     }
 }
 
-impl From<LineFault> for LineHalt {
-    ghost use Rattle.std.specs.Prelude.{◌≡◌};
-    ghost use Rattle.pp_macros.specs.declared.halt.Halt.TheVariants.{Fault};
-
-    ghost from_gives = { λ refused halted. halted.halt ≡ Fault refused.fault };
-
-    fn from(refused: LineFault) -> Self {
-        LineHalt {
-            halt: Halt::Fault(refused.fault),
-            number: refused.number,
-        }
-    }
+// The value as the number of a line.
+fn as_line_number(value: i64) -> Option<u32>
+    ensures { result ≡ as_line_number value }
+{
+    u32::try_from(value).ok()
 }
 
 /// The line number of a `#line`, or its first fault with any number that comes before it.
@@ -98,8 +89,19 @@ pub fn line_number(
     ensures { Satisfies (without_number result) (IsLineNumber (answers_at expansion_limit) directive tokens
         (meaning_of definitions.now)) }
 {
-    let kind = LineKind::LineNumber;
-    let levels = expansion_limit();
-    let words = line_words(alloc, kind, directive, tokens, definitions, levels)?;
-    Ok(number_of(alloc, directive, words)??)
+    let mut parser = IfParser::new(alloc, LineKind::LineNumber, directive, tokens, definitions)?;
+    let value = parser.evaluate_expression()?;
+    let Some(number) = as_line_number(value) else {
+        return Err(LineHalt::from(Halt::Fault((PreprocessorError::LineOverflow, directive))));
+    };
+    if parser.peek().is_none() {
+        return Ok(number);
+    }
+    match parser.evaluate_line() {
+        Ok(_) => Ok(number),
+        Err(halt) => Err(LineHalt {
+            halt,
+            number: Some(number),
+        }),
+    }
 }

@@ -37,5 +37,5 @@ pub mod SpelledRunLemmas
 pub mod RespellLemmas
 pub mod RunChainLemmas
 pub mod WordLemmas
-pub mod LineNumberLemmas
+pub mod LineExpressionLemmas
 pub mod PartsLemmas

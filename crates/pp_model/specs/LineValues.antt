@@ -27,7 +27,6 @@ use Rattle.pp_model.specs.Painting.{unpainted}
 use Rattle.pp_model.specs.Reading.{reading_of}
 use Rattle.pp_model.specs.Calls.{Fault, Answers}
 use Rattle.pp_model.specs.LineWords.{Words, LineWords, unexpected}
-use Rattle.pp_model.specs.declared.line_value.LineFault.{LineFault}
 use Rattle.pp_model.specs.declared.word.LineKind.TheVariants.{Condition, LineNumber}
 use Rattle.pp_model.specs.declared.word.Word.{Word}
 use Rattle.pp_model.specs.declared.word.Word.TheVariants.{Plain, Defined}
@@ -84,6 +83,15 @@ pub record ByExpression {A : Type 0} (directive : Location) (words : Words) (By 
   pub is : MatchResult evaluation (λ v. By v result)
       (λ found. result ≡ Err (placed_fault directive words found.kind found.left))
 
+-- the words after an expression
+abbrev pub words_after : ℕ → Words → Words
+words_after left words = record words { words = drop (length words.words - left) words.words }
+
+-- An expression is taken from the front of words: its value, and the words after it are left. Or it has a first fault.
+abbrev pub TakesExpression : Location → Words → Result ℤ Fault → Words → Type 0
+TakesExpression directive old result new =
+    ByExpression directive old (λ v r. (r ≡ Ok v.value) × (new ≡ words_after v.left old)) result
+
 -- what is reported of the value of an expression that is alone on its line; a word after it is a fault
 abbrev pub IsAlone : {A : Type 0} → Location → Words → (ℤ → A) → Result A Fault → Type 0
 IsAlone directive words report = ByExpression directive words (λ v result.
@@ -101,10 +109,6 @@ abbrev pub as_line_number : ℤ → Option ℕ
 as_line_number (pos n) = if nat_lt n (2 ^ 32) then Some n else None
 as_line_number (negsuc n) = None
 
--- the words after an expression
-abbrev pub words_after : ℕ → Words → Words
-words_after left words = record words { words = drop (length words.words - left) words.words }
-
 -- What the line number `n` gives with `left` words after it: they are a second expression, which has no effect unless
 -- it has a fault.
 abbrev pub NumberBefore : Location → Words → ℕ → ℕ → Result ℕ Fault → Type 0
@@ -116,11 +120,6 @@ abbrev pub Numbers : Location → Words → Result ℕ Fault → Type 0
 Numbers directive words = ByExpression directive words (λ v result.
     MatchOption (as_line_number v.value) (result ≡ Err (LineOverflow, directive))
     (λ n. NumberBefore directive words n v.left result))
-
--- the number or the first fault of a `#line`, without the number that may be before the fault
-abbrev pub without_number : Result ℕ LineFault → Result ℕ Fault
-without_number (Ok number) = Ok number
-without_number (Err refused) = Err refused.fault
 
 -- the line number that a `#line` gives, or its first fault
 pub record IsLineNumber (A : Answers) (directive : Location) (tokens : List Token) (definitions : Definitions)

@@ -1,10 +1,10 @@
-//! The value of the words of an `#if`, `#elif` or `#line` line.
+//! The expressions of an `#if`, `#elif` or `#line` line, taken from its words.
 
-ghost use Rattle.std.specs.Prelude.{◌≡◌, map, not, IfOk};
+ghost use Rattle.std.specs.Prelude.{◌≡◌, map, slice_get, IfOk, OnErr};
 ghost use Rattle.std.specs.Option.{option_copied};
-ghost use Rattle.pp_expression.specs.Arithmetic.{is_zero};
 ghost use Rattle.pp_expression.specs.FirstFault.{Evaluates};
-ghost use Rattle.pp_model.specs.LineValues.{IsAlone, Numbers, as_line_number, ended_early, line_of, symbol_of, unwanted_word, without_number, word_from_end, words_after};
+ghost use Rattle.pp_model.specs.LineValues.{TakesExpression, ended_early, line_of, symbol_of, unwanted_word};
+ghost use Rattle.pp_model.specs.LineValues.{word_from_end, words_after};
 ghost use Rattle.pp_model.specs.inner.LineValues.{fault_of_operand, reported_fault};
 
 use crate::copies::{copy_fault, copy_token};
@@ -57,27 +57,10 @@ fn word_from_end(words: &Words, left: usize) -> Option<&Word>
     words.words.get(words.words.len().saturating_sub(left))
 }
 
-/// Why a `#line` gives no line number that the rules allow.
-#[derive(Drop)]
-pub struct LineFault {
-    /// Its first fault.
-    pub fault: Fault,
-    /// The line number of its first expression, if the fault comes after that expression.
-    pub number: Option<u32>,
-}
-
-// The fault of a `#line` whose first expression gives no line number.
-fn unnumbered(fault: Fault) -> LineFault
-    ensures { result.fault ≡ fault }
-{
-    LineFault {
-        fault,
-        number: None,
-    }
-}
-
-// The fault of a word that the grammar doesn't allow at its position.
-fn unwanted_word(alloc: Global, word: &Word) -> Result<Fault, AllocError>
+/// Returns the fault of a word that the grammar doesn't allow at its position.
+///
+/// The only error is that an allocation failed.
+pub fn unwanted_word(alloc: Global, word: &Word) -> Result<Fault, AllocError>
     ensures { IfOk result (λ fault. fault ≡ unwanted_word word.now) }
 {
     match word {
@@ -142,114 +125,40 @@ fn reported_fault(
     }
 }
 
-// The value of an expression that is alone on its line, or the line's first fault.
-fn value_alone(
-    alloc: Global,
-    directive: Location,
-    words: &Words,
-) -> Result<Result<i64, Fault>, AllocError>
-    ensures { IfOk result (IsAlone directive words.now (λ value. value)) }
-{
-    match evaluation(alloc, words)? {
-        Ok(value) => match word_from_end(words, value.left) {
-            Some(word) => Ok(Err(unwanted_word(alloc, word)?)),
-            None => Ok(Ok(value.value)),
-        },
-        Err(found) => Ok(Err(reported_fault(alloc, directive, words, found)?)),
+impl Words {
+    // Passes the words of an expression, up to the last `left` words.
+    fn pass(&mut self, left: usize)
+        ensures { self.new ≡ words_after left self.old }
+    {
+        let count = self.words.len().saturating_sub(left);
+        self.words.drain(..count);
     }
-}
 
-/// Returns whether the condition of an `#if` or `#elif` line of these words holds, or its first fault.
-///
-/// `directive` is the place of the directive's word. The outer error is that an allocation failed.
-pub fn condition_of(
-    alloc: Global,
-    directive: Location,
-    words: Words,
-) -> Result<Result<bool, Fault>, AllocError>
-    ensures { IfOk result (IsAlone directive words (λ value. not (is_zero value))) }
-{
-    let value = value_alone(alloc, directive, &words);
-    drop(words);
-    match value? {
-        Ok(value) => Ok(Ok(value != 0)),
-        Err(fault) => Ok(Err(fault)),
+    /// Returns the next word, or `None` if no word is left.
+    pub fn peek(&self) -> Option<&Word>
+        ensures { option_copied result ≡ slice_get self.now.words 0 }
+    {
+        self.words.first()
     }
-}
 
-// The value as the number of a line.
-fn as_line_number(value: Value) -> Option<u32>
-    ensures { result ≡ as_line_number value.value }
-{
-    u32::try_from(value.value).ok()
-}
-
-// Passes the words of an expression, up to the last `left` words.
-fn pass_words(words: &mut Words, left: usize)
-    ensures { words.new ≡ words_after left words.old }
-{
-    let count = words.words.len().saturating_sub(left);
-    words.words.drain(..count);
-}
-
-// The number, if the words after it are one expression.
-fn number_before(
-    alloc: Global,
-    directive: Location,
-    words: &Words,
-    number: u32,
-) -> Result<Result<u32, LineFault>, AllocError>
-    ensures { IfOk result (λ answer. IsAlone directive words.now (λ value. number)
-        (without_number answer)) }
-{
-    match value_alone(alloc, directive, words)? {
-        Ok(_) => Ok(Ok(number)),
-        Err(fault) => Ok(Err(LineFault {
-            fault,
-            number: Some(number),
-        })),
-    }
-}
-
-// The number of the words of a `#line`, or its fault. The words after its first expression are left.
-fn read_numbers(
-    alloc: Global,
-    directive: Location,
-    words: &mut Words,
-) -> Result<Result<u32, LineFault>, AllocError>
-    ensures { IfOk result (λ answer. Numbers directive words.old (without_number answer)) }
-{
-    let value = match evaluation(alloc, &*words)? {
-        Ok(value) => value,
-        Err(found) => {
-            let fault = reported_fault(alloc, directive, &*words, found)?;
-            return Ok(Err(unnumbered(fault)));
+    /// Takes the longest expression at the front, and returns its value or its first fault.
+    ///
+    /// `directive` is the place of the directive's word. The outer error is that an allocation failed. Nothing is taken
+    /// from words with a fault.
+    pub fn take_expression(
+        &mut self,
+        alloc: Global,
+        directive: Location,
+    ) -> Result<Result<i64, Fault>, AllocError>
+        ensures takes { IfOk result (λ taken. TakesExpression directive self.old taken self.new) }
+        ensures keeps { IfOk result (λ taken. OnErr taken (self.new ≡ self.old)) }
+    {
+        match evaluation(alloc, &*self)? {
+            Ok(value) => {
+                self.pass(value.left);
+                Ok(Ok(value.value))
+            }
+            Err(found) => Ok(Err(reported_fault(alloc, directive, &*self, found)?)),
         }
-    };
-    let number = match as_line_number(value) {
-        Some(number) => number,
-        None => return Ok(Err(unnumbered((PreprocessorError::LineOverflow, directive)))),
-    };
-    if value.left == 0 {
-        return Ok(Ok(number));
     }
-    pass_words(&mut *words, value.left);
-    number_before(alloc, directive, &*words, number)
-}
-
-/// Returns the line number that a `#line` of these words gives, or its first fault with any number that comes before
-/// it.
-///
-/// `directive` is the place of the directive's word. The outer error is that an allocation failed.
-pub fn number_of(
-    alloc: Global,
-    directive: Location,
-    words: Words,
-) -> Result<Result<u32, LineFault>, AllocError>
-    ensures { IfOk result (λ answer. Numbers directive words (without_number answer)) }
-{
-    let mut words = words;
-    let number = read_numbers(alloc, directive, &mut words);
-    drop(words);
-    number
 }

@@ -1,19 +1,37 @@
 //! The value of an `#if`, `#elif` or `#line` line.
 
-ghost use Rattle.std.specs.Prelude.{◌≤◌};
+ghost use Rattle.std.specs.Prelude.{◌≡◌, ◌≤◌, slice_get, IfOk};
 ghost use Rattle.pp_reference.specs.inner.Changes.{meaning_of};
 ghost use Rattle.pp_model.specs.Emitting.{answers_at};
-ghost use Rattle.pp_model.specs.LineValues.{IsCondition, IsLineNumber};
+ghost use Rattle.pp_model.specs.LineValues.{IsAlone, IsCondition, IsLineNumber, as_line_number};
 ghost use Rattle.pp_reference.specs.inner.Halting.{Satisfies};
 
 use crate::definitions::Definitions;
 use crate::line_words::line_words;
 use crate::stop::{Budget, Halt};
-use pp_lexer::token::Location;
+use pp_lexer::token::{Location, PreprocessorError};
 use pp_model::definition::TokenList;
-use pp_model::line_value::{condition_of, number_of};
-use pp_model::word::LineKind;
+use pp_model::line_value::unwanted_word;
+use pp_model::word::{LineKind, Words};
 use std::alloc::Global;
+
+// The value of the words, which are one expression, or their first fault.
+fn value_alone(alloc: Global, directive: Location, words: &mut Words) -> Result<i64, Halt>
+    ensures { Satisfies result (IsAlone directive words.old (λ value. value)) }
+{
+    let value = words.take_expression(alloc, directive)??;
+    match words.peek() {
+        Some(word) => Err(Halt::Fault(unwanted_word(alloc, word)?)),
+        None => Ok(value),
+    }
+}
+
+// The value as the number of a line.
+fn as_line_number(value: i64) -> Option<u32>
+    ensures { result ≡ as_line_number value }
+{
+    u32::try_from(value).ok()
+}
 
 /// Whether the condition of an `#if` or `#elif` line holds, or its first fault.
 pub fn condition(
@@ -29,7 +47,7 @@ pub fn condition(
     ensures budget { budget.new.steps ≤ budget.old.steps }
 {
     let kind = LineKind::Condition;
-    let words = line_words(
+    let mut words = line_words(
         alloc,
         kind,
         directive,
@@ -38,7 +56,8 @@ pub fn condition(
         levels,
         budget,
     )?;
-    Ok(condition_of(alloc, directive, words)??)
+    let value = value_alone(alloc, directive, &mut words)?;
+    Ok(value != 0)
 }
 
 /// The line number of a `#line`, or its first fault.
@@ -55,7 +74,7 @@ pub fn line_number(
     ensures budget { budget.new.steps ≤ budget.old.steps }
 {
     let kind = LineKind::LineNumber;
-    let words = line_words(
+    let mut words = line_words(
         alloc,
         kind,
         directive,
@@ -64,8 +83,13 @@ pub fn line_number(
         levels,
         budget,
     )?;
-    match number_of(alloc, directive, words)? {
-        Ok(number) => Ok(number),
-        Err(refused) => Err(Halt::from(refused.fault)),
+    let value = words.take_expression(alloc, directive)??;
+    let Some(number) = as_line_number(value) else {
+        return Err(Halt::Fault((PreprocessorError::LineOverflow, directive)));
+    };
+    if words.peek().is_none() {
+        return Ok(number);
     }
+    value_alone(alloc, directive, &mut words)?;
+    Ok(number)
 }

@@ -1,69 +1,27 @@
--- What the reader of the words of an `#if`, `#elif` or `#line` line gives (docs/RULES.md, Expressions 1 to 3).
-use Rattle.std.specs.Prelude.{◌≡◌, ℕ, List, [], map, Bool, Option, Some, None, Result, MatchResult, IfOk, IfSome}
+-- The expressions of an `#if`, `#elif` or `#line` line (docs/RULES.md, Expressions 3 to 7).
+use Rattle.std.specs.Prelude.{◌≡◌, ℤ, List, Result, MatchResult}
 use Rattle.pp_lexer.specs.declared.token.Location.{Location}
 use Rattle.pp_lexer.specs.declared.token.Token.{Token}
-use Rattle.pp_model.specs.declared.read.Read.{Read}
-use Rattle.pp_model.specs.Painting.{unpainted}
-use Rattle.pp_model.specs.Names.{Name}
 use Rattle.pp_model.specs.Calls.{Fault}
-use Rattle.pp_model.specs.Emitting.{answers_at}
-use Rattle.pp_model.specs.LineWords.{Words, LineWords, name_in, unwanted_part}
-use Rattle.pp_model.specs.Reading.{reading_of}
+use Rattle.pp_model.specs.Emitting.{expansion_limit}
+use Rattle.pp_model.specs.LineWords.{Words}
+use Rattle.pp_model.specs.LineValues as line
 use Rattle.pp_model.specs.declared.word.LineKind.{LineKind}
-use Rattle.pp_macros.specs.inner.Defined.{Defined, meaning_of}
-use Rattle.pp_directives.specs.inner.LineItems.{IsOnLine, IsWorkLess, ReadsItem, ReadsTaken, ReadsOperand}
-use Rattle.pp_directives.specs.inner.LineItems.{ReadsInParentheses, ReadsClosed, expander_of, taken_of_read}
-use Rattle.pp_macros.specs.declared.halt.Halt.{Halt}
-use Rattle.pp_directives.specs.declared.if_parser.IfParser.{IfParser}
-use Rattle.pp_directives.specs.declared.if_parser.LineExpander.{LineExpander}
+use Rattle.pp_macros.specs.inner.Defined.{Defined}
+use Rattle.pp_directives.specs.inner.ReadingWords.{AreWordsOfLine}
 
--- the line is being read, with the parser's definitions
-abbrev pub IsReading : IfParser → LineExpander → Type 0
-IsReading parser line = IsOnLine parser.definitions.now line.expander line.lexer
+-- the place of the directive's word, and the words that are left of its line
+pub record IfParser : Type 0 where
+  pub directive : Location
+  pub words : Words
 
--- the next item
-abbrev pub GivesItem : IfParser → LineExpander → Result (Option Read) Halt → LineExpander → Type 0
-GivesItem parser old result new =
-    ReadsItem parser.levels parser.definitions.now old.expander old.lexer result new.expander new.lexer
+-- no word of the line is taken yet
+pub record IsAtFront (kind : LineKind) (directive : Location) (tokens : List Token) (definitions : List Defined)
+    (parser : IfParser) : Type 0 where
+  pub place : parser.directive ≡ directive
+  pub words : AreWordsOfLine kind directive expansion_limit tokens definitions parser.words
 
--- if a token is given, less of the line is left after it
-abbrev pub TakesOff : IfParser → LineExpander → Result (Option Read) Halt → LineExpander → Type 0
-TakesOff parser old result new =
-    IfOk result (λ found. IfSome found (λ read. IsWorkLess parser.levels old.expander old.lexer new.expander new.lexer))
-
--- what is taken next
-abbrev pub GivesTaken : IfParser → LineExpander → Result (Option Read) Halt → LineExpander → Type 0
-GivesTaken parser old result new =
-    ReadsTaken parser.levels parser.definitions.now old.expander old.lexer result new.expander new.lexer
-
--- the name of an identifier, or the fault of anything else, if a part of `defined` is needed here
-abbrev pub IsNameOrFault : Location → Option Read → Result Name Fault → Type 0
-IsNameOrFault directive found result =
-    MatchResult result (λ name. name_in (taken_of_read found) ≡ Some name)
-    (λ fault. (name_in (taken_of_read found) ≡ None) × (fault ≡ unwanted_part directive (taken_of_read found)))
-
--- what the operand of a `defined` gives; the same after its `(`; and after the `(` and the name
-abbrev pub GivesOperand : IfParser → LineExpander → Result Bool Halt → LineExpander → Type 0
-GivesOperand parser old result new =
-    ReadsOperand parser.kind parser.directive parser.levels parser.definitions.now old.expander old.lexer
-    result new.expander new.lexer
-
-abbrev pub GivesInParentheses : IfParser → LineExpander → Result Bool Halt → LineExpander → Type 0
-GivesInParentheses parser old result new =
-    ReadsInParentheses parser.kind parser.directive parser.levels parser.definitions.now old.expander
-    old.lexer result new.expander new.lexer
-
-abbrev pub GivesClosed : IfParser → Name → LineExpander → Result Bool Halt → LineExpander → Type 0
-GivesClosed parser name old result new =
-    ReadsClosed parser.kind parser.directive parser.levels parser.definitions.now name old.expander
-    old.lexer result new.expander new.lexer
-
--- the words that the rest of the line gives
-abbrev pub AreWordsOf : IfParser → LineExpander → Words → Type 0
-AreWordsOf parser line words =
-    LineWords parser.kind parser.directive (answers_at parser.levels) (expander_of line.expander line.lexer) words
-
--- the words that the whole line gives
-abbrev pub AreWordsOfLine : LineKind → Location → ℕ → List Token → List Defined → Words → Type 0
-AreWordsOfLine kind directive levels tokens definitions words =
-    LineWords kind directive (answers_at levels) (reading_of (map unpainted tokens) (meaning_of definitions) []) words
+-- an expression is taken: its value, or its first fault
+pub record TakesExpression (old : IfParser) (taken : Result ℤ Fault) (new : IfParser) : Type 0 where
+  pub place : new.directive ≡ old.directive
+  pub takes : line.TakesExpression old.directive old.words taken new.words

@@ -1,6 +1,6 @@
 use Rattle.std.proofs.Common.{inl}
 use Rattle.pp_directives.proofs.LineReadLemmas.{items_start, items_token, items_token_less}
-use Rattle.pp_directives.proofs.if_parser.IfParser.next_item.Goals as goal
+use Rattle.pp_directives.proofs.line_words.WordReader.next_item.Goals as goal
 
 pub returns-in-Some-clause-reads : goal.returns-in-Some-clause-reads
 returns-in-Some-clause-reads c = items_token _ _ _ _ _ _ (items_start _ _ _ _ c.requires) _ _ c.in-Some.read (inl c.in-Some.ensures.turns)

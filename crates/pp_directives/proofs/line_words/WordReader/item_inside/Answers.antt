@@ -3,7 +3,7 @@ use Rattle.std.specs.Prelude.{Err}
 use Rattle.std.proofs.lemmas.Result.{err_from_is_err_and}
 use Rattle.pp_macros.specs.inner.Finishing.{Finishes}
 use Rattle.pp_directives.proofs.LineReadLemmas.{items_start, items_token, items_token_less, items_end, items_pause, items_pause_less, items_fault, items_call, items_call_less, items_call_fault}
-use Rattle.pp_directives.proofs.if_parser.IfParser.item_inside.Goals as goal
+use Rattle.pp_directives.proofs.line_words.WordReader.item_inside.Goals as goal
 
 pub items-init : goal.items-init
 items-init c = items_start _ _ _ _ c.requires.stands

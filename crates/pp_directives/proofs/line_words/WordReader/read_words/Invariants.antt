@@ -1,7 +1,7 @@
 use Rattle.pp_macros.specs.inner.Left.{work_of}
 use Rattle.pp_macros.specs.inner.Reader.{of_list}
 use Rattle.pp_directives.proofs.LineWordsLemmas.{WordsOn}
-use Rattle.pp_directives.proofs.if_parser.IfParser.read_words.Given as goal
+use Rattle.pp_directives.proofs.line_words.WordReader.read_words.Given as goal
 
 abbrev pub invariant-words : goal.invariant-words
 invariant-words l = WordsOn l.self.kind l.self.directive l.self.levels l.self.definitions.now l.initial.line.expander l.initial.line.lexer

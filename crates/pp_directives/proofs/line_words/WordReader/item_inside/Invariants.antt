@@ -1,7 +1,7 @@
 use Rattle.pp_macros.specs.inner.Left.{work_of}
 use Rattle.pp_macros.specs.inner.Reader.{of_list}
 use Rattle.pp_directives.proofs.LineReadLemmas.{ItemsOn}
-use Rattle.pp_directives.proofs.if_parser.IfParser.item_inside.Given as goal
+use Rattle.pp_directives.proofs.line_words.WordReader.item_inside.Given as goal
 
 abbrev pub invariant-items : goal.invariant-items
 invariant-items l = ItemsOn l.self.levels l.self.definitions.now l.initial.line.expander l.initial.line.lexer l.line.expander l.line.lexer

@@ -1,6 +1,6 @@
 use Rattle.std.proofs.Common.{sym, ◌∙◌}
 use Rattle.pp_directives.proofs.LineOperandLemmas.{operand_opened, operand_name, operand_fault}
-use Rattle.pp_directives.proofs.if_parser.IfParser.operand.Goals as goal
+use Rattle.pp_directives.proofs.line_words.WordReader.operand.Goals as goal
 
 pub returns-then-is_open_paren : goal.returns-then-is_open_paren
 returns-then-is_open_paren c =

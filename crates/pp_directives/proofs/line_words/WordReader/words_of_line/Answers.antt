@@ -4,7 +4,7 @@ use Rattle.pp_model.specs.Painting.{unpainted}
 use Rattle.pp_model.specs.declared.read.Read.{Read}
 use Rattle.pp_macros.specs.Held.{HoldsOrdinary}
 use Rattle.pp_macros.specs.inner.Reading.{AllReadOrdinary}
-use Rattle.pp_directives.proofs.if_parser.IfParser.words_of_line.Goals as goal
+use Rattle.pp_directives.proofs.line_words.WordReader.words_of_line.Goals as goal
 
 pub line-lexer-requires : goal.line-lexer-requires
 line-lexer-requires c = subst AllReadOrdinary (sym (c.deref_mut.ensures.value ∙ c.into_reads-reads.ensures))

@@ -1,5 +1,5 @@
 use Rattle.pp_directives.proofs.LineOperandLemmas.{parenthesized_name, parenthesized_fault}
-use Rattle.pp_directives.proofs.if_parser.IfParser.operand_in_parentheses.Goals as goal
+use Rattle.pp_directives.proofs.line_words.WordReader.operand_in_parentheses.Goals as goal
 
 pub returns-in-Ok : goal.returns-in-Ok
 returns-in-Ok c =

@@ -2,7 +2,7 @@ use Rattle.std.proofs.Common.{sym, ap, ◌∙◌}
 use Rattle.std.specs.Prelude.{Err}
 use Rattle.std.proofs.lemmas.Result.{err_from_is_err_and}
 use Rattle.pp_directives.proofs.LineOperandLemmas.{closed_broken, closed_answer, closed_fault}
-use Rattle.pp_directives.proofs.if_parser.IfParser.closed_operand.Goals as goal
+use Rattle.pp_directives.proofs.line_words.WordReader.closed_operand.Goals as goal
 
 pub returns-in_err-found : goal.returns-in_err-found
 returns-in_err-found c =

@@ -1,5 +1,5 @@
 use Rattle.pp_directives.proofs.LineWordsLemmas.{words_start, words_end, words_fault, words_refused, words_plain, words_answered, words_faulty}
-use Rattle.pp_directives.proofs.if_parser.IfParser.read_words.Goals as goal
+use Rattle.pp_directives.proofs.line_words.WordReader.read_words.Goals as goal
 
 pub words-init : goal.words-init
 words-init c = words_start _ _ _ _ _ _ _ c.requires c.in_ok-words.ensures.items
