@@ -11,10 +11,11 @@ ghost use Rattle.pp_directives.specs.inner.LineItems.{taken_of_read};
 use crate::token_list::LineReads;
 use pp_lexer::token::{Location, PreprocessorError, Text, Token, TokenValue};
 use pp_macros::arguments::finish_call;
-use pp_macros::calls::{Expander, Taken};
+use pp_macros::calls::Taken;
 use pp_macros::halt::{Halt, halt_of};
 use pp_macros::list_lexer::ListLexer;
 use pp_macros::list_step::{step_list, step_unnamed, take_list};
+use pp_macros::macro_processor::MacroProcessor;
 use pp_macros::names::Definitions;
 use pp_macros::open_around::OpenAround;
 use pp_macros::step::StepExit;
@@ -27,7 +28,7 @@ use std::alloc::{AllocError, Global};
 // A line that is being read: the open macros, and the rest of its tokens.
 #[derive(Drop)]
 struct LineExpander<'a> {
-    expander: Expander,
+    expander: MacroProcessor,
     lexer: ListLexer<'a>,
 }
 
@@ -254,7 +255,7 @@ impl<'a> WordReader<'a> {
         let mut reads = tokens.into_reads();
         let lexer = ListLexer::line(&mut reads, definitions, &*around);
         let mut line = LineExpander {
-            expander: Expander::new(self.alloc),
+            expander: MacroProcessor::new(self.alloc),
             lexer,
         };
         let words = self.read_words(&mut line);

@@ -14,11 +14,12 @@ ghost use Rattle.pp_macros.specs.inner.Plain.{is_plain};
 ghost use Rattle.pp_macros.specs.declared.step.StepExit.TheVariants.{Error};
 
 use crate::argument_lists::{ArgumentLists, Part};
-use crate::calls::{Expander, MacroCall, Taken};
+use crate::calls::{MacroCall, Taken};
 use crate::define::Define;
 use crate::halt::{Halt, halt_of};
 use crate::list_lexer::{ListLexer, take_out};
 use crate::list_step::step_list;
+use crate::macro_processor::MacroProcessor;
 use crate::names::{Definitions, gives_itself};
 use crate::open_around::OpenAround;
 use crate::spares::Spares;
@@ -87,7 +88,7 @@ fn misfit(define: &Define, arguments: &ArgumentLists) -> Option<PreprocessorErro
 #[cycle(answers)]
 pub fn finish_call(
     alloc: Global,
-    expander: &mut Expander,
+    expander: &mut MacroProcessor,
     mut call: MacroCall,
     definitions: &Definitions,
     hidden: &OpenAround<'_>,
@@ -116,7 +117,7 @@ pub fn finish_call(
 fn expand_call(
     alloc: Global,
     spares: &mut Spares,
-    expander: &Expander,
+    expander: &MacroProcessor,
     call: &mut MacroCall,
     definitions: &Definitions,
     hidden: &OpenAround<'_>,
@@ -151,7 +152,7 @@ fn expand_call(
 fn expand_within(
     alloc: Global,
     spares: &mut Spares,
-    expander: &Expander,
+    expander: &MacroProcessor,
     arguments: ArgumentLists,
     definitions: &Definitions,
     hidden: &OpenAround<'_>,
@@ -161,7 +162,7 @@ fn expand_within(
         (names_of expander.now.frames ++ hidden.now) arguments out) }
     ensures least { IfOk result (λ outs. AreShort levels definitions.now arguments outs) }
 {
-    let around = (&*expander).around(&*hidden)?;
+    let around = OpenAround::within(alloc, &*expander, &*hidden)?;
     expand_arguments(alloc, spares, arguments, definitions, &around, levels)
 }
 
@@ -318,7 +319,7 @@ fn expand_tokens(
     ensures holds { OnOk result (AllReadOrdinary items.new.items) }
 {
     let lent = mem::replace(spares, Spares::none(alloc));
-    let mut expander = Expander::over(alloc, lent)?;
+    let mut expander = MacroProcessor::over(alloc, lent)?;
     let mut lexer = ListLexer::argument(tokens, definitions, &*hidden);
     let ended = expand_list(
         alloc,
@@ -338,7 +339,7 @@ fn expand_tokens(
 #[cycle(answers)]
 fn expand_list(
     alloc: Global,
-    expander: &mut Expander,
+    expander: &mut MacroProcessor,
     lexer: &mut ListLexer<'_>,
     items: &mut Vec<Read>,
     definitions: &Definitions,

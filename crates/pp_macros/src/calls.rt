@@ -19,13 +19,10 @@ ghost use Rattle.pp_lexer.specs.declared.token.PreprocessorError.TheVariants.{Un
 
 mod giving;
 
-use crate::argument_lists::ArgumentLists;
 use crate::define::{Define, Macro};
 use crate::halt::{Halt, halt_of};
 use crate::macro_processor::{MacroProcessor, gives_line_name};
-use crate::open_around::OpenAround;
 use crate::reader::MeLexer;
-use crate::spares::Spares;
 use crate::step::{Step, StepExit, is_out_of_memory};
 use pp_lexer::token::{Location, PreprocessorError, Text, Token, TokenValue, out_of_memory};
 use pp_model::parentheses::{Nesting, is_left_paren, nesting_of};
@@ -78,6 +75,15 @@ impl MacroCall {
     {
         self.paren
     }
+
+    /// Its macro, and the line of its `)`.
+    pub fn into_macro(self) -> (Rc<Macro>, u32)
+        ensures name { result.0.value.name ≡ self.name }
+        ensures definition { result.0.value.definition ≡ self.definition }
+        ensures line { result.1 ≡ self.closing.line }
+    {
+        (self.opened, self.closing.line)
+    }
 }
 
 /// What a step gives: a token, or a call whose arguments are not expanded yet.
@@ -87,26 +93,6 @@ pub enum Taken {
     Token(Read),
     /// A call.
     Call(MacroCall),
-}
-
-/// An expander: the open macros, and a step that was taken in the search for a `(` and is held.
-#[derive(Drop)]
-pub struct Expander {
-    alloc: Global,
-    processor: MacroProcessor,
-    held: Option<Step<Read>>,
-}
-
-impl Model for Expander {
-    ghost use Rattle.std.specs.Prelude.{IfSome, IfOk};
-    ghost use Rattle.pp_macros.specs.Held.{HoldsOrdinary};
-    ghost use Rattle.pp_macros.specs.inner.Expander as spec;
-
-    ghost Value = { spec.Expander };
-
-    ghost view = { λ c. record { held = c.held; frames = c.processor } };
-
-    ghost invariant = { λ c. IfSome c.held (λ step. IfOk step (λ read. HoldsOrdinary read.token.value)) };
 }
 
 /// The tokens between the parentheses of a call, and the place of the closing one.
@@ -224,94 +210,14 @@ fn room_for(define: &Define) -> usize {
     define.parameters().len().saturating_mul(2).clamp(16, 256)
 }
 
-impl Expander {
-    /// An expander in which nothing is open or held.
-    pub fn new(alloc: Global) -> Expander
-        ensures { result ≡ record { held = None; frames = [] } }
-    {
-        Expander {
-            alloc,
-            processor: MacroProcessor::new(alloc),
-            held: None,
-        }
-    }
-
-    /// An expander in which nothing is open or held. It has these spare lists.
-    pub fn over(alloc: Global, spares: Spares) -> Result<Expander, AllocError>
-        ensures { IfOk result (λ expander. expander ≡ record { held = None; frames = [] }) }
-    {
-        Ok(Expander {
-            alloc,
-            processor: MacroProcessor::over(alloc, spares)?,
-            held: None,
-        })
-    }
-
-    /// Its spare lists.
-    pub(crate) fn into_spares(self) -> Spares {
-        self.processor.into_spares()
-    }
-
-    /// Moves its spare lists out. `return_spares` takes them back.
-    pub fn lend_spares(&mut self) -> Spares
-        ensures { self.new ≡ self.old }
-    {
-        self.processor.lend_spares()
-    }
-
-    /// Takes spare lists in place of those that it has.
-    pub fn return_spares(&mut self, spares: Spares)
-        ensures { self.new ≡ self.old }
-    {
-        self.processor.return_spares(spares);
-    }
-
-    /// Whether nothing is open or held. The next token then comes from the reader.
-    #[inline(always)]
-    pub fn is_idle(&self) -> bool
-        ensures { result ≡ is_idle self.now }
-    {
-        self.held.is_none() && self.processor.is_idle()
-    }
-
-    /// Whether a step is held, which was taken in the search for a `(`.
-    pub fn is_holding(&self) -> bool
-        ensures { result ≡ is_some self.now.held }
-    {
-        self.held.is_some()
-    }
-
-    /// The line of the outermost macro that is open: the line of its name, or of the `)` of its call.
-    pub fn outermost_line(&self) -> Option<u32>
-        ensures { result ≡ outermost_frame_line self.now.frames }
-    {
-        self.processor.outermost_line()
-    }
-
-    /// Holds a token that was taken. It is the next step.
-    pub fn hold(&mut self, token: Token)
-        requires { HoldsOrdinary token.value }
-        ensures { self.new ≡ record self.old { held = Some (Ok (unpainted token)) } }
-    {
-        self.put_back(Ok(Read::unpainted(token)));
-    }
-
-    // Holds a step.
-    #[inline(always)]
-    fn put_back(&mut self, step: Step<Read>)
-        requires { IfOk step (λ read. HoldsOrdinary read.token.value) }
-        ensures { self.new ≡ record self.old { held = Some step } }
-    {
-        drop(self.held.replace(step));
-    }
-
+impl MacroProcessor {
     // One step of taking. An identifier is painted if its name is open, here or around.
     fn take(&mut self, lexer: &mut dyn MeLexer) -> Step<Read>
         ensures steps { StepsTaking self.old (reader lexer.old) result self.new (reader lexer.new) }
         ensures holds { IfOk result (λ read. HoldsOrdinary read.token.value) }
     {
         let mut read = self.fetch(lexer)?;
-        self.processor.paint(&*lexer, &mut read);
+        self.paint(&*lexer, &mut read);
         Ok(read)
     }
 
@@ -321,28 +227,14 @@ impl Expander {
             (reader lexer.new) }
         ensures holds { IfOk result (λ read. HoldsOrdinary read.token.value) }
     {
-        if self.held.is_some() {
+        if self.is_holding() {
             return self.take_held();
         }
-        let step = self.processor.advance(lexer);
+        let step = self.step_frames(lexer);
         if gives_line_name(&step) {
             return self.show_line(&*lexer, step);
         }
         step
-    }
-
-    // Takes the step that is held. It is a function of its own, like `show_line`, so that other tokens are moved less.
-    #[inline(never)]
-    fn take_held(&mut self) -> Step<Read>
-        requires { IsSome self.old.held }
-        ensures held { self.old.held ≡ Some result }
-        ensures left { self.new ≡ record self.old { held = None } }
-        ensures holds { IfOk result (λ read. HoldsOrdinary read.token.value) }
-    {
-        match self.held.take() {
-            Some(step) => step,
-            None => unreachable!(),
-        }
     }
 
     // Turns a `__LINE__` that was read into a number.
@@ -353,7 +245,7 @@ impl Expander {
         ensures holds { IfOk result (λ read. HoldsOrdinary read.token.value) }
     {
         match step {
-            Ok(read) => self.processor.take_in(lexer, read),
+            Ok(read) => self.take_in(lexer, read),
             Err(exit) => Err(exit),
         }
     }
@@ -411,7 +303,7 @@ impl Expander {
         ensures gathers { Satisfies result
             (λ g. GathersNext 0 paren self.old (reader lexer.old) g self.new (reader lexer.new)) }
     {
-        let mut tokens = self.processor.take_tokens(room)?;
+        let mut tokens = self.take_tokens(room)?;
         let closing = self.gather_tokens(lexer, paren, &mut tokens)?;
         Ok(Gathered { tokens, closing })
     }
@@ -473,17 +365,6 @@ impl Expander {
                 Ok(AfterName::Whole(paren, gathered))
             }
         }
-    }
-
-    /// Opens the frame of an object-like macro.
-    #[inline(always)]
-    pub fn open_bare(&mut self, opened: Rc<Macro>, line: u32) -> Result<(), AllocError>
-        ensures { OnOk result (self.new ≡ record self.old {
-          frames = new_frame opened.value.name line opened.value.definition []
-              ∷ self.old.frames;
-        }) }
-    {
-        self.processor.open_bare(opened, line)
     }
 
     // Opens the frame of an object-like macro, as a step.
@@ -587,29 +468,5 @@ impl Expander {
             Ok(read) => self.follow(lexer, read),
             Err(exit) => Err(exit),
         }
-    }
-
-    /// The macros that are open here or around.
-    pub fn around<'a>(&'a self, hidden: &OpenAround<'a>) -> Result<OpenAround<'a>, AllocError>
-        ensures { IfOk result (λ names. names ≡ names_of self.now.frames ++ hidden.now) }
-    {
-        OpenAround::within(self.alloc, &self.processor, hidden)
-    }
-
-    /// Opens the frame of a call.
-    pub fn open_call(&mut self, call: MacroCall, arguments: ArgumentLists) -> Result<(), AllocError>
-        ensures { OnOk result (self.new
-            ≡ record self.old {
-              frames = new_frame call.name call.closing.line call.definition arguments
-                  ∷ self.old.frames;
-            }) }
-    {
-        let MacroCall {
-            opened,
-            paren: _,
-            closing,
-            tokens: _,
-        } = call;
-        self.processor.open(opened, closing.line, arguments)
     }
 }

@@ -7,15 +7,16 @@ ghost use Rattle.pp_macros.specs.inner.Expander.{TakesNext};
 ghost use Rattle.pp_macros.specs.inner.Reader.{of_list};
 ghost use Rattle.pp_macros.specs.declared.calls.Taken.TheVariants as taken;
 
-use crate::calls::{Expander, Taken};
+use crate::calls::Taken;
 use crate::list_lexer::ListLexer;
+use crate::macro_processor::MacroProcessor;
 use crate::step::{Step, StepExit};
 use pp_model::read::Read;
 
 /// One step of the expander, with a list as what follows the frames, if nothing is open or held and the list's next
 /// token is no name that may open a macro: the token. Otherwise nothing changes.
 #[inline(always)]
-pub fn step_unnamed(expander: &Expander, list: &mut ListLexer<'_>) -> Option<Read>
+pub fn step_unnamed(expander: &MacroProcessor, list: &mut ListLexer<'_>) -> Option<Read>
     ensures turns { MatchOption result (list.new ≡ list.old) (λ read. TurnsTo expander.now (of_list list.old)
         (Ok (taken.Token read)) expander.now (of_list list.new)) }
     ensures holds { IfSome result (λ read. HoldsOrdinary read.token.value) }
@@ -28,7 +29,7 @@ pub fn step_unnamed(expander: &Expander, list: &mut ListLexer<'_>) -> Option<Rea
 
 /// One step of the expander, with a list as what follows the frames.
 #[inline(always)]
-pub fn step_list(expander: &mut Expander, list: &mut ListLexer<'_>) -> Step<Taken>
+pub fn step_list(expander: &mut MacroProcessor, list: &mut ListLexer<'_>) -> Step<Taken>
     ensures turns { TurnsOrRefuses expander.old (of_list list.old) result expander.new
         (of_list list.new) }
     ensures holds { IfOk result TakenHoldsOrdinary }
@@ -43,7 +44,7 @@ pub fn step_list(expander: &mut Expander, list: &mut ListLexer<'_>) -> Step<Take
 }
 
 // Does the same with any token.
-fn step_any(expander: &mut Expander, list: &mut ListLexer<'_>) -> Step<Taken>
+fn step_any(expander: &mut MacroProcessor, list: &mut ListLexer<'_>) -> Step<Taken>
     ensures turns { TurnsOrRefuses expander.old (of_list list.old) result expander.new
         (of_list list.new) }
     ensures holds { IfOk result TakenHoldsOrdinary }
@@ -52,7 +53,7 @@ fn step_any(expander: &mut Expander, list: &mut ListLexer<'_>) -> Step<Taken>
 }
 
 /// Takes the next token without looking it up, with a list as what follows the frames.
-pub fn take_list(expander: &mut Expander, list: &mut ListLexer<'_>) -> Step<Read>
+pub fn take_list(expander: &mut MacroProcessor, list: &mut ListLexer<'_>) -> Step<Read>
     ensures takes { TakesNext expander.old (of_list list.old) result expander.new (of_list list.new) }
     ensures holds { IfOk result (λ read. HoldsOrdinary read.token.value) }
 {
@@ -65,7 +66,7 @@ pub fn take_list(expander: &mut Expander, list: &mut ListLexer<'_>) -> Step<Read
 }
 
 // Does the same with any token.
-fn take_any(expander: &mut Expander, list: &mut ListLexer<'_>) -> Step<Read>
+fn take_any(expander: &mut MacroProcessor, list: &mut ListLexer<'_>) -> Step<Read>
     ensures takes { TakesNext expander.old (of_list list.old) result expander.new (of_list list.new) }
     ensures holds { IfOk result (λ read. HoldsOrdinary read.token.value) }
 {

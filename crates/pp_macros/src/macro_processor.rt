@@ -1,21 +1,24 @@
 //! The macros that are open, over a reader.
 
-ghost use Rattle.std.specs.Prelude.{◌≡◌, ◌≤◌, ◌<◌, ◌-◌, ◌∷◌, [], drop, take, IfOk, IfSome, OnErr, OnOk, MatchOption, MatchResult, Ok, Err, Some, None, IsSome, option_map, is_some, not, pos, false};
+ghost use Rattle.std.specs.Prelude.{◌≡◌, ◌≤◌, ◌<◌, ◌-◌, ◌∷◌, [], drop, take, IfOk, IfSome, OnErr, OnOk, MatchOption, MatchResult, Ok, Err, Some, None, IsSome, option_map, is_some, pos, false};
 ghost use Rattle.std.specs.List.{list_any};
 ghost use Rattle.std.specs.Str.{chars};
 ghost use Rattle.pp_lexer.specs.declared.token.PreprocessorError.TheVariants.{LineOverflow};
 ghost use Rattle.pp_lexer.specs.declared.token.TokenValue.TheVariants as value;
 ghost use Rattle.pp_model.specs.Names.{is_in, is_same_name};
-ghost use Rattle.pp_model.specs.Painting.{is_one_of, painted_among};
+ghost use Rattle.pp_model.specs.Painting.{is_one_of, painted_among, unpainted};
 ghost use Rattle.pp_model.specs.declared.read.Taken.TheVariants as given;
 ghost use Rattle.pp_macros.specs.inner.Frames.{new_frame, names_of, outermost_frame_line};
 ghost use Rattle.pp_macros.specs.Held.{HoldsOrdinary};
-ghost use Rattle.pp_macros.specs.inner.Ahead.{given_next, frames_after};
+ghost use Rattle.pp_macros.specs.inner.Ahead.{given_next};
+ghost use Rattle.pp_macros.specs.inner.Giving.{passed};
+ghost use Rattle.pp_macros.specs.inner.Idle.{is_idle};
 ghost use Rattle.pp_macros.specs.inner.OpenNames.{after_closing, after_opening};
 ghost use Rattle.pp_macros.specs.inner.Turns.{Moves, taken_in, masks, gives_line_name, macro_of_value};
 ghost use Rattle.pp_macros.specs.declared.step.StepExit.TheVariants.{Error, Continue};
 
 use crate::argument_lists::ArgumentLists;
+use crate::calls::MacroCall;
 use crate::define::Macro;
 use crate::frames::{Ahead, Frame, give};
 use crate::marks::Marks;
@@ -35,11 +38,13 @@ use std::rc::Rc;
 // The names of this many macros, the outermost ones, are compared one by one.
 const FEW: usize = 16;
 
-/// Macros that are open, the innermost last.
+/// Macros that are open, the innermost last, over a reader, and a step that was taken in the search for a `(` and is
+/// held.
 #[derive(Drop)]
 pub struct MacroProcessor {
     alloc: Global,
     frames: Vec<Frame>,
+    held: Option<Step<Read>>,
     // the names of the macros that are open inside the first `FEW`
     open_names: OpenNames,
     // those of the open macros, and of others that have closed since the outermost one opened
@@ -48,18 +53,20 @@ pub struct MacroProcessor {
 }
 
 impl Model for MacroProcessor {
-    ghost use Rattle.std.specs.Prelude.{◌≡◌, List, reverse};
-    ghost use Rattle.pp_macros.specs.inner.Frames as spec;
+    ghost use Rattle.std.specs.Prelude.{◌≡◌, IfOk, IfSome, reverse};
+    ghost use Rattle.pp_macros.specs.Held.{HoldsOrdinary};
+    ghost use Rattle.pp_macros.specs.inner.Expander as spec;
     ghost use Rattle.pp_macros.specs.inner.Frames.{names_of};
     ghost use Rattle.pp_macros.specs.inner.Marks.{AreMarked};
     ghost use Rattle.pp_macros.specs.inner.OpenNames.{deeper_names, outermost_positions};
 
-    ghost Value = { List spec.Frame };
+    ghost Value = { spec.Expander };
 
-    ghost view = { λ p. reverse p.frames.items };
+    ghost view = { λ p. record { held = p.held; frames = reverse p.frames.items } };
 
     ghost invariant = { λ p. (p.open_names ≡ outermost_positions (deeper_names (names_of (reverse p.frames.items))))
-        × AreMarked p.marks (names_of (reverse p.frames.items)) };
+        × AreMarked p.marks (names_of (reverse p.frames.items))
+        × IfSome p.held (λ step. IfOk step (λ read. HoldsOrdinary read.token.value)) };
 }
 
 // Whether the frame is of the macro with this name.
@@ -149,27 +156,29 @@ pub fn make_line_number(line: u32, location: Location) -> Token
 }
 
 impl MacroProcessor {
-    /// No macro is open. It allocates nothing.
+    /// No macro is open, and nothing is held. It allocates nothing.
     pub fn new(alloc: Global) -> MacroProcessor
-        ensures { result ≡ [] }
+        ensures { result ≡ record { held = None; frames = [] } }
     {
         MacroProcessor {
             alloc,
             frames: Vec::new(alloc),
+            held: None,
             open_names: OpenNames::new(alloc),
             marks: Marks::none(),
             spares: Spares::none(alloc),
         }
     }
 
-    /// No macro is open. It has these spare lists.
+    /// No macro is open, and nothing is held. It has these spare lists.
     pub fn over(alloc: Global, mut spares: Spares) -> Result<MacroProcessor, AllocError>
-        ensures { IfOk result (λ processor. processor ≡ []) }
+        ensures { IfOk result (λ processor. processor ≡ record { held = None; frames = [] }) }
     {
         let frames = spares.take_frames(alloc)?;
         Ok(MacroProcessor {
             alloc,
             frames,
+            held: None,
             open_names: OpenNames::new(alloc),
             marks: Marks::none(),
             spares,
@@ -205,18 +214,71 @@ impl MacroProcessor {
         self.spares.take_tokens(self.alloc, room)
     }
 
-    /// Whether no macro is open.
+    /// Where its lists are allocated.
+    #[inline(always)]
+    pub(crate) fn alloc(&self) -> Global {
+        self.alloc
+    }
+
+    /// Whether a macro is open.
+    #[inline(always)]
+    pub fn has_frames(&self) -> bool
+        ensures { result ≡ is_some (outermost_frame_line self.now.frames) }
+    {
+        self.outermost_line().is_some()
+    }
+
+    /// Whether nothing is open or held. The next token then comes from the reader.
     #[inline(always)]
     pub fn is_idle(&self) -> bool
-        ensures { is_some (outermost_frame_line self.now) ≡ not result }
+        ensures { result ≡ is_idle self.now }
     {
-        self.outermost_line().is_none()
+        self.held.is_none() && !self.has_frames()
+    }
+
+    /// Whether a step is held, which was taken in the search for a `(`.
+    #[inline(always)]
+    pub fn is_holding(&self) -> bool
+        ensures { result ≡ is_some self.now.held }
+    {
+        self.held.is_some()
+    }
+
+    /// Holds a token that was taken. It is the next step.
+    pub fn hold(&mut self, token: Token)
+        requires { HoldsOrdinary token.value }
+        ensures { self.new ≡ record self.old { held = Some (Ok (unpainted token)) } }
+    {
+        self.put_back(Ok(Read::unpainted(token)));
+    }
+
+    /// Holds a step.
+    #[inline(always)]
+    pub fn put_back(&mut self, step: Step<Read>)
+        requires { IfOk step (λ read. HoldsOrdinary read.token.value) }
+        ensures { self.new ≡ record self.old { held = Some step } }
+    {
+        drop(self.held.replace(step));
+    }
+
+    /// Takes the step that is held. It is a function of its own, so that other tokens are moved less.
+    #[inline(never)]
+    pub fn take_held(&mut self) -> Step<Read>
+        requires { IsSome self.old.held }
+        ensures held { self.old.held ≡ Some result }
+        ensures left { self.new ≡ record self.old { held = None } }
+        ensures holds { IfOk result (λ read. HoldsOrdinary read.token.value) }
+    {
+        match self.held.take() {
+            Some(step) => step,
+            None => unreachable!(),
+        }
     }
 
     /// Whether the macro of this name is open.
     #[inline(always)]
     pub fn is_open(&self, name: &str) -> bool
-        ensures { result ≡ is_in (chars name.now) (names_of self.now) }
+        ensures { result ≡ is_in (chars name.now) (names_of self.now.frames) }
     {
         self.marks.has(name) && self.is_among(name)
     }
@@ -224,7 +286,7 @@ impl MacroProcessor {
     // Whether the macro of this name is open. It is a function of its own, since the mark of most names isn't there.
     #[inline(never)]
     fn is_among(&self, name: &str) -> bool
-        ensures { result ≡ is_in (chars name.now) (names_of self.now) }
+        ensures { result ≡ is_in (chars name.now) (names_of self.now.frames) }
     {
         is_name_of(&self.frames, name) || self.open_names.is_open(name)
     }
@@ -233,7 +295,7 @@ impl MacroProcessor {
     /// call.
     #[inline(always)]
     pub fn outermost_line(&self) -> Option<u32>
-        ensures { result ≡ outermost_frame_line self.now }
+        ensures { result ≡ outermost_frame_line self.now.frames }
     {
         match self.frames.first() {
             Some(frame) => Some(frame.line()),
@@ -244,7 +306,7 @@ impl MacroProcessor {
     // Closes the innermost frame. It is a function of its own, since most steps close none.
     #[inline(always)]
     fn close(&mut self)
-        ensures { self.new ≡ drop 1 self.old }
+        ensures { self.new ≡ record self.old { frames = drop 1 self.old.frames } }
     {
         let closed = self.frames.pop();
         keep_lists(&mut self.spares, closed);
@@ -254,9 +316,9 @@ impl MacroProcessor {
         }
     }
 
-    /// The token that the innermost frame gives next, or `None` if its next step is a pause.
-    pub fn token(&self) -> Option<Ahead<'_>>
-        ensures token { result ≡ given_next self.now }
+    /// What the innermost frame gives next, or `None` if its next step is a pause.
+    pub fn ahead(&self) -> Option<Ahead<'_>>
+        ensures ahead { result ≡ given_next self.now.frames }
         ensures holds { IfSome result (λ ahead. HoldsOrdinary ahead.token.value) }
     {
         match self.frames.last() {
@@ -268,8 +330,8 @@ impl MacroProcessor {
     /// Passes the pause that the innermost frame has next. A frame at its end is closed.
     #[inline(always)]
     pub fn pass_pause(&mut self)
-        requires { given_next self.old ≡ None }
-        ensures { self.new ≡ frames_after self.old }
+        requires { given_next self.old.frames ≡ None }
+        ensures { self.new ≡ passed self.old }
     {
         let Some(frame) = self.frames.last_mut() else {
             return;
@@ -280,12 +342,12 @@ impl MacroProcessor {
         self.close();
     }
 
-    /// Advances the innermost frame by one step. A frame at its end is closed.
+    // Advances the innermost frame by one step. A frame at its end is closed.
     #[inline(always)]
-    pub fn pass(&mut self)
-        ensures { self.new ≡ frames_after self.old }
+    fn pass(&mut self)
+        ensures { self.new ≡ passed self.old }
     {
-        if self.token().is_some() {
+        if self.ahead().is_some() {
             self.pass_token();
         } else {
             self.pass_pause();
@@ -305,8 +367,8 @@ impl MacroProcessor {
     /// Otherwise nothing changes.
     #[inline(always)]
     pub fn take_token(&mut self) -> Option<Read>
-        ensures takes { MatchOption result (self.new ≡ self.old) (λ read. (given_next self.old ≡ Some read)
-            × (self.new ≡ frames_after self.old)) }
+        ensures takes { MatchOption result (self.new ≡ self.old) (λ read. (given_next self.old.frames ≡ Some read)
+            × (self.new ≡ passed self.old)) }
         ensures holds { IfSome result (λ read. HoldsOrdinary read.token.value) }
     {
         let Some(frame) = self.frames.last_mut() else {
@@ -318,8 +380,8 @@ impl MacroProcessor {
     /// Passes the token that the innermost frame gives next.
     #[inline(always)]
     pub fn pass_token(&mut self)
-        requires { IsSome (given_next self.old) }
-        ensures { self.new ≡ frames_after self.old }
+        requires { IsSome (given_next self.old.frames) }
+        ensures { self.new ≡ passed self.old }
     {
         let Some(frame) = self.frames.last_mut() else {
             return;
@@ -327,13 +389,14 @@ impl MacroProcessor {
         frame.pass_token();
     }
 
-    // One step of the innermost frame, or of the reader if no macro is open. A frame at its end is
-    // closed.
-    pub fn advance(&mut self, lexer: &mut dyn MeLexer) -> Step<Read>
-        ensures moves { Moves self.old (reader lexer.old) result self.new (reader lexer.new) }
+    /// One step of the innermost frame, or of the reader if no macro is open. A frame at its end is
+    /// closed.
+    pub fn step_frames(&mut self, lexer: &mut dyn MeLexer) -> Step<Read>
+        ensures moves { Moves self.old.frames (reader lexer.old) result self.new.frames (reader lexer.new) }
+        ensures held { self.new.held ≡ self.old.held }
         ensures holds { IfOk result (λ read. HoldsOrdinary read.token.value) }
     {
-        if self.is_idle() {
+        if !self.has_frames() {
             return lexer.step();
         }
         if self.reads_last() {
@@ -341,7 +404,7 @@ impl MacroProcessor {
                 return Ok(read);
             }
         }
-        let step = match self.token() {
+        let step = match self.ahead() {
             Some(ahead) => give(self.alloc, ahead),
             None => Err(StepExit::Continue),
         };
@@ -349,13 +412,13 @@ impl MacroProcessor {
         step
     }
 
-    // Takes a token: `__LINE__` becomes a number at once.
+    /// Takes a token: `__LINE__` becomes a number at once.
     pub fn take_in(&self, lexer: &dyn MeLexer, read: Read) -> Step<Read>
         requires { HoldsOrdinary read.token.value }
         ensures taken { MatchResult result
-            (λ taken. taken_in self.now (reader lexer.now) read ≡ given.Token taken)
+            (λ taken. taken_in self.now.frames (reader lexer.now) read ≡ given.Token taken)
             (λ exit. (exit ≡ Error (LineOverflow, read.token.location))
-            × (taken_in self.now (reader lexer.now) read
+            × (taken_in self.now.frames (reader lexer.now) read
             ≡ given.Fault (LineOverflow, read.token.location))) }
         ensures holds { IfOk result (λ read. HoldsOrdinary read.token.value) }
     {
@@ -371,7 +434,7 @@ impl MacroProcessor {
 
     // Whether the value is the name of a macro that is open here or around.
     fn is_masked(&self, lexer: &dyn MeLexer, value: &TokenValue) -> bool
-        ensures { result ≡ is_one_of (masks self.now (reader lexer.now)) value.now }
+        ensures { result ≡ is_one_of (masks self.now.frames (reader lexer.now)) value.now }
     {
         match value {
             TokenValue::Ident(name) => {
@@ -383,7 +446,7 @@ impl MacroProcessor {
 
     /// Paints a token that is taken, if it is the name of a macro that is open here or around.
     pub fn paint(&self, lexer: &dyn MeLexer, read: &mut Read)
-        ensures { read.new ≡ painted_among (masks self.now (reader lexer.now)) read.old }
+        ensures { read.new ≡ painted_among (masks self.now.frames (reader lexer.now)) read.old }
     {
         if !read.painted {
             read.painted = self.is_masked(lexer, &read.token.value);
@@ -393,7 +456,7 @@ impl MacroProcessor {
     // Puts the frame of a macro that opens inside the others.
     #[inline(always)]
     fn push(&mut self, frame: Frame) -> Result<(), AllocError>
-        ensures { OnOk result (self.new ≡ frame ∷ self.old) }
+        ensures { OnOk result (self.new ≡ record self.old { frames = frame ∷ self.old.frames }) }
     {
         self.frames.reserve(1)?;
         note_name(&mut self.open_names, frame.opened(), self.frames.len())?;
@@ -402,24 +465,25 @@ impl MacroProcessor {
         Ok(())
     }
 
-    /// Opens a macro with these arguments. `line` is the line that `__LINE__` shows in it.
-    pub fn open(
-        &mut self,
-        opened: Rc<Macro>,
-        line: u32,
-        arguments: ArgumentLists,
-    ) -> Result<(), AllocError>
+    /// Opens the frame of a call with these arguments.
+    pub fn open_call(&mut self, call: MacroCall, arguments: ArgumentLists) -> Result<(), AllocError>
         ensures { OnOk result (self.new
-            ≡ new_frame opened.value.name line opened.value.definition arguments ∷ self.old) }
+            ≡ record self.old {
+              frames = new_frame call.name call.closing.line call.definition arguments
+                  ∷ self.old.frames;
+            }) }
     {
+        let (opened, line) = call.into_macro();
         self.push(Frame::new(opened, line, arguments))
     }
 
-    /// Opens a macro without arguments. `line` is the line that `__LINE__` shows in it.
+    /// Opens the frame of a macro without parentheses. `line` is the line that `__LINE__` shows in it.
     #[inline(always)]
     pub fn open_bare(&mut self, opened: Rc<Macro>, line: u32) -> Result<(), AllocError>
-        ensures { OnOk result (self.new
-            ≡ new_frame opened.value.name line opened.value.definition [] ∷ self.old) }
+        ensures { OnOk result (self.new ≡ record self.old {
+          frames = new_frame opened.value.name line opened.value.definition []
+              ∷ self.old.frames;
+        }) }
     {
         self.frames.reserve(1)?;
         note_name(&mut self.open_names, &opened, self.frames.len())?;

@@ -32,7 +32,7 @@ impl<'a> Model for OpenAround<'a> {
 // Whether a macro of this name is open in one of these.
 fn is_open_in(expanders: &[&MacroProcessor], name: &str) -> bool
     ensures { result ≡ list_any (λ expander. is_in (chars name.now)
-        (names_of expander.now)) expanders.now }
+        (names_of expander.now.frames)) expanders.now }
 {
     expanders.iter().any(|expander| expander.is_open(name))
 }
@@ -53,10 +53,10 @@ impl<'a> OpenAround<'a> {
         expander: &'a MacroProcessor,
         around: &OpenAround<'a>,
     ) -> Result<OpenAround<'a>, AllocError>
-        ensures { IfOk result (λ names. names ≡ names_of expander.now ++ around.now) }
+        ensures { IfOk result (λ names. names ≡ names_of expander.now.frames ++ around.now) }
     {
         let mut expanders = Vec::new(alloc);
-        if !expander.is_idle() {
+        if expander.has_frames() {
             expanders.push(expander)?;
         }
         expanders.extend_from_slice(&around.expanders)?;

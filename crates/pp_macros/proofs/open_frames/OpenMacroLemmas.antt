@@ -10,6 +10,9 @@ use Rattle.pp_model.specs.Names.{Name, is_in, is_same_name}
 use Rattle.pp_model.specs.declared.read.Read.{Read}
 use Rattle.pp_macros.specs.inner.Frames.{Frame, Advance, advance, names_of, outermost_frame_line}
 use Rattle.pp_macros.specs.inner.Ahead.{given_by, given_next, frame_after, frames_after}
+use Rattle.pp_macros.specs.inner.Expander.{Expander}
+use Rattle.pp_macros.specs.inner.Giving.{passed}
+use Rattle.pp_macros.specs.Item.{Step}
 use Rattle.pp_macros.specs.inner.Turns.{frame_move}
 use Rattle.pp_macros.specs.inner.OpenNames.{Position, is_open, after_opening, after_closing, deeper_names, outermost_positions}
 use Rattle.pp_macros.proofs.open_frames.FrameLemmas.{gives_something}
@@ -251,3 +254,16 @@ pub open_inside : (name : Name) (fs : List Frame) (positions : List Position) (f
     → inside ≡ is_open positions name → inside ≡ is_in name (names_of (reverse fs))
 open_inside name fs positions first inside are is same among =
     among ∙ sym (ap (λ b. b || is_open positions name) (sym is ∙ same)) ∙ open_among name fs positions are
+
+-- a processor with other frames
+pub with_frames : (held : Option (Step Read)) (fs gs : List Frame) → fs ≡ gs
+    → ◌≡◌ {A = Expander} (record { held = held; frames = fs }) (record { held = held; frames = gs })
+with_frames held fs gs same = ap (λ (hs : List Frame). let m : Expander = record { held = held; frames = hs } in m) same
+
+-- what its frames give
+pub takes_frames : (held : Option (Step Read)) (fs gs : List Frame) (taken : Option Read)
+    → MatchOption taken (gs ≡ fs) (λ read. (given_next fs ≡ Some read) × (gs ≡ frames_after fs))
+    → MatchOption taken (◌≡◌ {A = Expander} (record { held = held; frames = gs }) (record { held = held; frames = fs }))
+    (λ read. (given_next fs ≡ Some read) × (◌≡◌ {A = Expander} (record { held = held; frames = gs }) (passed (record { held = held; frames = fs }))))
+takes_frames held fs gs None same = with_frames held gs fs same
+takes_frames held fs gs (Some read) takes = (takes.0, with_frames held gs (frames_after fs) takes.1)

@@ -13,10 +13,10 @@ ghost use Rattle.pp_macros.specs.inner.Left.{IsSound};
 ghost use Rattle.pp_macros.specs.inner.Reader.{of_list};
 ghost use Rattle.pp_macros.specs.inner.Turns.{macro_of, masks};
 
-use crate::calls::Expander;
 use crate::define::Macro;
 use crate::frames::Ahead;
 use crate::list_lexer::ListLexer;
+use crate::macro_processor::MacroProcessor;
 use crate::reader::MeLexer;
 use pp_lexer::token::{Token, TokenValue};
 use pp_model::names::is_line_name;
@@ -57,7 +57,7 @@ enum Turn {
     Other,
 }
 
-impl Expander {
+impl MacroProcessor {
     // Whether a token that a frame gives is painted when it is taken.
     #[inline(always)]
     fn paints<L: MeLexer>(&self, lexer: &L, ahead: &Ahead<'_>) -> bool
@@ -67,7 +67,7 @@ impl Expander {
         match ahead.value() {
             TokenValue::Ident(name) => {
                 ahead.is_painted()
-                    || self.processor.is_open(name.as_str())
+                    || self.is_open(name.as_str())
                     || lexer.is_hidden(name.as_str())
             }
             _ => ahead.is_painted(),
@@ -80,11 +80,11 @@ impl Expander {
         ensures turns { IfOk result (λ turn. TurnsFrames (L.reader lexer.now) self.old turn self.new) }
         ensures refused { OnErr result (TakesSomething self.old (L.reader lexer.now)) }
     {
-        if self.held.is_some() || self.processor.is_idle() {
+        if self.is_holding() || !self.has_frames() {
             return Ok(Turn::Other);
         }
-        let Some(ahead) = self.processor.token() else {
-            self.processor.pass_pause();
+        let Some(ahead) = self.ahead() else {
+            self.pass_pause();
             return Ok(Turn::Passed);
         };
         if is_line_name(ahead.value()) {
@@ -99,14 +99,14 @@ impl Expander {
         }
         let line = ahead.line();
         let opened = found.clone()?;
-        self.processor.pass_token();
+        self.pass_token();
         self.open_bare(opened, line)?;
         Ok(Turn::Passed)
     }
 
     /// Goes on in the open macros up to a token that is given as it is in its list: over parameters and ends, and names
     /// of macros without parentheses, which open. Returns whether the token is painted, if there is one; `token` gives
-    /// it, and `pass` passes it. Stops at `__LINE__` and at the name of a macro with parentheses.
+    /// it, and `pass_token` passes it. Stops at `__LINE__` and at the name of a macro with parentheses.
     #[inline(always)]
     pub fn advance<L: MeLexer>(&mut self, lexer: &L) -> Result<Option<bool>, AllocError>
         requires { IsSound self.old (L.reader lexer.now) }
@@ -127,19 +127,10 @@ impl Expander {
     pub fn token(&self) -> Option<&Token>
         ensures token { option_map (λ token. token.now) result ≡ token_ahead self.now }
     {
-        match self.processor.token() {
+        match self.ahead() {
             Some(ahead) => Some(ahead.token()),
             None => None,
         }
-    }
-
-    /// Passes the token that `token` gives.
-    #[inline(always)]
-    pub fn pass(&mut self)
-        requires { IsSome (token_ahead self.old) }
-        ensures { self.new ≡ passed self.old }
-    {
-        self.processor.pass_token();
     }
 
     /// Goes on as `advance` does, and gives a copy of the token that it finds, and passes it.
@@ -167,16 +158,16 @@ impl Expander {
         let Some(_) = self.advance(lexer)? else {
             return Ok(None);
         };
-        if self.processor.reads_last() {
+        if self.reads_last() {
             if let Some(token) = self.take_last() {
                 return Ok(Some(token));
             }
         }
-        let Some(ahead) = self.processor.token() else {
+        let Some(ahead) = self.ahead() else {
             unreachable!();
         };
-        let token = ahead.copied_token(self.alloc)?;
-        self.processor.pass_token();
+        let token = ahead.copied_token(self.alloc())?;
+        self.pass_token();
         Ok(Some(token))
     }
 
@@ -188,7 +179,7 @@ impl Expander {
             × (self.new ≡ passed self.old)) }
         ensures holds { IfSome result (λ token. HoldsOrdinary token.value) }
     {
-        match self.processor.take_token() {
+        match self.take_token() {
             Some(read) => Some(read.token),
             None => None,
         }
@@ -204,7 +195,7 @@ impl Expander {
         ensures stays { IfOk result (λ put. put ≡ false → (self.new ≡ self.old)
             × (items.new.items ≡ items.old.items)) }
     {
-        match self.processor.take_token() {
+        match self.take_token() {
             Some(read) => {
                 items.push(Read {
                     token: read.token,
@@ -219,10 +210,10 @@ impl Expander {
     // Whether `token` gives its token for the last time, and copying would allocate.
     #[inline(always)]
     fn moves_next(&self) -> bool {
-        if !self.processor.reads_last() {
+        if !self.reads_last() {
             return false;
         }
-        match self.processor.token() {
+        match self.ahead() {
             Some(ahead) => ahead.takes_memory(),
             None => false,
         }
@@ -240,11 +231,11 @@ impl Expander {
         if self.moves_next() && self.put_last(painted, items)? {
             return Ok(());
         }
-        let Some(ahead) = self.processor.token() else {
+        let Some(ahead) = self.ahead() else {
             unreachable!();
         };
-        ahead.put_copy(self.alloc, painted, items)?;
-        self.processor.pass_token();
+        ahead.put_copy(self.alloc(), painted, items)?;
+        self.pass_token();
         Ok(())
     }
 

@@ -24,9 +24,9 @@ use crate::pp::token_ref::TokenRef;
 use crate::token::{Location, NOWHERE, PreprocessorError, Token, out_of_memory};
 use pp_directives::convert::word_token;
 use pp_directives::directives::DirectiveProcessor;
-use pp_macros::calls::Expander;
 use pp_macros::define::Macro;
 use pp_macros::halt::Halt;
+use pp_macros::macro_processor::MacroProcessor;
 use pp_macros::step::{StepExit, is_out_of_memory};
 use std::alloc::{AllocError, Global};
 use std::marker::Model;
@@ -41,7 +41,7 @@ pub type PreprocessorItem = Result<Token, (PreprocessorError, Location)>;
 #[derive(Drop)]
 pub struct Preprocessor<'a> {
     alloc: Global,
-    expander: Expander,
+    expander: MacroProcessor,
     source: DirectiveProcessor<'a>,
     spent: bool,
     // whether the next token is known to be one of live text
@@ -98,7 +98,7 @@ fn refused_item(
 }
 
 // Opens the frame of a macro without parentheses.
-fn open_shared(expander: &mut Expander, found: &Rc<Macro>, line: u32) -> Result<(), AllocError>
+fn open_shared(expander: &mut MacroProcessor, found: &Rc<Macro>, line: u32) -> Result<(), AllocError>
     ensures { OnOk result (expander.new ≡ record expander.old {
       frames = new_frame found.now.value.name line found.now.value.definition [] ∷ expander.old.frames;
     }) }
@@ -121,7 +121,7 @@ impl<'a> Preprocessor<'a> {
     {
         Preprocessor {
             alloc,
-            expander: Expander::new(alloc),
+            expander: MacroProcessor::new(alloc),
             source: DirectiveProcessor::new(alloc, input),
             spent: false,
             in_text: false,
@@ -353,7 +353,7 @@ impl<'a> Preprocessor<'a> {
         ensures line { (line : Option ℕ) → IsFrontLine line self.old → line ≡ call_line self.new }
     {
         self.in_text = false;
-        self.expander.pass();
+        self.expander.pass_token();
     }
 
     /// Returns the place of the last error that `next` returned, in byte offsets and a 1-based line of the source.

@@ -18,8 +18,8 @@ use crate::token::Token;
 use pp_directives::directives::DirectiveProcessor;
 use pp_directives::limit::expansion_limit;
 use pp_macros::arguments::finish_call;
-use pp_macros::calls::{Expander, MacroCall, Taken};
-use pp_macros::macro_processor::make_line_number;
+use pp_macros::calls::{MacroCall, Taken};
+use pp_macros::macro_processor::{MacroProcessor, make_line_number};
 use pp_macros::names::gives_itself;
 use pp_macros::open_around::OpenAround;
 use pp_macros::reader::MeLexer;
@@ -32,7 +32,7 @@ use std::alloc::Global;
 #[inline(never)]
 fn follow_call(
     alloc: Global,
-    expander: &mut Expander,
+    expander: &mut MacroProcessor,
     source: &DirectiveProcessor<'_>,
     call: MacroCall,
 ) -> Step<Token>
@@ -56,7 +56,7 @@ fn follow_call(
 #[inline(always)]
 fn turn_expander(
     alloc: Global,
-    expander: &mut Expander,
+    expander: &mut MacroProcessor,
     source: &mut DirectiveProcessor<'_>,
 ) -> Step<Token>
     ensures turns { StepsOver expansion_limit expander.old source.old result expander.new source.new }
@@ -91,7 +91,7 @@ fn take_in(source: &DirectiveProcessor<'_>, token: Token) -> Step<Token>
 // Holds a token of the source that is `__LINE__` or may open a macro, while no macro is open. The next step of the
 // expander then takes it.
 #[inline(never)]
-fn hold_word(expander: &mut Expander, source: &DirectiveProcessor<'_>, word: Token) -> Step<()>
+fn hold_word(expander: &mut MacroProcessor, source: &DirectiveProcessor<'_>, word: Token) -> Step<()>
     requires { HoldsOrdinary word.value }
     ensures { HoldsWord word source.now expander.old result expander.new }
 {
@@ -106,7 +106,7 @@ fn hold_word(expander: &mut Expander, source: &DirectiveProcessor<'_>, word: Tok
 #[inline(always)]
 pub fn turn_source(
     alloc: Global,
-    expander: &mut Expander,
+    expander: &mut MacroProcessor,
     source: &mut DirectiveProcessor<'_>,
 ) -> Step<Token>
     ensures turns { StepsOver expansion_limit expander.old source.old result expander.new source.new }

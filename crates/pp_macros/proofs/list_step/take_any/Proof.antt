@@ -8,15 +8,15 @@ use Rattle.pp_macros.specs.contracts.list_step.take_any as f
 use Rattle.pp_macros.proofs.list_step.take_any.Statement.{statement}
 use Rattle.pp_macros.proofs.list_step.take_any.Code as code
 use Rattle.pp_macros.specs.contracts.list_lexer.ListLexer.{the_row as source_row}
-use Rattle.pp_macros.specs.contracts.calls.Expander.{the_row as P}
+use Rattle.pp_macros.specs.contracts.macro_processor.MacroProcessor.{the_row as P}
 use Rattle.pp_model.specs.contracts.read.Read.{the_row as read_row}
 use Rattle.pp_macros.specs.contracts.step.StepExit.{the_row as exit_row}
 use Rattle.pp_model.proofs.read.Read.TheLaws.{the_row_laws as read_laws}
 use Rattle.pp_macros.proofs.step.StepExit.TheLaws.{the_row_laws as exit_laws}
 use Rattle.std.specs.contracts.result.Result.{the_row as result_row}
 use Rattle.std.proofs.result.Result.TheLaws.{the_row_laws as result_laws}
-use Rattle.pp_macros.specs.contracts.calls.Expander.take_next as g
-use Rattle.pp_macros.proofs.calls.Expander.take_next.Met.{met}
+use Rattle.pp_macros.specs.contracts.macro_processor.MacroProcessor.take_next as g
+use Rattle.pp_macros.proofs.macro_processor.MacroProcessor.take_next.Met.{met}
 use Rattle.pp_macros.proofs.list_step.take_any.Object-1 as object
 use Rattle.pp_macros.proofs.list_step.take_any.OwnLists as lists
 use Rattle.pp_macros.proofs.list_step.take_any.Hidden as hidden
@@ -80,7 +80,7 @@ take_any_spec 𝓤 𝓛 𝓜 𝓡 wired =
     nothing ! $ move ! (2 ∷ 0 ∷ []) $ join ! $ move ! (5 ∷ 0 ∷ []) $ join ! $ join ! $
     nothing ! $ move ! (1 ∷ 0 ∷ []) $ use2 𝓛 (raw (G.pre z)) (id⊢ 𝓤 _) $
     calls_at ! (framed 𝓤 𝓛.H 𝓜 (tables 𝓤 𝓛.H 𝓜 𝓡 𝓡.env)) G
-    (met 𝓤 𝓛 𝓜 𝓡 (code.calls-pp_macros::calls::Expander::take_next 𝓡.env wired) T (Includes-none lists.own-1) (hidden.met-1 𝓤 𝓛 𝓜 𝓡 wired)) z
+    (met 𝓤 𝓛 𝓜 𝓡 (code.calls-pp_macros::macro_processor::MacroProcessor::take_next 𝓡.env wired) T (Includes-none lists.own-1) (hidden.met-1 𝓤 𝓛 𝓜 𝓡 wired)) z
     (and_then ! (get ! refl) (and_then ! (get ! refl) (no_more !))) (λ v.
     use1 𝓛 (later (some (λ (u : O.Denot). ((‵ (flft (β ∷ []) full_share) ⊛ ‵ (flft κ' share) ⊛ ‵ ftrue) ⊛ ‵ (O.own_val u (v ∷ []))) ⊛
     some (λ (ws : P.Denot × (R.Denot × Unit {0})). ‵ (lasts (g.ended T) z.0.0 z.0.3 ws) ⊛

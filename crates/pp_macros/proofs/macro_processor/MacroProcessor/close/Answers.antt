@@ -11,4 +11,5 @@ invariant_of-self-else-is_empty c =
       names_freed c.self.inside.frames.items c.len.result c.self.inside.open_names c.free_name.new.names
           (c.len.ensures ∙ c.pop-closed.new.self.ok.0 ∙ ap length rest) c.free_name.ensures.few c.free_name.ensures.many c.self.invariant.0,
       marked_closed c.self.inside.marks c.self.inside.frames.items c.self.invariant.1,
+      c.self.invariant.2,
     )

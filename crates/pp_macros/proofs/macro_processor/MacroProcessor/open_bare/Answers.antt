@@ -10,8 +10,9 @@ invariant_of-self-2 c =
           (c.len.ensures ∙ c.reserve.new.self.ok.0 ∙ ap length c.reserve.ensures.items)
           c.in_ok-note_name.ensures.few (c.in_ok-note_name.ensures.many) c.self.invariant.0,
       rw (c.add.ensures, c.mark.ensures, c.deref.ensures) (marked_opened c.self.inside.marks c.self.inside.frames.items _ c.self.invariant.1),
+      c.self.invariant.2,
     )
 
 pub invariant_of-self-in_err-note_name : goal.invariant_of-self-in_err-note_name
 invariant_of-self-in_err-note_name c =
-    rw c.reserve.ensures.items (c.in_err-note_name.ensures.err ∙ c.self.invariant.0, c.self.invariant.1)
+    rw c.reserve.ensures.items (c.in_err-note_name.ensures.err ∙ c.self.invariant.0, c.self.invariant.1, c.self.invariant.2)

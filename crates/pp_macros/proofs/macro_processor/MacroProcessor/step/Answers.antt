@@ -1,6 +1,6 @@
 use Rattle.std.proofs.Common.{refl}
 use Rattle.pp_macros.proofs.taking.SeekLemmas.{turns_token, turns_exit}
-use Rattle.pp_macros.proofs.calls.Expander.step.Goals as goal
+use Rattle.pp_macros.proofs.macro_processor.MacroProcessor.step.Goals as goal
 
 pub returns-in-Ok-clause-turns : goal.returns-in-Ok-clause-turns
 returns-in-Ok-clause-turns g c = turns_token _ _ _ _ _ _ c.in-Ok.read _ c.in-Ok.ensures.steps _ refl c.follow.ensures.follows

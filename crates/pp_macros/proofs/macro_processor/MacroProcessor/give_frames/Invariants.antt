@@ -2,7 +2,7 @@ use Rattle.pp_macros.specs.inner.Giving.{GivesEach}
 use Rattle.pp_macros.specs.inner.Left.{work_of, IsSound}
 use Rattle.pp_macros.specs.inner.Reader.{of_list}
 use Rattle.pp_macros.specs.inner.Reading.{AllReadOrdinary}
-use Rattle.pp_macros.proofs.calls.Expander.give_frames.Given as goal
+use Rattle.pp_macros.proofs.macro_processor.MacroProcessor.give_frames.Given as goal
 
 -- what was given so far
 abbrev pub invariant-tokens : goal.invariant-tokens

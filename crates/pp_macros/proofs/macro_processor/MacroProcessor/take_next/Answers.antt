@@ -1,5 +1,5 @@
 use Rattle.pp_macros.proofs.taking.ExpanderLemmas.{leads_more, leads_now, pause_falls}
-use Rattle.pp_macros.proofs.calls.Expander.take_next.Goals as goal
+use Rattle.pp_macros.proofs.macro_processor.MacroProcessor.take_next.Goals as goal
 
 pub loop-step-init : goal.loop-step-init
 loop-step-init g c = record { leads = λ step p t next. next }

@@ -1,7 +1,7 @@
 use Rattle.std.proofs.Common.{◌∙◌, sym, ap}
 use Rattle.pp_macros.proofs.taking.SeekLemmas.{follows_plain, follows_called, opening_bare, taken_whole}
 use Rattle.pp_macros.specs.inner.Defined.{Macro}
-use Rattle.pp_macros.proofs.calls.Expander.enter.Goals as goal
+use Rattle.pp_macros.proofs.macro_processor.MacroProcessor.enter.Goals as goal
 
 pub returns-then-is_function_like-clause-follows : goal.returns-then-is_function_like-clause-follows
 returns-then-is_function_like-clause-follows g c =

@@ -1,6 +1,6 @@
 use Rattle.pp_macros.proofs.taking.FrameTurnLemmas.{refused_there}
 use Rattle.pp_macros.proofs.taking.GivingLemmas.{given_some}
-use Rattle.pp_macros.proofs.calls.Expander.give_ahead.Goals as goal
+use Rattle.pp_macros.proofs.macro_processor.MacroProcessor.give_ahead.Goals as goal
 
 pub returns-in_err-token-clause-refused : goal.returns-in_err-token-clause-refused
 returns-in_err-token-clause-refused g c =

@@ -1,6 +1,6 @@
 use Rattle.pp_macros.specs.inner.Giving.{PausesEach}
 use Rattle.pp_macros.specs.inner.Left.{work_of, IsSound}
-use Rattle.pp_macros.proofs.calls.Expander.advance.Given as goal
+use Rattle.pp_macros.proofs.macro_processor.MacroProcessor.advance.Given as goal
 
 -- the pauses so far
 abbrev pub invariant-turns : goal.invariant-turns

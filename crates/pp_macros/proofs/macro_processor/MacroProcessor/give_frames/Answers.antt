@@ -4,7 +4,7 @@ use Rattle.pp_model.specs.declared.read.Read.{Read}
 use Rattle.pp_macros.specs.Held.{HoldsOrdinary}
 use Rattle.pp_macros.specs.inner.Giving.{none}
 use Rattle.pp_macros.proofs.taking.GivingLemmas.{given_more, gives_pauses}
-use Rattle.pp_macros.proofs.calls.Expander.give_frames.Goals as goal
+use Rattle.pp_macros.proofs.macro_processor.MacroProcessor.give_frames.Goals as goal
 
 pub tokens-init : goal.tokens-init
 tokens-init c = record { gives = none _ _ refl refl; sound = c.requires.sound; holds = c.requires.ordinary }

@@ -1,7 +1,7 @@
 use Rattle.pp_macros.specs.inner.Left.{regions}
 use Rattle.pp_macros.specs.inner.Reach.{total}
 use Rattle.pp_macros.proofs.taking.ExpanderLemmas.{LeadsToNext}
-use Rattle.pp_macros.proofs.calls.Expander.take_next.Given as goal
+use Rattle.pp_macros.proofs.macro_processor.MacroProcessor.take_next.Given as goal
 
 -- a pause keeps what is taken next
 abbrev pub invariant-loop-step : goal.invariant-loop-step

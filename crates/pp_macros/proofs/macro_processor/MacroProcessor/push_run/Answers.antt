@@ -1,7 +1,7 @@
 use Rattle.std.proofs.Common.{◌∙◌, sym}
 use Rattle.pp_macros.proofs.taking.ExpanderLemmas.{idle_takes}
 use Rattle.pp_macros.proofs.taking.RunLemmas.{run_now, run_after, run_refused, read_run}
-use Rattle.pp_macros.proofs.calls.Expander.push_run.Goals as goal
+use Rattle.pp_macros.proofs.macro_processor.MacroProcessor.push_run.Goals as goal
 
 pub returns-then-not-is_idle : goal.returns-then-not-is_idle
 returns-then-not-is_idle g c = record { takes = run_now _ _ _ _ _ _ _ c.push_next.ensures.takes c.push_next.ensures.kept }

@@ -6,7 +6,7 @@ use Rattle.pp_macros.specs.Held.{HoldsOrdinary}
 use Rattle.pp_macros.proofs.taking.AnswerLemmas.{satisfies_fault}
 use Rattle.pp_macros.proofs.taking.ExpanderLemmas.{last_put, before_last, gathers_fault, gathers_end, gathers_never, gathers_closed, gathers_overfull, gathers_more, next_falls}
 use Rattle.pp_macros.proofs.taking.RunLemmas.{flat_gathers, flat_falls, flat_holds, place_put}
-use Rattle.pp_macros.proofs.calls.Expander.gather_tokens.Goals as goal
+use Rattle.pp_macros.proofs.macro_processor.MacroProcessor.gather_tokens.Goals as goal
 
 pub returns-in-Err-Error : goal.returns-in-Err-Error
 returns-in-Err-Error g c =

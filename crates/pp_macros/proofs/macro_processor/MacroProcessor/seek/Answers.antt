@@ -1,7 +1,7 @@
 use Rattle.std.proofs.Common.{◌∙◌, sym, ap, Err}
 use Rattle.std.proofs.lemmas.Result.{err_from_is_err_and}
 use Rattle.pp_macros.proofs.taking.SeekLemmas.{finds_nothing, finds_whole, finds_fault}
-use Rattle.pp_macros.proofs.calls.Expander.seek.Goals as goal
+use Rattle.pp_macros.proofs.macro_processor.MacroProcessor.seek.Goals as goal
 
 pub returns-in_err-gathered-in-Some : goal.returns-in_err-gathered-in-Some
 returns-in_err-gathered-in-Some g c =

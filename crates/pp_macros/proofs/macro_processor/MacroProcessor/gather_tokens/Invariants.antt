@@ -3,7 +3,7 @@ use Rattle.pp_macros.specs.inner.Expander.{place_after}
 use Rattle.pp_macros.specs.inner.Left.{regions}
 use Rattle.pp_macros.specs.inner.Reach.{total}
 use Rattle.pp_macros.proofs.taking.ExpanderLemmas.{Gathering}
-use Rattle.pp_macros.proofs.calls.Expander.gather_tokens.Given as goal
+use Rattle.pp_macros.proofs.macro_processor.MacroProcessor.gather_tokens.Given as goal
 
 -- each token that is gathered stands before those that follow
 abbrev pub invariant-tokens : goal.invariant-tokens

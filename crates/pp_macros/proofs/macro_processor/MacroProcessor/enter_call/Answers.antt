@@ -2,7 +2,7 @@ use Rattle.std.proofs.Common.{◌∙◌, ap, inl, Err}
 use Rattle.std.proofs.lemmas.Result.{err_from_is_err_and}
 use Rattle.pp_model.specs.Calls.{Gathered}
 use Rattle.pp_macros.proofs.taking.SeekLemmas.{enters_nothing, enters_whole, enters_halt}
-use Rattle.pp_macros.proofs.calls.Expander.enter_call.Goals as goal
+use Rattle.pp_macros.proofs.macro_processor.MacroProcessor.enter_call.Goals as goal
 
 pub returns-in_err-seek-clause-enters : goal.returns-in_err-seek-clause-enters
 returns-in_err-seek-clause-enters g c =

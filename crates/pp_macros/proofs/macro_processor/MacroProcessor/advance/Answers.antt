@@ -2,7 +2,7 @@ use Rattle.std.proofs.Common.{refl, Err}
 use Rattle.pp_macros.specs.inner.Giving.{at_once, after}
 use Rattle.pp_macros.specs.declared.step.StepExit.TheVariants.{Continue}
 use Rattle.pp_macros.proofs.work.CallFallsLemmas.{turn_falls}
-use Rattle.pp_macros.proofs.calls.Expander.advance.Goals as goal
+use Rattle.pp_macros.proofs.macro_processor.MacroProcessor.advance.Goals as goal
 
 pub turns-init : goal.turns-init
 turns-init g c = record { pauses = at_once _ refl; sound = c.requires }

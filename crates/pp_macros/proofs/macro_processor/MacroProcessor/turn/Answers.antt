@@ -1,0 +1,61 @@
+use Rattle.std.proofs.Common.{◌∙◌, ap, sym, refl}
+use Rattle.std.specs.Prelude.{not}
+use Rattle.pp_model.specs.Names.{is_identifier, line_name}
+use Rattle.pp_model.specs.Painting.{painted_among}
+use Rattle.pp_macros.specs.inner.Defined.{Macro}
+use Rattle.pp_macros.specs.inner.Expander.{Expander}
+use Rattle.pp_macros.specs.inner.Turns.{masks}
+use Rattle.pp_macros.proofs.taking.FrameTurnLemmas.{refused_there, frame_pauses, frame_gives, frame_opens, frame_takes_some}
+use Rattle.pp_macros.proofs.taking.ExpanderLemmas.{none_held}
+use Rattle.pp_macros.proofs.macro_processor.MacroProcessor.turn.Goals as goal
+
+-- a pause
+pub returns-in_default-clause-turns : goal.returns-in_default-clause-turns
+returns-in_default-clause-turns g c =
+    rw c.pass_pause.ensures
+    (frame_pauses c.args.self.now (g.L.MeLexer.reader c.args.lexer.now)
+    (none_held c.args.self.now.held (sym c.is_holding.ensures ∙ c.if-is_holding.false)) (sym c.has_frames.ensures ∙ c.if-not-has_frames.false)
+    (c.in_default.ensures {u = tt}).ahead)
+
+-- a token that opens no macro
+pub returns-in_default-opened_by-clause-turns : goal.returns-in_default-opened_by-clause-turns
+returns-in_default-opened_by-clause-turns g c = (
+  refl,
+  c.in-Some.ahead.token,
+  frame_gives c.args.self.now (g.L.MeLexer.reader c.args.lexer.now)
+      (none_held c.args.self.now.held (sym c.is_holding.ensures ∙ c.if-is_holding.false)) (sym c.has_frames.ensures ∙ c.if-not-has_frames.false)
+      c.in-Some.ahead c.in-Some.ensures.ahead
+      (ap (is_identifier line_name) (sym c.value.ensures) ∙ sym c.is_line_name.ensures ∙ c.if-is_line_name.false) c.paints-painted.result
+      c.paints-painted.ensures
+      c.in-Some.ensures.holds (sym (c.in_default-opened_by.ensures {u = tt})),
+)
+
+-- a name whose macro can't be shared, or not be opened
+pub returns-in_err-opened-clause-refused : goal.returns-in_err-opened-clause-refused
+returns-in_err-opened-clause-refused g c = refused_there c.from_residual.result
+    (frame_takes_some c.args.self.now (g.L.MeLexer.reader c.args.lexer.now)
+    (none_held c.args.self.now.held (sym c.is_holding.ensures ∙ c.if-is_holding.false)) (sym c.has_frames.ensures ∙ c.if-not-has_frames.false)
+    c.in-Some.ahead c.in-Some.ensures.ahead
+    (ap (is_identifier line_name) (sym c.value.ensures) ∙ sym c.is_line_name.ensures ∙ c.if-is_line_name.false) c.paints-painted.result
+    c.paints-painted.ensures)
+
+pub returns-in_err-open_bare-clause-refused : goal.returns-in_err-open_bare-clause-refused
+returns-in_err-open_bare-clause-refused g c = refused_there c.from_residual-in_err-open_bare.result
+    (frame_takes_some c.args.self.now (g.L.MeLexer.reader c.args.lexer.now)
+    (none_held c.args.self.now.held (sym c.is_holding.ensures ∙ c.if-is_holding.false)) (sym c.has_frames.ensures ∙ c.if-not-has_frames.false)
+    c.in-Some.ahead c.in-Some.ensures.ahead
+    (ap (is_identifier line_name) (sym c.value.ensures) ∙ sym c.is_line_name.ensures ∙ c.if-is_line_name.false) c.paints-painted.result
+    c.paints-painted.ensures)
+
+-- a name whose macro opens
+pub returns-clause-turns : goal.returns-clause-turns
+returns-clause-turns g c =
+    let bare = ap (λ d. d.function_like) (sym (c.define.ensures ∙ ap (λ (m : Macro). m.definition) c.deref.ensures)) ∙ sym c.is_function_like.ensures
+    ∙ c.if-is_function_like.false in
+    rw (c.in_ok-open_bare.ensures {u = tt}, c.pass_token.ensures, c.line-line.ensures, (c.in_ok-opened.ensures {u = tt}).cases)
+    (frame_opens c.args.self.now (g.L.MeLexer.reader c.args.lexer.now)
+    (none_held c.args.self.now.held (sym c.is_holding.ensures ∙ c.if-is_holding.false)) (sym c.has_frames.ensures ∙ c.if-not-has_frames.false)
+    c.in-Some.ahead c.in-Some.ensures.ahead
+    (ap (is_identifier line_name) (sym c.value.ensures) ∙ sym c.is_line_name.ensures ∙ c.if-is_line_name.false) c.paints-painted.result
+    c.paints-painted.ensures _ _
+    (sym (rw c.in-Some-opened_by.is at c.opened_by.ensures)) bare)
