@@ -98,7 +98,11 @@ fn refused_item(
 }
 
 // Opens the frame of a macro without parentheses.
-fn open_shared(expander: &mut MacroProcessor, found: &Rc<Macro>, line: u32) -> Result<(), AllocError>
+fn open_shared(
+    expander: &mut MacroProcessor,
+    found: &Rc<Macro>,
+    line: u32,
+) -> Result<(), AllocError>
     ensures { OnOk result (expander.new ≡ record expander.old {
       frames = new_frame found.now.value.name line found.now.value.definition [] ∷ expander.old.frames;
     }) }

@@ -10,7 +10,10 @@ use pp_macros::macro_processor::MacroProcessor;
 use pp_macros::step::Step;
 
 /// One step of the expander, with the source as what follows the frames.
-pub fn step_source(expander: &mut MacroProcessor, source: &mut DirectiveProcessor<'_>) -> Step<Taken>
+pub fn step_source(
+    expander: &mut MacroProcessor,
+    source: &mut DirectiveProcessor<'_>,
+) -> Step<Taken>
     ensures turns { TurnsOrRefuses expander.old (of_source source.old) result expander.new
         (of_source source.new) }
     ensures holds { IfOk result TakenHoldsOrdinary }

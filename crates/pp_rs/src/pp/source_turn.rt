@@ -91,7 +91,11 @@ fn take_in(source: &DirectiveProcessor<'_>, token: Token) -> Step<Token>
 // Holds a token of the source that is `__LINE__` or may open a macro, while no macro is open. The next step of the
 // expander then takes it.
 #[inline(never)]
-fn hold_word(expander: &mut MacroProcessor, source: &DirectiveProcessor<'_>, word: Token) -> Step<()>
+fn hold_word(
+    expander: &mut MacroProcessor,
+    source: &DirectiveProcessor<'_>,
+    word: Token,
+) -> Step<()>
     requires { HoldsOrdinary word.value }
     ensures { HoldsWord word source.now expander.old result expander.new }
 {
