@@ -3,7 +3,6 @@ use Rattle.std.proofs.Common.{◌≡◌, ◌∙◌, inl, inr, true, false, ℕ, 
 use Rattle.std.specs.Prelude.{if◌then◌else◌, Result, Ok, Err, option_map, unwrap_or, ⊤}
 use Rattle.pp_model.specs.declared.read.Read.{Read}
 use Rattle.pp_model.specs.Calls.{Fault, Gathered, Site, site_of}
-use Rattle.pp_model.specs.Definitions.{Definition}
 use Rattle.pp_model.specs.Emitting.{Emits, answers_at}
 use Rattle.pp_model.specs.Names.{Name, is_identifier, line_name}
 use Rattle.pp_model.specs.Reading.{Expander, Listed, line_reading}
@@ -14,7 +13,7 @@ use Rattle.pp_model.specs.declared.read.Taken.TheVariants as given
 use Rattle.pp_model.specs.declared.splice.Entry.{Entry}
 use Rattle.pp_macros.specs.inner.Calling.{MacroCall}
 use Rattle.pp_macros.specs.inner.CallTurns.{Sought, no_call, refused, gathered, sought_by, Seeks, alone, called, Finds, TurnsTo, passes, gives, object, seeks}
-use Rattle.pp_macros.specs.inner.Defined.{Defined}
+use Rattle.pp_macros.specs.inner.Defined.{Macro, Defined}
 use Rattle.pp_macros.specs.inner.Finishing.{site_at, IsOpened}
 use Rattle.pp_macros.specs.inner.Frames.{Frame, Advance, advance, names_of, outermost_frame_line}
 use Rattle.pp_macros.specs.Item.{Step, wants_memory, is_out_of_memory}
@@ -148,26 +147,26 @@ free_after (Err Continue) n e = free_held n.held e
 free_after (Err Finished) n e = free_held n.held e
 free_after (Err (Error fault)) n e = tt
 
-sought_holds : (read : Read) (name : Name) (definition : Definition) (c : Sought) (step : Step Taken) (n p q : kept.Expander) (s t : Reader) → IsList s
-    → n.held ≡ None → Seeks n s c p t → Finds read name definition c step p q → HoldsAfter step q
-sought_holds read name definition c step n p q s t list free (alone next n1 p1 s1 t1 c1 taken_next none reported is) found =
-    let found' : Finds read name definition (no_call next) step p q = subst (λ (x : Sought). Finds read name definition x step p q) is found in
+sought_holds : (read : Read) (opened : Macro) (c : Sought) (step : Step Taken) (n p q : kept.Expander) (s t : Reader) → IsList s
+    → n.held ≡ None → Seeks n s c p t → Finds read opened c step p q → HoldsAfter step q
+sought_holds read opened c step n p q s t list free (alone next n1 p1 s1 t1 c1 taken_next none reported is) found =
+    let found' : Finds read opened (no_call next) step p q = subst (λ (x : Sought). Finds read opened x step p q) is found in
     let quiet = next_quiet n p s t next list (free_held n.held free) taken_next (not_refused next reported) in
     rw (found'.0, found'.1) (quiet_held next quiet.quiet (next_no_pause n p s t next taken_next))
-sought_holds read name definition c step n p q s t list free (called next paren n1 between p1 s1 u t1 g c1 taken_next at gathers is) found =
-    go g (subst (λ (x : Sought). Finds read name definition x step p q) is found)
+sought_holds read opened c step n p q s t list free (called next paren n1 between p1 s1 u t1 g c1 taken_next at gathers is) found =
+    go g (subst (λ (x : Sought). Finds read opened x step p q) is found)
   where
-    go : (g : Result Gathered Fault) → Finds read name definition (sought_by paren g) step p q → HoldsAfter step q
+    go : (g : Result Gathered Fault) → Finds read opened (sought_by paren g) step p q → HoldsAfter step q
     go (Err fault) h = rw h.0 tt
     go (Ok g) h = rw h.0 tt
 
 turn_holds : (m n : kept.Expander) (r s : Reader) (step : Step Taken) → IsList r → IsHeld m.held → TurnsTo m r step n s → HoldsAfter step n
 turn_holds m n r s step list holds (passes exit step1 m1 n1 r1 s1 steps is) = free_after step n (step_frees m n r s (Err exit) steps)
 turn_holds m n r s step list holds (gives read step1 m1 n1 r1 s1 steps none is) = free_after step n (step_frees m n r s (Ok read) steps)
-turn_holds m p r s step list holds (object read name definition step1 m1 n p1 r1 s1 steps some plain is at) =
+turn_holds m p r s step list holds (object read opened step1 m1 n p1 r1 s1 steps some plain is at) =
     free_after step p (ap (λ (k : kept.Expander). k.held) at ∙ step_frees m n r s (Ok read) steps)
-turn_holds m q r t step list holds (seeks read name definition c step1 m1 n p q1 r1 s t1 steps some function sought found) =
-    sought_holds read name definition c step n p q s t (step_quiet m n r s (Ok read) list holds steps refl).list
+turn_holds m q r t step list holds (seeks read opened c step1 m1 n p q1 r1 s t1 steps some function sought found) =
+    sought_holds read opened c step n p q s t (step_quiet m n r s (Ok read) list holds steps refl).list
     (step_frees m n r s (Ok read) steps) sought found
 
 -- the end is taken where a turn comes to it
@@ -177,10 +176,10 @@ end_taken m n r s step e (passes exit step1 m1 n1 r1 s1 steps is) = subst (λ (x
     exit_same : (exit : StepExit) → ◌≡◌ {A = Step Taken} (Err exit) (Err Finished) → exit ≡ Finished
     exit_same exit e = cc
 end_taken m n r s step e (gives read step1 m1 n1 r1 s1 steps none is) = cc
-end_taken m p r s step e (object read name definition step1 m1 n p1 r1 s1 steps some plain is at) = cc
-end_taken m q r t step e (seeks read name definition c step1 m1 n p q1 r1 s t1 steps some function sought found) = absurd (no_end c found)
+end_taken m p r s step e (object read opened step1 m1 n p1 r1 s1 steps some plain is at) = cc
+end_taken m q r t step e (seeks read opened c step1 m1 n p q1 r1 s t1 steps some function sought found) = absurd (no_end c found)
   where
-    no_end : (c : Sought) → Finds read name definition c step p q → ⊥
+    no_end : (c : Sought) → Finds read opened c step p q → ⊥
     no_end (no_call next) h = let is = h.0 in cc
     no_end (refused fault) h = let is = h.0 in cc
     no_end (gathered paren g) h = let is = h.0 in cc
@@ -285,9 +284,9 @@ module _ (levels : ℕ) (definitions : List Defined) (m n : kept.Expander) (l k 
     site = site_same true definitions [] n k c led.0 led.1 pending.free
 
     -- a call that has a fault
-    pub call_fault_read : (fault : Fault) → answers_at levels c.definition (site_at c definitions (names_of n.frames ++ [])) (Err fault)
+    pub call_fault_read : (fault : Fault) → answers_at levels c.opened.definition (site_at c definitions (names_of n.frames ++ [])) (Err fault)
         → (f : Expander Listed) × Emits line_reading (answers_at levels) (expander_of m l) (given.Fault fault) f
-    call_fault_read fault answers = (led.0, (led.2 fault (subst (λ (x : Site). answers_at levels c.definition x (Err fault)) (sym site) answers)).0)
+    call_fault_read fault answers = (led.0, (led.2 fault (subst (λ (x : Site). answers_at levels c.opened.definition x (Err fault)) (sym site) answers)).0)
 
     -- a call whose frame opened
     pub call_read : (p : kept.Expander) → IsOpened levels definitions (names_of n.frames ++ []) c n p → GoesOn levels m l p k × IsOnLine definitions p k
@@ -295,18 +294,18 @@ module _ (levels : ℕ) (definitions : List Defined) (m n : kept.Expander) (l k 
     call_read p opened =
         let less : IsLess levels m (of_list l) p (of_list k) =
         opened_less true definitions [] levels m n l k c p pending (stands_listed true definitions [] n k led.0 led.1 pending.free).3 opened in
-        let f : Expander Listed = record led.0 { list = macro_before c.name c.definition c.closing.line opened.arguments led.0.list } in
+        let f : Expander Listed = record led.0 { list = macro_before c.opened.name c.opened.definition c.closing.line opened.arguments led.0.list } in
         let stood : StandsListed true definitions [] n k led.0 = led.1 in
         let stands : StandsListed true definitions [] p k f =
         subst (λ (q : kept.Expander). StandsListed true definitions [] q k f) (sym opened.opens)
         (record {
           holds = stood.holds;
-          list = ap (macro_before c.name c.definition c.closing.line opened.arguments) stood.list;
+          list = ap (macro_before c.opened.name c.opened.definition c.closing.line opened.arguments) stood.list;
           reader = stood.reader;
           names = stood.names;
         }) in
         let at = here definitions p k f stands (free_held p.held (ap (λ (q : kept.Expander). q.held) opened.opens ∙ pending.free)) less.sound in (
-          λ o g emits. (led.3 opened.arguments (subst (λ (x : Site). answers_at levels c.definition x (Ok opened.arguments))
+          λ o g emits. (led.3 opened.arguments (subst (λ (x : Site). answers_at levels c.opened.definition x (Ok opened.arguments))
               (sym site) opened.answers) o g (subst (λ (e : Expander Listed). Emits line_reading (answers_at levels) e o g) (sym at.0) emits)).0,
           at.1,
           less.falls,

@@ -56,7 +56,7 @@ pub acts_failed : {A B : Type 0} (shows : A → B) (h : Halt) (change : BlockCha
     → Acts change (line_move line effect rest) (source_of old definitions blocks line_offset has_text has_directive dead) (Err h)
     (source_of new definitions after line_offset has_text has_directive dead)
 acts_failed shows (halt.Fault fault) change line effect rest taken definitions blocks after few line_offset has_text has_directive dead old new m t =
-    rw m (refl, record { left = omega (arith, t.rest, few); names = omega arith; tokens = omega arith; spent = t.spent })
+    rw m (refl, record { left = omega (arith, t.rest, few); names = refl; tokens = omega arith; spent = t.spent })
 acts_failed shows halt.OutOfMemory change line effect rest taken definitions blocks after few line_offset has_text has_directive dead old new m t = tt
 
 pub pause_no_fault : (given : Option Token) (fault : Fault) → as_pause given ≡ Err (Error fault) → ⊥

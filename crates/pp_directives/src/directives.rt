@@ -11,7 +11,7 @@ ghost use Rattle.pp_model.specs.Run.{items_of, content_tokens};
 ghost use Rattle.pp_model.specs.Blocks.{part_of};
 ghost use Rattle.pp_model.specs.declared.block.Part.TheVariants as part;
 ghost use Rattle.pp_model.specs.declared.directive.Directive.TheVariants as d;
-ghost use Rattle.pp_macros.specs.inner.Defined.{meaning_of};
+ghost use Rattle.pp_macros.specs.inner.Defined.{meaning_of, names_in, numbered_by, AreNumbered};
 ghost use Rattle.pp_macros.specs.Held.{HoldsOrdinary};
 ghost use Rattle.pp_macros.specs.Item.{as_step};
 ghost use Rattle.pp_macros.specs.inner.Reader.{of_source, ReadsOnto, ReadsRun};
@@ -174,7 +174,7 @@ impl<'a> DirectiveProcessor<'a> {
         ensures errors { Reports result (unreported_of self.old) (unreported_of self.new) }
     {
         if let Some(before) = self.definitions.get(line.name.as_str()) {
-            let is_same = before.define().is_same(&line.define);
+            let is_same = before.is_same(&line.define);
             let location = line.location;
             drop(line);
             if is_same {
@@ -625,8 +625,9 @@ impl<'a> DirectiveProcessor<'a> {
     pub fn macro_of_word(&self, word: &PlainItem<'_>) -> Option<&Rc<Macro>>
         requires no_hash { word.now.form ≢ Hash }
         requires ascii { IsAscii word.now.spelling.now }
-        ensures { option_map (λ m. (m.now.value.name, m.now.value.definition)) result
+        ensures opened { option_map (λ m. (m.now.value.name, m.now.value.definition)) result
             ≡ macro_of_value (of_source self.now) (word_value word.now.form word.now.spelling.now) }
+        ensures numbered { IfSome result (λ m. AreNumbered (names_in self.now.definitions) (numbered_by m.now.value)) }
     {
         match word.form {
             Form::Identifier => self.definitions.get(word.spelling),

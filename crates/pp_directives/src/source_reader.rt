@@ -30,10 +30,6 @@ impl<'a> MeLexer for DirectiveProcessor<'a> {
         self.definitions().find(name)
     }
 
-    fn find_first_at(&self, guess: Option<NameId>, name: &str) -> Option<NameId> {
-        self.definitions().find_first_at(guess, name)
-    }
-
     fn get_define(&self, id: NameId) -> Option<&Rc<Macro>> {
         self.definitions().get_define(id)
     }

@@ -64,7 +64,7 @@ pub fn opens_bare(word: &PlainItem<'_>, definitions: &Definitions) -> bool
     match word.form {
         Form::Hash => false,
         Form::Identifier => match definitions.get(word.spelling) {
-            Some(found) => !is_line_name(word.spelling) && !found.define().is_function_like(),
+            Some(found) => !is_line_name(word.spelling) && !found.is_function_like(),
             None => false,
         },
         _ => true,

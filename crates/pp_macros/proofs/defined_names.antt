@@ -9,3 +9,5 @@ pub mod DefinitionsLemmas
 pub mod ReaderNamesLemmas
 pub mod ParameterNamesLemmas
 pub mod BodyLemmas
+pub mod NumberLemmas
+pub mod GrowLemmas

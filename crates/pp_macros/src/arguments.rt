@@ -15,7 +15,6 @@ ghost use Rattle.pp_macros.specs.declared.step.StepExit.TheVariants.{Error};
 
 use crate::argument_lists::{ArgumentLists, Part};
 use crate::calls::{MacroCall, Taken};
-use crate::define::Define;
 use crate::halt::{Halt, halt_of};
 use crate::list_lexer::{ListLexer, take_out};
 use crate::list_step::step_list;
@@ -24,7 +23,7 @@ use crate::names::{Definitions, gives_itself};
 use crate::open_around::OpenAround;
 use crate::spares::Spares;
 use crate::step::StepExit;
-use pp_lexer::token::PreprocessorError;
+use pp_lexer::token::{PreprocessorError, Text};
 use pp_model::names::is_line_name;
 use pp_model::parentheses::{ends_argument, nesting_after};
 use pp_model::read::Read;
@@ -68,10 +67,10 @@ fn arguments_of(
 }
 
 // The error of a wrong number of arguments.
-fn misfit(define: &Define, arguments: &ArgumentLists) -> Option<PreprocessorError>
-    ensures { result ≡ misfit define.now.parameters arguments.now }
+fn misfit(parameters: &[Text], arguments: &ArgumentLists) -> Option<PreprocessorError>
+    ensures { result ≡ misfit parameters.now arguments.now }
 {
-    let wanted = define.parameters().len();
+    let wanted = parameters.len();
     let given = arguments.len();
     if wanted == 0 && arguments.is_one_empty() {
         None
@@ -123,13 +122,13 @@ fn expand_call(
     hidden: &OpenAround<'_>,
     levels: u32,
 ) -> Result<ArgumentLists, Halt>
-    ensures answers { Satisfies result (λ out. answers_at levels call.old.definition
+    ensures answers { Satisfies result (λ out. answers_at levels call.old.opened.definition
         (site_at call.old definitions.now (names_of expander.now.frames ++ hidden.now)) out) }
     ensures least { IfOk result (λ outs. AreOfCall levels definitions.now call.old outs) }
     ensures left { call.new ≡ record call.old { tokens = [] } }
 {
     let arguments = arguments_of(alloc, spares, call.take_tokens(alloc))?;
-    match misfit(call.define(), &arguments) {
+    match misfit(call.parameters(), &arguments) {
         Some(error) => return Err(Halt::Fault((error, call.paren()))),
         None => {}
     }

@@ -11,7 +11,9 @@ ghost use Rattle.pp_macros.specs.inner.Reading.{AllReadOrdinary};
 ghost use Rattle.pp_macros.specs.inner.Idle.{is_idle};
 ghost use Rattle.pp_macros.specs.inner.CallTurns.{TurnsOrRefuses, is_out_of_memory_step, paren_of, TakenHoldsOrdinary};
 ghost use Rattle.pp_macros.specs.inner.Expander.{StepsFetching, StepsTaking, TakesNext, TakesOnto, TakesRun, GathersNext, Satisfies, place_after, gathered_to, taken_as, is_pause};
-ghost use Rattle.pp_macros.specs.inner.Turns.{macro_of, macro_of_value};
+ghost use Rattle.pp_macros.specs.inner.Defined.{AreNumbered, names_in, numbered_by};
+ghost use Rattle.pp_macros.specs.inner.Reader.{definitions_of};
+ghost use Rattle.pp_macros.specs.inner.Turns.{macro_of, macro_of_value, Opens};
 ghost use Rattle.pp_lexer.specs.declared.token.TokenValue.TheVariants as value;
 ghost use Rattle.pp_macros.specs.declared.step.StepExit.TheVariants.{Error, Continue, Finished};
 ghost use Rattle.pp_macros.specs.declared.halt.Halt.TheVariants as halt;
@@ -19,7 +21,7 @@ ghost use Rattle.pp_lexer.specs.declared.token.PreprocessorError.TheVariants.{Un
 
 mod giving;
 
-use crate::define::{Define, Macro};
+use crate::define::Macro;
 use crate::halt::{Halt, halt_of};
 use crate::macro_processor::{MacroProcessor, gives_line_name};
 use crate::reader::MeLexer;
@@ -47,7 +49,7 @@ impl Model for MacroCall {
 
     ghost Value = { spec.MacroCall };
 
-    ghost view = { λ c. record { name = c.opened.value.name; definition = c.opened.value.definition; paren = c.paren; closing = c.closing; tokens = c.tokens.items } };
+    ghost view = { λ c. record { opened = c.opened.value; paren = c.paren; closing = c.closing; tokens = c.tokens.items } };
 
     ghost invariant = { λ c. AllReadOrdinary c.tokens.items };
 }
@@ -62,11 +64,11 @@ impl MacroCall {
         mem::replace(&mut self.tokens, Vec::new(alloc))
     }
 
-    /// The definition of its macro.
-    pub fn define(&self) -> &Define
-        ensures { result.now ≡ self.now.definition }
+    /// The names of the parameters of its macro.
+    pub fn parameters(&self) -> &[Text]
+        ensures { result.now ≡ self.now.opened.definition.parameters }
     {
-        self.opened.define()
+        self.opened.parameters()
     }
 
     /// The place of its `(`.
@@ -78,8 +80,7 @@ impl MacroCall {
 
     /// Its macro, and the line of its `)`.
     pub fn into_macro(self) -> (Rc<Macro>, u32)
-        ensures name { result.0.value.name ≡ self.name }
-        ensures definition { result.0.value.definition ≡ self.definition }
+        ensures opened { result.0.value ≡ self.opened }
         ensures line { result.1 ≡ self.closing.line }
     {
         (self.opened, self.closing.line)
@@ -176,8 +177,10 @@ fn find_macro(
     value: &TokenValue,
     painted: bool,
 ) -> Result<Option<Rc<Macro>>, AllocError>
-    ensures { IfOk result (λ found. option_map (λ m. (m.value.name, m.value.definition)) found
+    ensures opened { IfOk result (λ found. option_map (λ m. (m.value.name, m.value.definition)) found
         ≡ (if painted then None else macro_of_value (reader lexer.now) value.now)) }
+    ensures numbered { IfOk result (λ found. IfSome found (λ m.
+        AreNumbered (names_in (definitions_of (reader lexer.now))) (numbered_by m.value))) }
 {
     if painted {
         return Ok(None);
@@ -206,8 +209,8 @@ fn ended_after(paren: Location, tokens: &[Read]) -> Halt
 }
 
 // The number of tokens to make room for when a call of this macro is gathered.
-fn room_for(define: &Define) -> usize {
-    define.parameters().len().saturating_mul(2).clamp(16, 256)
+fn room_for(opened: &Macro) -> usize {
+    opened.parameters().len().saturating_mul(2).clamp(16, 256)
 }
 
 impl MacroProcessor {
@@ -370,7 +373,7 @@ impl MacroProcessor {
     // Opens the frame of an object-like macro, as a step.
     fn open_plain(&mut self, opened: Rc<Macro>, line: u32) -> Step<Taken>
         ensures opens { ((result ≡ Err Continue) × (self.new ≡ record self.old {
-          frames = new_frame opened.value.name line opened.value.definition []
+          frames = new_frame opened.value line []
               ∷ self.old.frames;
         }))
             ⊎ (result ≡ Err (Error out_of_memory)) }
@@ -394,11 +397,11 @@ impl MacroProcessor {
         ensures enters { Enters (unpainted (record {
           value = value.Ident name;
           location = location;
-        })) opened.value.name opened.value.definition self.old (reader lexer.old) result self.new
+        })) opened.value self.old (reader lexer.old) result self.new
             (reader lexer.new) ⊎ (result ≡ Err (Error out_of_memory)) }
         ensures holds { IfOk result TakenHoldsOrdinary }
     {
-        let room = room_for(opened.define());
+        let room = room_for(&opened);
         match self.seek(lexer, room)? {
             AfterName::NoCall => Ok(Taken::Token(Read::unpainted(Token {
                 value: TokenValue::Ident(name),
@@ -420,8 +423,7 @@ impl MacroProcessor {
     // Opens the macro of a name that is taken, or begins its call.
     #[inline(never)]
     fn enter(&mut self, lexer: &mut dyn MeLexer, read: Read, opened: Rc<Macro>) -> Step<Taken>
-        requires opens { macro_of (reader lexer.old) read
-            ≡ Some (opened.value.name, opened.value.definition) }
+        requires opens { Opens (reader lexer.old) read opened.value }
         requires holds { HoldsOrdinary read.token.value }
         ensures follows { FollowsToken (macro_of (reader lexer.old) read) read
             self.old (reader lexer.old) result self.new (reader lexer.new)
@@ -431,7 +433,7 @@ impl MacroProcessor {
         let Token { value, location } = read.token;
         match value {
             TokenValue::Ident(name) => {
-                if opened.define().is_function_like() {
+                if opened.is_function_like() {
                     self.enter_call(lexer, name, location, opened)
                 } else {
                     drop(name);

@@ -1,14 +1,15 @@
 //! Macros.
 
 ghost use Rattle.std.specs.Prelude.{◌≡◌, ◌↔◌, ◌∷◌, ◌<◌, ◌^◌, true, List, [], IsTrue, All};
-ghost use Rattle.std.specs.Prelude.{IfOk, IfSome, MatchOption, drop, length};
+ghost use Rattle.std.specs.Prelude.{IfOk, IfSome, MatchOption, drop, length, map};
 ghost use Rattle.pp_lexer.specs.declared.token.Token.{Token};
 ghost use Rattle.pp_lexer.specs.TokenValue.{is_ordinary};
 ghost use Rattle.pp_lexer.specs.Spelling.{values_of};
 ghost use Rattle.pp_model.specs.Names.{Name};
 ghost use Rattle.pp_model.specs.Definitions.{IsSameDefinition, object_like};
 ghost use Rattle.pp_macros.specs.inner.Marks.{mark_of};
-ghost use Rattle.pp_macros.specs.inner.Bodies.{AreEntries, AreSeen, IsEntry, IsEntryAt, body_of, is_same_entry, token_of};
+ghost use Rattle.pp_macros.specs.inner.Defined.{AreNumbered, names_in};
+ghost use Rattle.pp_macros.specs.inner.Bodies.{AreEntries, AreSeen, IsEntry, IsEntryAt, body_of, is_same_entry, token_of, unnumbered, noted_at, noted_in};
 
 use crate::marks::mark_of;
 use crate::names::{Definitions, NameId};
@@ -34,7 +35,7 @@ pub enum BodyEntry {
     },
 }
 
-/// The definition of a macro.
+/// The definition of a macro, as its line says it.
 #[derive(Drop)]
 pub struct Define {
     function_like: bool,
@@ -43,8 +44,9 @@ pub struct Define {
 }
 
 impl Model for Define {
+    ghost use Rattle.std.specs.Prelude.{◌≡◌, []};
     ghost use Rattle.pp_model.specs.Definitions.{Definition};
-    ghost use Rattle.pp_macros.specs.inner.Bodies.{AreEntries, body_of};
+    ghost use Rattle.pp_macros.specs.inner.Bodies.{AreEntries, body_of, noted_in};
 
     ghost Value = { Definition };
 
@@ -54,28 +56,42 @@ impl Model for Define {
       body = body_of d.parameters.items d.body.items;
     } };
 
-    ghost invariant = { λ d. AreEntries d.parameters.items d.body.items };
+    ghost invariant = { λ d. AreEntries d.parameters.items d.body.items × (noted_in d.body.items ≡ []) };
 }
 
-/// A macro: a name and its definition.
+/// A macro that is defined: its name with its number, and its definition. The names in its body that had a number when
+/// it was defined are noted with theirs.
 #[derive(Drop)]
 pub struct Macro {
     name: Rc<Text>,
-    define: Define,
+    number: NameId,
     // the mark of the name
     mark: u64,
+    function_like: bool,
+    parameters: Vec<Text>,
+    body: Vec<BodyEntry>,
 }
 
 impl Model for Macro {
     ghost use Rattle.std.specs.Prelude.{◌≡◌};
     ghost use Rattle.pp_macros.specs.inner.Marks.{mark_of};
+    ghost use Rattle.pp_macros.specs.inner.Bodies.{AreEntries, body_of, noted_in};
     ghost use Rattle.pp_macros.specs.inner.Defined as spec;
 
     ghost Value = { spec.Macro };
 
-    ghost view = { λ m. record { name = m.name.value; definition = m.define } };
+    ghost view = { λ m. record {
+      name = m.name.value;
+      number = m.number;
+      definition = record {
+        function_like = m.function_like;
+        parameters = m.parameters.items;
+        body = body_of m.parameters.items m.body.items;
+      };
+      noted = noted_in m.body.items;
+    } };
 
-    ghost invariant = { λ m. m.mark ≡ mark_of m.name.value };
+    ghost invariant = { λ m. (m.mark ≡ mark_of m.name.value) × AreEntries m.parameters.items m.body.items };
 }
 
 // Whether both are the same token, numbers and places aside, or the same parameter.
@@ -113,6 +129,7 @@ fn entry_before(parameters: &ParameterNames, token: Token, seen: &mut [bool]) ->
     ensures token { token_of parameters.now result ≡ token }
     ensures entry { (rest : List Token) → AreSeen parameters.now rest seen.old → IsTrue (is_ordinary token.value)
         → IsEntry parameters.now result rest }
+    ensures bare { noted_at result ≡ [] }
     ensures seen { (rest : List Token) → AreSeen parameters.now rest seen.old
         → AreSeen parameters.now (token ∷ rest) seen.new }
 {
@@ -147,6 +164,7 @@ fn entries_of(
     requires { All (λ token. IsTrue (is_ordinary token.value)) body.items }
     ensures entries { IfOk result (λ entries. AreEntries parameters.now entries.items) }
     ensures body { IfOk result (λ entries. body_of parameters.now entries.items ≡ body.items) }
+    ensures bare { IfOk result (λ entries. noted_in entries.items ≡ []) }
 {
     let mut seen = vec![in alloc; false; parameters.len()]?;
     let mut entries = Vec::with_capacity(alloc, body.len())?;
@@ -158,13 +176,48 @@ fn entries_of(
     Ok(entries)
 }
 
+// Notes the numbers of the names in a body.
+fn note_numbers(body: &mut [BodyEntry], definitions: &Definitions)
+    ensures same { map unnumbered body.new ≡ map unnumbered body.old }
+    ensures noted { AreNumbered (names_in definitions.now) (noted_in body.old)
+        → AreNumbered (names_in definitions.now) (noted_in body.new) }
+{
+    for entry in body.iter_mut() {
+        if let BodyEntry::Token(token, number) = entry {
+            if let TokenValue::Ident(name) = &token.value {
+                *number = definitions.find(name.as_str());
+            }
+        }
+    }
+}
+
 impl Macro {
-    /// The macro of this name, with this definition.
-    pub fn new(name: Rc<Text>, define: Define) -> Macro
-        ensures { result ≡ record { name = name.value; definition = define } }
+    /// The macro of this name, which has this number, with this definition. The numbers of names are those in these
+    /// definitions.
+    pub fn new(name: Rc<Text>, number: NameId, define: Define, definitions: &Definitions) -> Macro
+        ensures is { result ≡ record {
+          name = name.value;
+          number = number;
+          definition = define;
+          noted = result.noted;
+        } }
+        ensures noted { AreNumbered (names_in definitions.now) result.noted }
     {
         let mark = mark_of(name.as_str());
-        Macro { name, define, mark }
+        let Define {
+            function_like,
+            parameters,
+            mut body,
+        } = define;
+        note_numbers(&mut body, definitions);
+        Macro {
+            name,
+            number,
+            mark,
+            function_like,
+            parameters,
+            body,
+        }
     }
 
     /// Its name.
@@ -183,12 +236,47 @@ impl Macro {
         self.mark
     }
 
-    /// Its definition.
-    #[inline(always)]
-    pub fn define(&self) -> &Define
-        ensures { result.now ≡ self.now.definition }
+    /// Whether it has parameters in parentheses.
+    pub fn is_function_like(&self) -> bool
+        ensures { result ≡ self.now.definition.function_like }
     {
-        &self.define
+        self.function_like
+    }
+
+    /// The names of its parameters.
+    pub fn parameters(&self) -> &[Text]
+        ensures { result.now ≡ self.now.definition.parameters }
+    {
+        &self.parameters
+    }
+
+    /// The number of entries of its body.
+    #[inline(always)]
+    pub fn len(&self) -> usize
+        ensures { result ≡ length self.now.definition.body }
+    {
+        self.body.len()
+    }
+
+    /// The entry of its body at this position.
+    #[inline(always)]
+    pub fn entry_at(&self, position: usize) -> Option<&BodyEntry>
+        ensures entry { MatchOption result (drop position self.now.definition.body ≡ [])
+            (λ entry. IsEntryAt self.now.definition position entry.now) }
+        ensures noted { IfSome result (λ entry. (names : List Name) → AreNumbered names self.now.noted
+            → AreNumbered names (noted_at entry.now)) }
+        ensures small { IfSome result (λ _. position < 2 ^ 63) }
+    {
+        self.body.get(position)
+    }
+
+    /// Whether it may be defined so again: kind, parameters and the values of the body are equal.
+    pub fn is_same(&self, other: &Define) -> bool
+        ensures { IsTrue result ↔ IsSameDefinition self.now.definition other.now }
+    {
+        self.function_like == other.function_like
+            && are_same_names(&self.parameters, &other.parameters)
+            && have_same_values(&self.body, &other.body)
     }
 }
 
@@ -224,59 +312,5 @@ impl Define {
             body: entries_of(alloc, &parameters, body)?,
             parameters: parameters.into_names(),
         })
-    }
-
-    /// Whether the macro has parameters in parentheses.
-    pub fn is_function_like(&self) -> bool
-        ensures { result ≡ self.now.function_like }
-    {
-        self.function_like
-    }
-
-    /// The names of the parameters.
-    pub fn parameters(&self) -> &[Text]
-        ensures { result.now ≡ self.now.parameters }
-    {
-        &self.parameters
-    }
-
-    /// The number of entries of the body.
-    #[inline(always)]
-    pub fn len(&self) -> usize
-        ensures { result ≡ length self.now.body }
-    {
-        self.body.len()
-    }
-
-    /// The entry of the body at this position.
-    #[inline(always)]
-    pub fn entry_at(&self, position: usize) -> Option<&BodyEntry>
-        ensures entry { MatchOption result (drop position self.now.body ≡ [])
-            (λ entry. IsEntryAt self.now position entry.now) }
-        ensures small { IfSome result (λ _. position < 2 ^ 63) }
-    {
-        self.body.get(position)
-    }
-
-    /// Notes the numbers of the names in the body.
-    pub fn note_numbers(&mut self, definitions: &Definitions)
-        ensures { self.new ≡ self.old }
-    {
-        for entry in self.body.iter_mut() {
-            if let BodyEntry::Token(token, number) = entry {
-                if let TokenValue::Ident(name) = &token.value {
-                    *number = definitions.find(name.as_str());
-                }
-            }
-        }
-    }
-
-    /// Whether a redefinition is allowed: kind, parameters and the values of the body are equal.
-    pub fn is_same(&self, other: &Define) -> bool
-        ensures { IsTrue result ↔ IsSameDefinition self.now other.now }
-    {
-        self.function_like == other.function_like
-            && are_same_names(&self.parameters, &other.parameters)
-            && have_same_values(&self.body, &other.body)
     }
 }

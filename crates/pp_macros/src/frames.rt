@@ -2,8 +2,11 @@
 //! were read.
 
 ghost use Rattle.std.specs.Prelude.{◌≡◌, ◌⊎◌, ◌++◌, ◌∷◌, [], IfOk, OnOk, IfSome, MatchOption};
-ghost use Rattle.std.specs.Prelude.{Some, None, Ok, Err, IsSome, is_some};
+ghost use Rattle.std.specs.Prelude.{List, Some, None, Ok, Err, IsSome, is_some, option_map};
 ghost use Rattle.pp_lexer.specs.PreprocessorError.{out_of_memory};
+ghost use Rattle.pp_model.specs.Names.{Name};
+ghost use Rattle.pp_macros.specs.inner.Bodies.{noted_by};
+ghost use Rattle.pp_macros.specs.inner.Defined.{AreNumbered};
 ghost use Rattle.pp_macros.specs.inner.Frames.{new_frame, advance};
 ghost use Rattle.pp_macros.specs.inner.Parts.{lists_of};
 ghost use Rattle.pp_macros.specs.Held.{HoldsOrdinary};
@@ -30,46 +33,52 @@ pub struct Ahead<'a> {
 }
 
 impl<'a> Model for Ahead<'a> {
-    ghost use Rattle.pp_model.specs.declared.read.Read.{Read};
+    ghost use Rattle.pp_macros.specs.inner.Ahead as spec;
+    ghost use Rattle.pp_macros.specs.inner.Ahead.{number_at};
 
-    ghost Value = { Read };
+    ghost Value = { spec.Ahead };
 
-    ghost view = { λ a. record { token = a.token.now; painted = a.painted } };
+    ghost view = { λ a. record {
+      read = record { token = a.token.now; painted = a.painted };
+      number = number_at a.noted;
+    } };
 }
 
 impl<'a> Ahead<'a> {
     /// The token, as it is in its list.
     #[inline(always)]
     pub fn token(&self) -> &'a Token
-        ensures { result.now ≡ self.now.token }
+        ensures { result.now ≡ self.now.read.token }
     {
         self.token
     }
 
     /// Its value.
     pub fn value(&self) -> &'a TokenValue
-        ensures { result.now ≡ self.now.token.value }
+        ensures { result.now ≡ self.now.read.token.value }
     {
         &self.token.value
     }
 
     /// The line of its place.
     pub fn line(&self) -> u32
-        ensures { result ≡ self.now.token.location.line }
+        ensures { result ≡ self.now.read.token.location.line }
     {
         self.token.location.line
     }
 
     /// Whether it is painted.
     pub fn is_painted(&self) -> bool
-        ensures { result ≡ self.now.painted }
+        ensures { result ≡ self.now.read.painted }
     {
         self.painted
     }
 
     /// The number that was noted for it, if it is of a body.
     #[inline(always)]
-    pub(crate) fn number(&self) -> Option<NameId> {
+    pub(crate) fn number(&self) -> Option<NameId>
+        ensures { result ≡ self.now.number }
+    {
         *self.noted?
     }
 
@@ -84,7 +93,7 @@ impl<'a> Ahead<'a> {
 
     /// A copy of the token, painted or not.
     pub fn copied_as(&self, alloc: Global, painted: bool) -> Result<Read, AllocError>
-        ensures { IfOk result (λ copy. copy ≡ record { token = self.now.token; painted = painted }) }
+        ensures { IfOk result (λ copy. copy ≡ record { token = self.now.read.token; painted = painted }) }
     {
         Ok(Read {
             token: copy_of(alloc, self.token)?,
@@ -95,7 +104,7 @@ impl<'a> Ahead<'a> {
     /// A copy of the token, without its paint. A punctuator is made without a call.
     #[inline(always)]
     pub fn copied_token(&self, alloc: Global) -> Result<Token, AllocError>
-        ensures { IfOk result (λ copy. copy ≡ self.now.token) }
+        ensures { IfOk result (λ copy. copy ≡ self.now.read.token) }
     {
         if let TokenValue::Punct(punct) = self.value() {
             return Ok(Token {
@@ -115,7 +124,7 @@ impl<'a> Ahead<'a> {
         items: &mut Vec<Read>,
     ) -> Result<(), AllocError>
         ensures { OnOk result (items.new.items
-            ≡ items.old.items ++ record { token = self.now.token; painted = painted } ∷ []) }
+            ≡ items.old.items ++ record { token = self.now.read.token; painted = painted } ∷ []) }
     {
         if let TokenValue::Punct(punct) = self.value() {
             items.push(Read {
@@ -139,7 +148,7 @@ impl<'a> Ahead<'a> {
         items: &mut Vec<Read>,
     ) -> Result<(), AllocError>
         ensures { OnOk result (items.new.items
-            ≡ items.old.items ++ record { token = self.now.token; painted = painted } ∷ []) }
+            ≡ items.old.items ++ record { token = self.now.read.token; painted = painted } ∷ []) }
     {
         items.push(self.copied_as(alloc, painted)?)?;
         Ok(())
@@ -147,7 +156,7 @@ impl<'a> Ahead<'a> {
 
     /// A copy of the token, with its paint.
     pub fn copied(&self, alloc: Global) -> Result<Read, AllocError>
-        ensures { IfOk result (λ copy. copy ≡ self.now) }
+        ensures { IfOk result (λ copy. copy ≡ self.now.read) }
     {
         self.copied_as(alloc, self.painted)
     }
@@ -170,6 +179,8 @@ impl Model for Frame {
 
     ghost view = { λ f. record {
       name = f.opened.value.name;
+      number = f.opened.value.number;
+      noted = f.opened.value.noted;
       line = f.line;
       parameters = f.opened.value.definition.parameters;
       body = drop f.position f.opened.value.definition.body;
@@ -202,7 +213,7 @@ fn copy_of_value(alloc: Global, value: &TokenValue) -> Result<TokenValue, AllocE
 
 /// The step that gives a copy of a token.
 pub fn give(alloc: Global, ahead: Ahead<'_>) -> Step<Read>
-    ensures { (result ≡ Err (Error out_of_memory)) ⊎ (result ≡ Ok ahead.entry) }
+    ensures { (result ≡ Err (Error out_of_memory)) ⊎ (result ≡ Ok ahead.entry.read) }
 {
     match ahead.copied(alloc) {
         Ok(read) => Ok(read),
@@ -222,7 +233,7 @@ impl Frame {
     /// The frame of a macro that opens.
     #[inline(always)]
     pub fn new(opened: Rc<Macro>, line: u32, arguments: ArgumentLists) -> Frame
-        ensures { result ≡ new_frame opened.value.name line opened.value.definition arguments }
+        ensures { result ≡ new_frame opened.value line arguments }
     {
         Frame {
             opened,
@@ -235,7 +246,7 @@ impl Frame {
     /// The frame of a macro without arguments that opens.
     #[inline(always)]
     pub fn bare(alloc: Global, opened: Rc<Macro>, line: u32) -> Frame
-        ensures { result ≡ new_frame opened.value.name line opened.value.definition [] }
+        ensures { result ≡ new_frame opened.value line [] }
     {
         Frame {
             opened,
@@ -279,8 +290,10 @@ impl Frame {
     /// argument and at the end of the body.
     #[inline(always)]
     pub fn token(&self) -> Option<Ahead<'_>>
-        ensures token { result ≡ given_by (advance self.now) }
-        ensures holds { IfSome result (λ ahead. HoldsOrdinary ahead.token.value) }
+        ensures token { option_map (λ ahead. ahead.read) result ≡ given_by (advance self.now) }
+        ensures number { IfSome result (λ ahead. (names : List Name) → AreNumbered names self.now.noted
+            → AreNumbered names (noted_by ahead.number ahead.read.token.value)) }
+        ensures holds { IfSome result (λ ahead. HoldsOrdinary ahead.read.token.value) }
     {
         if self.arguments.is_reading() {
             let read = self.arguments.token()?;
@@ -290,7 +303,7 @@ impl Frame {
                 noted: None,
             });
         }
-        match self.opened.define().entry_at(self.position) {
+        match self.opened.entry_at(self.position) {
             Some(BodyEntry::Token(token, number)) => Some(Ahead {
                 token,
                 painted: false,
@@ -329,7 +342,7 @@ impl Frame {
             self.arguments.pass();
             return;
         }
-        prove!(self.position < self.opened.define().len());
+        prove!(self.position < self.opened.len());
         self.position += 1;
     }
 
@@ -351,7 +364,7 @@ impl Frame {
                 is_last,
                 ..
             },
-        ) = self.opened.define().entry_at(self.position)
+        ) = self.opened.entry_at(self.position)
         else {
             return false;
         };

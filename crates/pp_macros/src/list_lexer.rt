@@ -243,10 +243,6 @@ impl<'a> MeLexer for ListLexer<'a> {
         self.definitions.find(name)
     }
 
-    fn find_first_at(&self, guess: Option<NameId>, name: &str) -> Option<NameId> {
-        self.definitions.find_first_at(guess, name)
-    }
-
     fn get_define(&self, id: NameId) -> Option<&Rc<Macro>> {
         match self.reserved {
             Some(reserved) if reserved.number() == id.number() => None,

@@ -1,17 +1,20 @@
 //! The macros that are open, over a reader.
 
-ghost use Rattle.std.specs.Prelude.{◌≡◌, ◌≤◌, ◌<◌, ◌-◌, ◌∷◌, [], drop, take, IfOk, IfSome, OnErr, OnOk, MatchOption, MatchResult, Ok, Err, Some, None, IsSome, option_map, is_some, pos, false};
+ghost use Rattle.std.specs.Prelude.{List, ◌≡◌, ◌≤◌, ◌<◌, ◌-◌, ◌∷◌, [], drop, take, IfOk, IfSome, OnErr, OnOk, MatchOption, MatchResult, Ok, Err, Some, None, IsSome, option_map, is_some, pos, false};
 ghost use Rattle.std.specs.List.{list_any};
 ghost use Rattle.std.specs.Str.{chars};
 ghost use Rattle.pp_lexer.specs.declared.token.PreprocessorError.TheVariants.{LineOverflow};
 ghost use Rattle.pp_lexer.specs.declared.token.TokenValue.TheVariants as value;
-ghost use Rattle.pp_model.specs.Names.{is_in, is_same_name};
+ghost use Rattle.pp_model.specs.Names.{Name, is_in, is_same_name};
 ghost use Rattle.pp_model.specs.Painting.{is_one_of, painted_among, unpainted};
 ghost use Rattle.pp_model.specs.declared.read.Taken.TheVariants as given;
 ghost use Rattle.pp_macros.specs.inner.Frames.{new_frame, names_of, outermost_frame_line};
 ghost use Rattle.pp_macros.specs.Held.{HoldsOrdinary};
 ghost use Rattle.pp_macros.specs.inner.Ahead.{given_next};
 ghost use Rattle.pp_macros.specs.inner.Giving.{passed};
+ghost use Rattle.pp_macros.specs.inner.Bodies.{noted_by};
+ghost use Rattle.pp_macros.specs.inner.Defined.{AreNumbered};
+ghost use Rattle.pp_macros.specs.inner.Left.{HaveNumbers};
 ghost use Rattle.pp_macros.specs.inner.Idle.{is_idle};
 ghost use Rattle.pp_macros.specs.inner.OpenNames.{after_closing, after_opening};
 ghost use Rattle.pp_macros.specs.inner.Turns.{Moves, taken_in, masks, gives_line_name, macro_of_value};
@@ -318,8 +321,10 @@ impl MacroProcessor {
 
     /// What the innermost frame gives next, or `None` if its next step is a pause.
     pub fn ahead(&self) -> Option<Ahead<'_>>
-        ensures ahead { result ≡ given_next self.now.frames }
-        ensures holds { IfSome result (λ ahead. HoldsOrdinary ahead.token.value) }
+        ensures ahead { option_map (λ ahead. ahead.read) result ≡ given_next self.now.frames }
+        ensures number { IfSome result (λ ahead. (names : List Name) → HaveNumbers names self.now.frames
+            → AreNumbered names (noted_by ahead.number ahead.read.token.value)) }
+        ensures holds { IfSome result (λ ahead. HoldsOrdinary ahead.read.token.value) }
     {
         match self.frames.last() {
             Some(frame) => frame.token(),
@@ -469,7 +474,7 @@ impl MacroProcessor {
     pub fn open_call(&mut self, call: MacroCall, arguments: ArgumentLists) -> Result<(), AllocError>
         ensures { OnOk result (self.new
             ≡ record self.old {
-              frames = new_frame call.name call.closing.line call.definition arguments
+              frames = new_frame call.opened call.closing.line arguments
                   ∷ self.old.frames;
             }) }
     {
@@ -481,7 +486,7 @@ impl MacroProcessor {
     #[inline(always)]
     pub fn open_bare(&mut self, opened: Rc<Macro>, line: u32) -> Result<(), AllocError>
         ensures { OnOk result (self.new ≡ record self.old {
-          frames = new_frame opened.value.name line opened.value.definition []
+          frames = new_frame opened.value line []
               ∷ self.old.frames;
         }) }
     {

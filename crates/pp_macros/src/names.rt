@@ -3,7 +3,7 @@
 ghost use Rattle.std.specs.Prelude.{◌≡◌, [], Some, None, option_map, position, IfSome, IfOk, OnOk, OnErr};
 ghost use Rattle.std.specs.Str.{chars};
 ghost use Rattle.pp_model.specs.Names.{Name, is_same_name};
-ghost use Rattle.pp_macros.specs.inner.Defined.{meaning_of, names_in, opened_by, IsChanged};
+ghost use Rattle.pp_macros.specs.inner.Defined.{meaning_of, names_in, opened_by, numbered_by, AreNumbered, IsChanged};
 ghost use Rattle.pp_macros.specs.inner.Plain.{gives_itself};
 
 mod table;
@@ -55,13 +55,13 @@ pub struct Definitions {
 
 impl Model for Definitions {
     ghost use Rattle.std.specs.Prelude.{List};
-    ghost use Rattle.pp_macros.specs.inner.Defined.{Defined, AreOfNames, defined_as};
+    ghost use Rattle.pp_macros.specs.inner.Defined.{Defined, AreAllNumbered, AreOfNames, defined_as};
 
     ghost Value = { List Defined };
 
     ghost view = { λ d. defined_as d.names d.macros.items };
 
-    ghost invariant = { λ d. AreOfNames d.names d.macros.items };
+    ghost invariant = { λ d. AreOfNames d.names d.macros.items × AreAllNumbered d.names d.macros.items };
 }
 
 /// Whether a value that isn't painted gives itself while no macro is open: it isn't `__LINE__`, nor a
@@ -74,13 +74,6 @@ pub fn gives_itself(definitions: &Definitions, value: &TokenValue) -> bool
         TokenValue::Ident(name) => !is_line_name(value) && definitions.get(name.as_str()).is_none(),
         _ => true,
     }
-}
-
-// The macro of this name with this definition, to be shared.
-fn shared(alloc: Global, name: Rc<Text>, define: Define) -> Result<Rc<Macro>, AllocError>
-    ensures { IfOk result (λ m. m.value ≡ record { name = name.value; definition = define }) }
-{
-    Ok(Rc::new(alloc, Macro::new(name, define))?)
 }
 
 impl Definitions {
@@ -106,25 +99,13 @@ impl Definitions {
         }
     }
 
-    /// The number of the name, if it was ever defined. The number that is guessed, if one is, is tried first.
-    #[inline(always)]
-    pub fn find_first_at(&self, guess: Option<NameId>, name: &str) -> Option<NameId>
-        ensures { result ≡ position (is_same_name (chars name.now)) (names_in self.now) }
-    {
-        if let Some(id) = guess {
-            if self.names.has_at(id.0, name) {
-                return Some(id);
-            }
-        }
-        self.find(name)
-    }
-
     /// The macro of the name with this number, if it is defined.
     #[inline(always)]
     pub fn get_define(&self, id: NameId) -> Option<&Rc<Macro>>
-        ensures { (name : Name) → position (is_same_name name) (names_in self.now) ≡ Some id
+        ensures opened { (name : Name) → position (is_same_name name) (names_in self.now) ≡ Some id
             → option_map (λ m. (m.now.value.name, m.now.value.definition)) result
             ≡ opened_by name (meaning_of self.now name) }
+        ensures numbered { IfSome result (λ m. AreNumbered (names_in self.now) (numbered_by m.now.value)) }
     {
         self.macros.get(id.0)?.as_ref()
     }
@@ -135,24 +116,39 @@ impl Definitions {
         ensures definition { option_map (λ m. m.now.value.definition) result
             ≡ meaning_of self.now (chars name.now) }
         ensures name { IfSome result (λ m. m.now.value.name ≡ chars name.now) }
+        ensures numbered { IfSome result (λ m. AreNumbered (names_in self.now) (numbered_by m.now.value)) }
     {
         let id = self.find(name)?;
         self.get_define(id)
     }
 
+    // The macro of the name with this number and with this definition, to be shared.
+    fn shared(&self, name: Rc<Text>, id: NameId, define: Define) -> Result<Rc<Macro>, AllocError>
+        ensures is { IfOk result (λ m. m.value ≡ record {
+          name = name.value;
+          number = id;
+          definition = define;
+          noted = m.value.noted;
+        }) }
+        ensures noted { IfOk result (λ m. AreNumbered (names_in self.now) m.value.noted) }
+    {
+        Ok(Rc::new(self.alloc, Macro::new(name, id, define, self))?)
+    }
+
     /// Defines the name, replacing any definition of it. If an allocation fails, nothing changes.
-    pub fn set(&mut self, name: Text, mut define: Define) -> Result<(), AllocError>
+    pub fn set(&mut self, name: Text, define: Define) -> Result<(), AllocError>
         ensures ok { OnOk result (IsChanged name (Some define) self.old self.new) }
         ensures err { OnErr result (self.new ≡ self.old) }
     {
-        define.note_numbers(self);
         let text = Rc::new(self.alloc, name)?;
         if let Some(id) = self.find(text.as_str()) {
-            self.macros[id.0] = Some(shared(self.alloc, text, define)?);
+            let new = self.shared(text, id, define)?;
+            self.macros[id.0] = Some(new);
             return Ok(());
         }
         self.macros.reserve(1)?;
-        let new = shared(self.alloc, text.clone()?, define)?;
+        let id = NameId(self.macros.len());
+        let new = self.shared(text.clone()?, id, define)?;
         self.names.push(text, new.mark())?;
         self.macros.push_reserved(Some(new));
         Ok(())
@@ -160,7 +156,8 @@ impl Definitions {
 
     /// Removes the definition of the name, which keeps its number.
     pub fn remove(&mut self, name: &str)
-        ensures { IsChanged (chars name.now) None self.old self.new }
+        ensures change { IsChanged (chars name.now) None self.old self.new }
+        ensures names { names_in self.new ≡ names_in self.old }
     {
         if let Some(id) = self.find(name) {
             self.macros[id.0] = None;

@@ -1,13 +1,13 @@
 //! Where tokens come from when no macro is open.
 
-ghost use Rattle.std.specs.Prelude.{◌≡◌, ◌++◌, ◌∷◌, [], List, IfOk, Some, option_map, ok_or, position};
+ghost use Rattle.std.specs.Prelude.{◌≡◌, ◌++◌, ◌∷◌, [], List, IfOk, IfSome, Some, option_map, ok_or, position};
 ghost use Rattle.std.specs.Str.{chars};
 ghost use Rattle.pp_lexer.specs.declared.token.PreprocessorError.TheVariants.{LineOverflow};
 ghost use Rattle.pp_model.specs.Names.{Name, is_in, is_same_name};
 ghost use Rattle.pp_model.specs.declared.read.Read.{Read};
 ghost use Rattle.pp_macros.specs.Held.{HoldsOrdinary};
 ghost use Rattle.pp_macros.specs.Item.{as_step};
-ghost use Rattle.pp_macros.specs.inner.Defined.{names_in, opened_by};
+ghost use Rattle.pp_macros.specs.inner.Defined.{AreNumbered, names_in, numbered_by, opened_by};
 ghost use Rattle.pp_macros.specs.inner.Reader.{Reader, Reads, ReadsRun, nests, visible, hidden_of, shown_line, definitions_of};
 
 use crate::define::Macro;
@@ -38,15 +38,13 @@ pub trait MeLexer {
     fn find(&self, name: &str) -> Option<NameId>
         ensures { result ≡ position (is_same_name (chars name.now)) (names_in (definitions_of (reader self.now))) };
 
-    /// The number of the name, if it was ever defined. The number that is guessed, if one is, is tried first.
-    fn find_first_at(&self, guess: Option<NameId>, name: &str) -> Option<NameId>
-        ensures { result ≡ position (is_same_name (chars name.now)) (names_in (definitions_of (reader self.now))) };
-
     /// The macro of the name with this number, if it is defined there.
     fn get_define(&self, id: NameId) -> Option<&Rc<Macro>>
-        ensures { (name : Name) → position (is_same_name name) (names_in (definitions_of (reader self.now))) ≡ Some id
+        ensures opened { (name : Name) → position (is_same_name name) (names_in (definitions_of (reader self.now))) ≡ Some id
             → option_map (λ m. (m.now.value.name, m.now.value.definition)) result
-            ≡ opened_by name (visible (reader self.now) name) };
+            ≡ opened_by name (visible (reader self.now) name) }
+        ensures numbered { IfSome result (λ m.
+            AreNumbered (names_in (definitions_of (reader self.now))) (numbered_by m.now.value)) };
 
     /// Whether a macro of this name is open around it.
     fn is_hidden(&self, name: &str) -> bool

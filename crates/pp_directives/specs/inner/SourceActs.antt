@@ -14,7 +14,7 @@ use Rattle.pp_model.specs.Names.{Name}
 use Rattle.pp_model.specs.Sights.{directive_of}
 use Rattle.pp_model.specs.inner.Sights.{directive_sight}
 use Rattle.pp_model.specs.declared.definition.Named.{Named}
-use Rattle.pp_macros.specs.inner.Defined.{Defined, meaning_of, body_tokens}
+use Rattle.pp_macros.specs.inner.Defined.{Defined, meaning_of, names_in, body_tokens}
 use Rattle.pp_macros.specs.Item.{Step}
 use Rattle.pp_macros.specs.inner.Source.{Source, Condition, LineNumber, Makes}
 use Rattle.pp_model.specs.Moves.{Effect, fails, defines, decides, renumbers, Move, failing, directive_move}
@@ -28,11 +28,11 @@ use Rattle.pp_macros.specs.declared.halt.Halt.{Halt}
 use Rattle.pp_macros.specs.declared.halt.Halt.TheVariants as halt
 use Rattle.pp_macros.specs.declared.step.StepExit.TheVariants.{Continue}
 
--- All that is known after a fault: no more items and open blocks are left, no more names or tokens of bodies are
--- defined, and memory didn't run out.
+-- All that is known after a fault: no more items and open blocks are left, the same names have numbers, no more tokens
+-- of bodies are defined, and memory didn't run out.
 pub record HasKept (old new : Source) : Type 0 where
   pub left : length new.rest + length new.blocks ≤ length old.rest + length old.blocks
-  pub names : length new.definitions ≤ length old.definitions
+  pub names : names_in new.definitions ≡ names_in old.definitions
   pub tokens : body_tokens new.definitions ≤ body_tokens old.definitions
   pub spent : new.spent ≡ false
 

@@ -18,7 +18,7 @@ use Rattle.pp_model.specs.SpliceList.{parameter_of}
 use Rattle.pp_macros.specs.declared.define.BodyEntry.{BodyEntry}
 use Rattle.pp_macros.specs.declared.define.BodyEntry.TheVariants as entry
 use Rattle.pp_lexer.proofs.values.EqualityLemmas.{value_decides}
-use Rattle.pp_macros.specs.inner.Bodies.{AreEntries, IsEntry, IsEntryAt, body_of, is_same_entry, token_of}
+use Rattle.pp_macros.specs.inner.Bodies.{AreEntries, IsEntry, IsEntryAt, body_of, is_same_entry, token_of, unnumbered}
 use Rattle.pp_macros.proofs.defined_names.NameKeysLemmas.{names_same}
 
 -- the value that names a parameter is the identifier of its name
@@ -112,11 +112,6 @@ same_definition f g ps qs xs ys r kind names p q tells =
       λ yes. record { kind = kind; parameters = names; body = rw names (decided.0 yes) },
       λ same. decided.1 (rw names at same.body),
     )
-
--- an entry without its number
-abbrev pub unnumbered : BodyEntry → BodyEntry
-unnumbered (entry.Token token number) = entry.Token token None
-unnumbered (entry.Parameter k location is_last) = entry.Parameter k location is_last
 
 -- an entry that only has another number
 pub number_changed : (old new : List BodyEntry) (i : ℕ) (e other : BodyEntry) → new ≡ set old i other

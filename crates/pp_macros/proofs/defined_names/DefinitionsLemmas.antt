@@ -167,6 +167,12 @@ module _ {Z : Type 0} where
   set_named (n ∷ names) (o ∷ macros) name zero m of found named = (rw (sym (names_same name n found)) named, of.1)
   set_named (n ∷ names) (o ∷ macros) name (suc k) m of found named = (of.0, set_named names macros name k m of.1 found.1 named)
 
+  -- that leaves the names
+  pub names_set : (names : List Name) (macros : List (Option (Rc Macro Z))) (name : Name) (k : ℕ) (m : Option (Rc Macro Z)) → AreOfNames names macros
+      → IsFoundAt name names k → IsNamed name m → names_in (defined_as names (set macros k m)) ≡ names_in (defined_as names macros)
+  names_set names macros name k m of found named =
+      names_as names (set macros k m) (set_named names macros name k m of found named) ∙ sym (names_as names macros of)
+
   pub is_set : (names : List Name) (macros : List (Option (Rc Macro Z))) (name : Name) (k : ℕ) (m : Option (Rc Macro Z)) → AreOfNames names macros
       → IsFoundAt name names k → IsChanged name (definition_of m) (defined_as names macros) (defined_as names (set macros k m))
   is_set names macros name k m of found =

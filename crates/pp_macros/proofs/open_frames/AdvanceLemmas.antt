@@ -1,4 +1,4 @@
--- A step of a frame lowers the number of its steps and keeps its name; and how many steps a frame has when it opens.
+-- A step of a frame lowers the number of its steps and keeps its name and the numbers; and how many steps a frame has when it opens.
 use Rattle.std.proofs.Common.{◌≡◌, ℕ, ◌+◌, ◌*◌, ◌<◌, ◌≤◌, Bool, true, false, List, [], ◌∷◌, length, refl, ap, arith, Option, Some, None, IfSome}
 use Rattle.pp_lexer.specs.declared.token.Token.{Token}
 use Rattle.pp_model.specs.declared.read.Read.{Read}
@@ -11,10 +11,12 @@ use Rattle.pp_macros.specs.inner.Bodies.{has_parameter}
 use Rattle.pp_macros.specs.inner.Work.{token_steps, body_steps, steps_left}
 use Rattle.pp_macros.proofs.open_frames.RoleLemmas.{steps_without}
 
--- a frame after a step: fewer steps are left, and its name stays
+-- a frame after a step: fewer steps are left, and its name and the numbers stay
 pub record Advances (f : Frame) (a : Advance) : Type 0 where
   pub lower : steps_left a.after < steps_left f
   pub name : a.after.name ≡ f.name
+  pub number : a.after.number ≡ f.number
+  pub noted : a.after.noted ≡ f.noted
 
 -- the end of a body is a step too
 pub body_steps_some : (parameters : List Name) (arguments : List (List Read)) (body : List Token) → 0 < body_steps parameters arguments body
@@ -25,49 +27,38 @@ body_steps_some parameters arguments (token ∷ rest) = omega (arith, body_steps
 pub some_steps_left : (f : Frame) → 0 < steps_left f
 some_steps_left f = omega (arith, body_steps_some f.parameters f.arguments f.body)
 
--- a frame with these parts
-abbrev frame : Name → ℕ → List Name → List Token → List (List Read) → Option (List Read) → Frame
-frame name line parameters body arguments reading = record {
-  name = name;
-  line = line;
-  parameters = parameters;
-  body = body;
-  arguments = arguments;
-  reading = reading;
-}
+-- the frame with this rest of its body, and of the argument that is being read
+abbrev left : Frame → List Token → Option (List Read) → Frame
+left f body reading = record f { body = body; reading = reading }
 
-token_lowers : (name : Name) (line : ℕ) (parameters : List Name) (token : Token) (rest : List Token) (arguments : List (List Read)) (p : Option ℕ)
-    → parameter_of parameters token.value ≡ p
-    → Advances (frame name line parameters (token ∷ rest) arguments None)
-    (body_token (frame name line parameters (token ∷ rest) arguments None) token rest p)
-token_lowers name line parameters token rest arguments None e =
-    let s : token_steps arguments (parameter_of parameters token.value) ≡ 1 = ap (token_steps arguments) e in
-    record { lower = omega arith; name = refl }
-token_lowers name line parameters token rest arguments (Some k) e = go (has_parameter parameters rest k) refl
+token_lowers : (f : Frame) (token : Token) (rest : List Token) (p : Option ℕ) → parameter_of f.parameters token.value ≡ p
+    → Advances (left f (token ∷ rest) None) (body_token (left f (token ∷ rest) None) token rest p)
+token_lowers f token rest None e =
+    let s : token_steps f.arguments (parameter_of f.parameters token.value) ≡ 1 = ap (token_steps f.arguments) e in
+    record { lower = omega arith; name = refl; number = refl; noted = refl }
+token_lowers f token rest (Some k) e = go (has_parameter f.parameters rest k) refl
   where
-    s : token_steps arguments (parameter_of parameters token.value) ≡ length (argument_at arguments k) + 2
-    s = ap (token_steps arguments) e
+    s : token_steps f.arguments (parameter_of f.parameters token.value) ≡ length (argument_at f.arguments k) + 2
+    s = ap (token_steps f.arguments) e
 
-    go : (again : Bool) → has_parameter parameters rest k ≡ again
-        → Advances (frame name line parameters (token ∷ rest) arguments None)
+    go : (again : Bool) → has_parameter f.parameters rest k ≡ again
+        → Advances (left f (token ∷ rest) None)
         (record {
           gives = None;
-          after = frame name line parameters rest (arguments_left arguments k again) (Some (argument_at arguments k));
+          after = record f { body = rest; arguments = arguments_left f.arguments k again; reading = Some (argument_at f.arguments k) };
         })
-    go true is = record { lower = omega (arith, s); name = refl }
-    go false is = record { lower = omega (arith, s, steps_without parameters arguments rest k is); name = refl }
+    go true is = record { lower = omega (arith, s); name = refl; number = refl; noted = refl }
+    go false is = record { lower = omega (arith, s, steps_without f.parameters f.arguments rest k is); name = refl; number = refl; noted = refl }
 
-frame_lowers : (name : Name) (line : ℕ) (parameters : List Name) (body : List Token) (arguments : List (List Read)) (reading : Option (List Read))
-    → IfSome (advance (frame name line parameters body arguments reading)) (Advances (frame name line parameters body arguments reading))
-frame_lowers name line parameters body arguments (Some (read ∷ rest)) = record { lower = omega arith; name = refl }
-frame_lowers name line parameters body arguments (Some []) = record { lower = omega arith; name = refl }
-frame_lowers name line parameters [] arguments None = tt
-frame_lowers name line parameters (token ∷ rest) arguments None =
-    token_lowers name line parameters token rest arguments (parameter_of parameters token.value) refl
+frame_lowers : (f : Frame) (body : List Token) (reading : Option (List Read)) → IfSome (advance (left f body reading)) (Advances (left f body reading))
+frame_lowers f body (Some (read ∷ rest)) = record { lower = omega arith; name = refl; number = refl; noted = refl }
+frame_lowers f body (Some []) = record { lower = omega arith; name = refl; number = refl; noted = refl }
+frame_lowers f [] None = tt
+frame_lowers f (token ∷ rest) None = token_lowers f token rest (parameter_of f.parameters token.value) refl
 
 -- each step of a frame is so
 pub advance_lowers : (f : Frame) → IfSome (advance f) (Advances f)
-advance_lowers f = frame_lowers f.name f.line f.parameters f.body f.arguments f.reading
+advance_lowers f = frame_lowers f f.body f.reading
 
 -- a token of a body takes two steps at most where no argument is given
 token_steps_least : (p : Option ℕ) → token_steps [] p ≤ 2

@@ -78,22 +78,15 @@ body_steps f token rest (Some k) fs = go (has_parameter f.parameters rest k) ref
         ap (λ (entries : List Entry). after_marks (followed_by (argument_at f.arguments k) entries))
         (sym (before_without f.parameters f.arguments rest k end is))
 
-layer_steps : (name : Name) (line : ℕ) (parameters : List Name) (body : List Token) (arguments : List (List Read)) (reading : Option (List Read))
-    (fs : List Frame) → let f : Frame = record {
-      name = name;
-      line = line;
-      parameters = parameters;
-      body = body;
-      arguments = arguments;
-      reading = reading;
-    } in StepsList (frame_move fs (advance f)).gives (flat (f ∷ fs)) (flat (frame_move fs (advance f)).after)
-layer_steps name line parameters body arguments (Some (read ∷ tokens)) fs = refl
-layer_steps name line parameters body arguments (Some []) fs = refl
-layer_steps name line parameters [] arguments None fs = refl
-layer_steps name line parameters (token ∷ rest) arguments None fs =
-    body_steps (record { name = name; line = line; parameters = parameters; body = token ∷ rest; arguments = arguments; reading = None }) token rest
-    (parameter_of parameters token.value) fs
+layer_steps : (f : Frame) (body : List Token) (reading : Option (List Read)) (fs : List Frame)
+    → let g : Frame = record f { body = body; reading = reading } in
+    StepsList (frame_move fs (advance g)).gives (flat (g ∷ fs)) (flat (frame_move fs (advance g)).after)
+layer_steps f body (Some (read ∷ tokens)) fs = refl
+layer_steps f body (Some []) fs = refl
+layer_steps f [] None fs = refl
+layer_steps f (token ∷ rest) None fs =
+    body_steps (record f { body = token ∷ rest; reading = None }) token rest (parameter_of f.parameters token.value) fs
 
 -- each step of the frames is one of the list
 pub frame_steps : (f : Frame) (fs : List Frame) → StepsList (frame_move fs (advance f)).gives (flat (f ∷ fs)) (flat (frame_move fs (advance f)).after)
-frame_steps f fs = layer_steps f.name f.line f.parameters f.body f.arguments f.reading fs
+frame_steps f fs = layer_steps f f.body f.reading fs

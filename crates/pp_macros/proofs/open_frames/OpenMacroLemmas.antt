@@ -1,7 +1,7 @@
 -- Open macros, which the expander keeps with the innermost last.
-use Rattle.std.proofs.Common.{◌≡◌, ◌∙◌, ◌⊎◌, inl, inr, ℕ, suc, ◌-◌, ◌<◌, ◌≤◌, Bool, true, false, ◌||◌, List, [], ◌∷◌, ◌++◌, length, get_or, take, drop, reverse, set, refl, ap, sym, arith, Option, Some, None, slice_get, get_or-set_same}
+use Rattle.std.proofs.Common.{◌≡◌, ◌∙◌, ◌⊎◌, inl, inr, ℕ, suc, ◌-◌, ◌<◌, ◌≤◌, Bool, true, false, ◌||◌, List, [], ◌∷◌, ◌++◌, length, get_or, take, drop, reverse, set, refl, ap, sym, subst, arith, Option, Some, None, slice_get, get_or-set_same}
 use Rattle.std.specs.List.{list_any}
-use Rattle.std.specs.Prelude.{is_none, is_some, IsSome, MatchOption}
+use Rattle.std.specs.Prelude.{is_none, is_some, IfSome, IsSome, MatchOption}
 use Rattle.std.proofs.Math.Seq.{take-append_seam}
 use Rattle.std.proofs.lemmas.List.{reverse-append, length-map, length-reverse, length-take-le, length-drop, take-append-drop, length-set, take-set, set-get_or}
 use Rattle.std.proofs.lemmas.Bool.{cases_lt}
@@ -9,7 +9,10 @@ use Rattle.std.proofs.lemmas.List.Folds.{list_any-append}
 use Rattle.pp_model.specs.Names.{Name, is_in, is_same_name}
 use Rattle.pp_model.specs.declared.read.Read.{Read}
 use Rattle.pp_macros.specs.inner.Frames.{Frame, Advance, advance, names_of, outermost_frame_line}
-use Rattle.pp_macros.specs.inner.Ahead.{given_by, given_next, frame_after, frames_after}
+use Rattle.pp_macros.specs.inner.Ahead.{Ahead, given_by, given_next, frame_after, frames_after}
+use Rattle.pp_macros.specs.inner.Bodies.{noted_by}
+use Rattle.pp_macros.specs.inner.Defined.{AreNumbered}
+use Rattle.pp_macros.specs.inner.Left.{HaveNumbers}
 use Rattle.pp_macros.specs.inner.Expander.{Expander}
 use Rattle.pp_macros.specs.inner.Giving.{passed}
 use Rattle.pp_macros.specs.Item.{Step}
@@ -82,6 +85,22 @@ last_gives fs f n e some last =
     let more = rw e at some in
     let is = rw e at last in
     rw (reverse_last fs f more) (ap (λ g. given_by (advance g)) (sym is))
+
+-- the numbers that are noted for the last of them are right if they all are
+last_numbered : (names : List Name) (fs : List Frame) (f : Frame) (n : ℕ) → n ≡ length fs → 0 < n → f ≡ get_or fs (n - 1) f
+    → HaveNumbers names (reverse fs) → AreNumbered names f.noted
+last_numbered names fs f n e some last right =
+    let more = rw e at some in
+    let is = rw e at last in
+    let there : HaveNumbers names (get_or fs (length fs - 1) f ∷ reverse (take (length fs - 1) fs)) = subst (HaveNumbers names) (reverse_last fs f more) right in
+    subst (λ (g : Frame). AreNumbered names g.noted) (sym is) there.0.1
+
+-- so is that of the token that the last of them gives
+pub ahead_numbered : (o : Option Ahead) (fs : List Frame) (f : Frame) (n : ℕ) → n ≡ length fs → 0 < n → f ≡ get_or fs (n - 1) f
+    → IfSome o (λ a. (names : List Name) → AreNumbered names f.noted → AreNumbered names (noted_by a.number a.read.token.value))
+    → IfSome o (λ a. (names : List Name) → HaveNumbers names (reverse fs) → AreNumbered names (noted_by a.number a.read.token.value))
+ahead_numbered None fs f n e some last tells = tt
+ahead_numbered (Some a) fs f n e some last tells = λ names right. tells names (last_numbered names fs f n e some last right)
 
 -- what gives a token isn't at its end
 pub goes_on : (advanced : Option Advance) → IsSome (given_by advanced) → is_none advanced ≡ false

@@ -1,5 +1,5 @@
 -- Open macros stay sound, even if calls are read over lines of the source; so only few are open.
-use Rattle.std.proofs.Common.{◌≡◌, inl, inr, ℕ, suc, ◌+◌, ◌≤◌, Bool, true, false, List, [], ◌∷◌, length, arith, refl, Option, Some, None, All, IfSome, Ok, Err}
+use Rattle.std.proofs.Common.{◌≡◌, inl, inr, ℕ, suc, ◌+◌, ◌≤◌, Bool, true, false, List, [], ◌∷◌, length, arith, refl, sym, subst, Option, Some, None, All, IfSome, Ok, Err}
 use Rattle.std.specs.Prelude.{IsSome, ◌||◌, Result}
 use Rattle.std.proofs.lemmas.List.Elements.{All-cons, All-nil}
 use Rattle.pp_model.specs.declared.read.Read.{Read}
@@ -7,15 +7,17 @@ use Rattle.pp_lexer.specs.declared.token.Location.{Location}
 use Rattle.pp_model.specs.Calls.{Fault, Gathered}
 use Rattle.pp_model.specs.Names.{Name, is_in, is_same_name}
 use Rattle.pp_model.specs.ApartMarks.{AreApart}
-use Rattle.pp_macros.specs.inner.Defined.{Defined, meaning_of}
-use Rattle.pp_macros.specs.inner.Frames.{Frame, Advance, advance, names_of}
+use Rattle.pp_macros.specs.inner.Defined.{Defined, Macro, Numbered, AreNumbered, GrowAtEnd, meaning_of, names_in}
+use Rattle.pp_macros.specs.inner.Frames.{Frame, Advance, advance, names_of, new_frame}
 use Rattle.pp_macros.specs.Item.{Step, wants_memory}
-use Rattle.pp_macros.specs.inner.Left.{AreDefinedAbove, AreOpenSoundly}
+use Rattle.pp_macros.specs.inner.Left.{AreDefinedAbove, AreOpenSoundly, AreSound, HaveNumbers, numbers_in}
 use Rattle.pp_macros.specs.inner.Expander.{Expander, StepsFetching, StepsTaking, held, moved, TakesNext, now, later, GathersNext, closed, inside, overfull, ended, failed}
 use Rattle.pp_macros.specs.inner.Reader.{Reader, definitions_of}
 use Rattle.pp_macros.specs.inner.Turns.{frame_move, Moves, masks}
 use Rattle.pp_macros.specs.declared.step.StepExit.TheVariants.{Error, Continue, Finished}
 use Rattle.pp_macros.proofs.open_frames.AdvanceLemmas.{Advances, advance_lowers}
+use Rattle.pp_macros.proofs.defined_names.GrowLemmas.{reads_grow}
+use Rattle.pp_macros.proofs.defined_names.NumberLemmas.{numbered_more}
 use Rattle.pp_macros.proofs.open_frames.SoundLemmas.{IsDefined, apart_names_few}
 use Rattle.pp_macros.proofs.open_frames.ReportedLemmas.{taken_reported, painted_reported}
 
@@ -81,54 +83,85 @@ sound_below definitions x y (z ∷ names) sound = record {
     go true k = cc
     go false k = k
 
--- a name that is about to open, with those that are open
-abbrev pub with_pending : Option Name → List Name → List Name
-with_pending None names = names
-with_pending (Some x) names = x ∷ names
+-- names that are added at the end change no number
+pub numbers_more : (old new : List Name) (frames : List Frame) → GrowAtEnd old new → HaveNumbers old frames → HaveNumbers new frames
+numbers_more old new [] grow right = tt
+numbers_more old new (f ∷ fs) grow right = (numbered_more old new (numbers_in f) grow right.0, numbers_more old new fs grow right.1)
 
-lone_sound : (definitions : List Defined) (pending : Option Name) → AreOpenSoundly definitions (with_pending pending [])
+-- a macro that is about to open, with those that are open
+abbrev pub with_pending : Option Macro → List Frame → List Frame
+with_pending None frames = frames
+with_pending (Some opened) frames = new_frame opened 0 [] ∷ frames
+
+lone_sound : (definitions : List Defined) (pending : Option Macro) → AreOpenSoundly definitions (names_of (with_pending pending []))
 lone_sound definitions None = record { apart = tt; defined = tt }
-lone_sound definitions (Some x) = record { apart = (refl, tt); defined = tt }
+lone_sound definitions (Some opened) = record { apart = (refl, tt); defined = tt }
 
-pop_sound : (definitions : List Defined) (pending : Option Name) (x : Name) (names : List Name)
-    → AreOpenSoundly definitions (with_pending pending (x ∷ names)) → AreOpenSoundly definitions (with_pending pending names)
-pop_sound definitions None x names sound = sound_rest definitions x names sound
-pop_sound definitions (Some y) x names sound = sound_below definitions y x names sound
+pop_sound : (definitions : List Defined) (pending : Option Macro) (f : Frame) (fs : List Frame)
+    → AreSound definitions (with_pending pending (f ∷ fs)) → AreSound definitions (with_pending pending fs)
+pop_sound definitions None f fs sound =
+    record { names = sound_rest definitions f.name (names_of fs) sound.names; numbers = sound.numbers.1 }
+pop_sound definitions (Some opened) f fs sound = record {
+  names = sound_below definitions opened.name f.name (names_of fs) sound.names;
+  numbers = (sound.numbers.0, sound.numbers.1.1);
+}
 
-abbrev pub IsSoundWith : Option Name → Expander → Reader → Type 0
-IsSoundWith pending m r = AreOpenSoundly (definitions_of r) (with_pending pending (names_of m.frames))
+-- a frame after a step
+stay_sound : (definitions : List Defined) (pending : Option Macro) (f g : Frame) (fs : List Frame) → g.name ≡ f.name → numbers_in g ≡ numbers_in f
+    → AreSound definitions (with_pending pending (f ∷ fs)) → AreSound definitions (with_pending pending (g ∷ fs))
+stay_sound definitions None f g fs named same sound = record {
+  names = subst (λ (name : Name). AreOpenSoundly definitions (name ∷ names_of fs)) (sym named) sound.names;
+  numbers = (subst (λ (noted : List Numbered). AreNumbered (names_in definitions) noted) (sym same) sound.numbers.0, sound.numbers.1);
+}
+stay_sound definitions (Some opened) f g fs named same sound = record {
+  names = subst (λ (name : Name). AreOpenSoundly definitions (opened.name ∷ name ∷ names_of fs)) (sym named) sound.names;
+  numbers = (
+    sound.numbers.0,
+    (subst (λ (noted : List Numbered). AreNumbered (names_in definitions) noted) (sym same) sound.numbers.1.0, sound.numbers.1.1),
+  );
+}
 
-frame_sound : (pending : Option Name) (definitions : List Defined) (f : Frame) (fs : List Frame) (o : Option Advance) → IfSome o (Advances f)
-    → AreOpenSoundly definitions (with_pending pending (names_of (f ∷ fs)))
-    → AreOpenSoundly definitions (with_pending pending (names_of (frame_move fs o).after))
-frame_sound pending definitions f fs None h sound = pop_sound definitions pending f.name (names_of fs) sound
-frame_sound pending definitions f fs (Some a) h sound = rw h.name sound
+abbrev pub IsSoundWith : Option Macro → Expander → Reader → Type 0
+IsSoundWith pending m r = AreSound (definitions_of r) (with_pending pending m.frames)
 
-moves_sound : (pending : Option Name) (move : Step Read) (fs gs : List Frame) (r s : Reader) → Moves fs r move gs s → wants_memory move ≡ false
-    → AreOpenSoundly (definitions_of r) (with_pending pending (names_of fs)) → AreOpenSoundly (definitions_of s) (with_pending pending (names_of gs))
-moves_sound pending move [] gs r s h reported sound = rw h.0 (lone_sound (definitions_of s) pending)
+frame_sound : (pending : Option Macro) (definitions : List Defined) (f : Frame) (fs : List Frame) (o : Option Advance) → IfSome o (Advances f)
+    → AreSound definitions (with_pending pending (f ∷ fs))
+    → AreSound definitions (with_pending pending (frame_move fs o).after)
+frame_sound pending definitions f fs None h sound = pop_sound definitions pending f fs sound
+frame_sound pending definitions f fs (Some a) h sound =
+    let same : numbers_in a.after ≡ numbers_in f = rw (h.name, h.number, h.noted) refl in
+    stay_sound definitions pending f a.after fs h.name same sound
+
+moves_sound : (pending : Option Macro) (move : Step Read) (fs gs : List Frame) (r s : Reader) → Moves fs r move gs s → wants_memory move ≡ false
+    → AreSound (definitions_of r) (with_pending pending fs) → AreSound (definitions_of s) (with_pending pending gs)
+moves_sound pending move [] gs r s h reported sound =
+    rw h.0 (record {
+      names = lone_sound (definitions_of s) pending;
+      numbers = numbers_more (names_in (definitions_of r)) (names_in (definitions_of s)) (with_pending pending []) (reads_grow move r s h.1 reported)
+          sound.numbers;
+    })
 moves_sound pending move (f ∷ fs) gs r s (same, inl h) reported sound =
     rw (same, h.1) (frame_sound pending (definitions_of r) f fs (advance f) (advance_lowers f) sound)
 moves_sound pending move (f ∷ fs) gs r s (same, inr h) reported sound = absurd (let bad : true ≡ false = rw h at reported in cc)
 
-fetch_sound : (pending : Option Name) (step : Step Read) (m n : Expander) (r s : Reader) → StepsFetching m r step n s → wants_memory step ≡ false
+fetch_sound : (pending : Option Macro) (step : Step Read) (m n : Expander) (r s : Reader) → StepsFetching m r step n s → wants_memory step ≡ false
     → IsSoundWith pending m r → IsSoundWith pending n s
 fetch_sound pending step m n r s (held step1 m1 n1 r1 s1 is at same) reported sound = rw (at, same) sound
 fetch_sound pending step m n r s (moved move step1 m1 n1 r1 s1 free moves is none) reported sound =
     moves_sound pending move m.frames n.frames r s moves (taken_reported move n.frames s (rw is at reported)) sound
 
-pub step_sound : (pending : Option Name) (step : Step Read) (m n : Expander) (r s : Reader) → StepsTaking m r step n s → wants_memory step ≡ false
+pub step_sound : (pending : Option Macro) (step : Step Read) (m n : Expander) (r s : Reader) → StepsTaking m r step n s → wants_memory step ≡ false
     → IsSoundWith pending m r → IsSoundWith pending n s
 step_sound pending step m n r s steps reported sound =
     fetch_sound pending steps.first m n r s steps.fetches (painted_reported (masks n.frames s) steps.first (rw steps.paints at reported)) sound
 
-pub next_sound : (pending : Option Name) (step : Step Read) (m n : Expander) (r s : Reader) → TakesNext m r step n s → wants_memory step ≡ false
+pub next_sound : (pending : Option Macro) (step : Step Read) (m n : Expander) (r s : Reader) → TakesNext m r step n s → wants_memory step ≡ false
     → IsSoundWith pending m r → IsSoundWith pending n s
 next_sound pending step m n r s (now step1 m1 n1 r1 s1 steps goes) reported sound = step_sound pending step m n r s steps reported sound
 next_sound pending step m n r s (later step1 m1 between n1 r1 s1 t1 steps next) reported sound =
     next_sound pending step between n s1 s next reported (step_sound pending (Err Continue) m between r s1 steps refl sound)
 
-pub gather_sound : (pending : Option Name) (k : ℕ) (last : Location) (m n : Expander) (r s : Reader) (g : Result Gathered Fault)
+pub gather_sound : (pending : Option Macro) (k : ℕ) (last : Location) (m n : Expander) (r s : Reader) (g : Result Gathered Fault)
     → GathersNext k last m r g n s → IsSoundWith pending m r → IsSoundWith pending n s
 gather_sound pending k last m n r s g (closed k1 last1 read m1 n1 r1 s1 g1 next out is) sound = next_sound pending (Ok read) m n r s next refl sound
 gather_sound pending k last m n r s g (inside k1 l last1 read m1 between n1 r1 s1 t1 rest g1 next in_call more is) sound =
@@ -141,5 +174,5 @@ gather_sound pending k last m n r s g (failed k1 last1 fault m1 n1 r1 s1 g1 next
 -- a macro that opens where it may: it is open nowhere, and defined
 pub opened_sound : (definitions : List Defined) (x : Name) (names : List Name) → AreOpenSoundly definitions names → is_in x names ≡ false
     → IsSome (meaning_of definitions x) → AreOpenSoundly definitions (x ∷ names)
-opened_sound definitions x [] sound apart defined = lone_sound definitions (Some x)
+opened_sound definitions x [] sound apart defined = record { apart = (refl, tt); defined = tt }
 opened_sound definitions x (y ∷ names) sound apart defined = record { apart = (apart, sound.apart); defined = (defined, sound.defined) }

@@ -40,7 +40,7 @@ fault_of {A} h fault P e s = let k : Satisfies {A = A} (Err (halt.Fault fault)) 
 
 pub finish_fault : (levels : ℕ) (definitions : List Defined) (hidden : List Name) (call : MacroCall) (old new : Expander) (h : Halt) (fault : Fault)
     → h ≡ halt.Fault fault → Finishes levels definitions hidden call old (Err h) new
-    → answers_at levels call.definition (site_at call definitions (names_of old.frames ++ hidden)) (Err fault)
+    → answers_at levels call.opened.definition (site_at call definitions (names_of old.frames ++ hidden)) (Err fault)
 finish_fault levels definitions hidden call old new h fault e s =
     let k : Finishes levels definitions hidden call old (Err (halt.Fault fault)) new =
     subst (λ (x : Halt). Finishes levels definitions hidden call old (Err x) new) e s in k.0
@@ -64,10 +64,10 @@ pieces_short n (read ∷ tokens) = cut (is_comma read.token.value && (n == 0)) (
 
 -- what the arguments come to is what the call comes to, where their number fits
 pub answers_each : (levels : ℕ) (definitions : List Defined) (around : List Name) (call : MacroCall) → levels ≢ 0
-    → misfit call.definition.parameters (arguments_of call.tokens) ≡ None → (out : Result (List (List Read)) Fault)
+    → misfit call.opened.definition.parameters (arguments_of call.tokens) ≡ None → (out : Result (List (List Read)) Fault)
     → Each (Alone (levels - 1)) (meaning_of definitions) around (arguments_of call.tokens) out
-    → answers_at levels call.definition (site_at call definitions around) out
-answers_each levels definitions around call some fits out each = level.answers_each levels call.definition (site_at call definitions around) out some fits each
+    → answers_at levels call.opened.definition (site_at call definitions around) out
+answers_each levels definitions around call some fits out each = level.answers_each levels call.opened.definition (site_at call definitions around) out some fits each
 
 -- no argument of a call is longer than what all of its tokens may come to
 pub of_call : (levels : ℕ) (definitions : List Defined) (call : MacroCall) (arguments : List (List Read))
@@ -86,7 +86,7 @@ satisfies_more (Err halt.OutOfMemory) P Q follows has = tt
 -- a call that has no arguments ends with what they ended with
 pub finishes_without : (levels : ℕ) (definitions : List Defined) (hidden : List Name) (call : MacroCall) (old new : Expander)
     (r : Result (Unit {0}) Halt) (h : Halt) → r ≡ Err h
-    → Satisfies {A = List (List Read)} (Err h) (answers_at levels call.definition (site_at call definitions (names_of old.frames ++ hidden)))
+    → Satisfies {A = List (List Read)} (Err h) (answers_at levels call.opened.definition (site_at call definitions (names_of old.frames ++ hidden)))
     → new ≡ old → Finishes levels definitions hidden call old r new
 finishes_without levels definitions hidden call old new r (halt.Fault fault) is has same =
     subst (λ (x : Result (Unit {0}) Halt). Finishes levels definitions hidden call old x new) (sym is) (has, same)

@@ -9,13 +9,13 @@ use Rattle.pp_macros.specs.inner.CallTurns.{TurnsTo, passes, gives, object, Take
 use Rattle.pp_macros.specs.inner.Frames.{Frame, Advance, advance, new_frame, outermost_frame_line}
 use Rattle.pp_macros.specs.inner.Expander.{Expander, StepsFetching, StepsTaking, moved, taken_as}
 use Rattle.pp_macros.specs.inner.Reader.{Reader, hidden_of}
-use Rattle.pp_macros.specs.inner.Turns.{Moves, as_pause, frame_move, masks, macro_of}
+use Rattle.pp_macros.specs.inner.Turns.{Moves, as_pause, frame_move, masks, macro_of, Opens}
 use Rattle.pp_macros.specs.inner.Reading.{painted_step}
 use Rattle.pp_model.specs.Painting.{painted_among}
 use Rattle.pp_macros.specs.declared.calls.Taken.TheVariants as taken
 use Rattle.pp_macros.specs.declared.step.StepExit.TheVariants.{Continue}
 use Rattle.pp_macros.specs.Held.{HoldsOrdinary}
-use Rattle.pp_model.specs.Definitions.{Definition}
+use Rattle.pp_macros.specs.inner.Defined.{Macro}
 use Rattle.std.specs.Option.{option_map}
 use Rattle.pp_macros.specs.inner.Frames.{names_of}
 use Rattle.pp_macros.specs.inner.Giving.{GivesAhead, passed}
@@ -84,10 +84,10 @@ module _ (m : Expander) (r : Reader) (free : m.held ≡ None) (some : is_some (o
     }
 
     -- it opens a macro without parentheses
-    pub frame_opens : (name : Name) (definition : Definition) → macro_of r taken_read ≡ Some (name, definition) → definition.function_like ≡ false
-        → TurnsTo m r (Err Continue) (record m { frames = new_frame name read.token.location.line definition [] ∷ frames_after m.frames }) r
-    frame_opens name definition some bare = object taken_read name definition (Err Continue) m (passed m)
-        (record m { frames = new_frame name read.token.location.line definition [] ∷ frames_after m.frames }) r r token_taken some bare refl refl
+    pub frame_opens : (opened : Macro) → Opens r taken_read opened → opened.definition.function_like ≡ false
+        → TurnsTo m r (Err Continue) (record m { frames = new_frame opened read.token.location.line [] ∷ frames_after m.frames }) r
+    frame_opens opened some bare = object taken_read opened (Err Continue) m (passed m)
+        (record m { frames = new_frame opened read.token.location.line [] ∷ frames_after m.frames }) r r token_taken some bare refl refl
 
     -- there is something to take
     pub frame_takes_some : TakesSomething m r

@@ -59,8 +59,8 @@ given_more r m n p q items some more given painted each sound pauses ahead is pu
 pub given_some : (r s : Reader) (m n : Expander) (read : Read) → TurnsTo m r (Ok (taken.Token read)) n s → TakesSomething m r
 given_some r s m n read (passes exit step m1 n1 r1 s1 steps is) = cc
 given_some r s m n read (gives own step m1 n1 r1 s1 steps plain is) = record { step = Ok own; after = n; reader = s; takes = steps; goes = refl }
-given_some r s m n read (object own name definition step m1 between n1 r1 s1 steps some bare is at) = cc
-given_some r s m n read (seeks own name definition c step m1 between p q r1 t s1 steps some function sought finds) =
+given_some r s m n read (object own opened step m1 between n1 r1 s1 steps some bare is at) = cc
+given_some r s m n read (seeks own opened c step m1 between p q r1 t s1 steps some function sought finds) =
     record { step = Ok own; after = between; reader = t; takes = steps; goes = refl }
 
 -- what the loop over an argument has reached from here, and that no more work is left

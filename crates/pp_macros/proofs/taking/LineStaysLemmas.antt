@@ -17,18 +17,16 @@ body_line : (f : Frame) (token : Token) (rest : List Token) (parameter : Option 
 body_line f token rest None = refl
 body_line f token rest (Some k) = refl
 
-frame_line : (name : Name) (line : ℕ) (parameters : List Name) (body : List Token) (arguments : List (List Read)) (reading : Option (List Read))
-    → IfSome (advance (record { name = name; line = line; parameters = parameters; body = body; arguments = arguments; reading = reading }))
-    (λ a. a.after.line ≡ line)
-frame_line name line parameters body arguments (Some (read ∷ rest)) = refl
-frame_line name line parameters body arguments (Some []) = refl
-frame_line name line parameters [] arguments None = tt
-frame_line name line parameters (token ∷ rest) arguments None =
-    body_line (record { name = name; line = line; parameters = parameters; body = token ∷ rest; arguments = arguments; reading = None }) token rest
-    (parameter_of parameters token.value)
+frame_line : (f : Frame) (body : List Token) (reading : Option (List Read))
+    → IfSome (advance (record f { body = body; reading = reading })) (λ a. a.after.line ≡ f.line)
+frame_line f body (Some (read ∷ rest)) = refl
+frame_line f body (Some []) = refl
+frame_line f [] None = tt
+frame_line f (token ∷ rest) None =
+    body_line (record f { body = token ∷ rest; reading = None }) token rest (parameter_of f.parameters token.value)
 
 step_line : (f : Frame) → IfSome (advance f) (λ a. a.after.line ≡ f.line)
-step_line f = frame_line f.name f.line f.parameters f.body f.arguments f.reading
+step_line f = frame_line f f.body f.reading
 
 -- a frame that gives a token stays open, and so does the outermost one
 gives_line : (fs : List Frame) (f : Frame) (a : Option Advance) (read : Read) → IfSome a (λ b. b.after.line ≡ f.line) → Ok read ≡ (frame_move fs a).gives

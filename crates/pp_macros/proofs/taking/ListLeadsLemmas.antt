@@ -45,7 +45,7 @@ reached_start levels definitions hidden tokens items m l e f g =
     rw (e, f, g) (record {
       state = reading_of tokens (meaning_of definitions) hidden;
       stands = record { holds = refl; list = refl; reader = (refl, refl, refl, refl); names = refl };
-      sound = record { apart = tt; defined = tt };
+      sound = record { names = record { apart = tt; defined = tt }; numbers = tt };
       goes_on = λ out collects. rw (no_items out) collects;
       least = omega (arith, start_work levels start);
     })
@@ -116,12 +116,12 @@ module _ (levels : ℕ) (definitions : List Defined) (hidden : List Name) (token
 
   -- a call that has a fault
   pub reached_call_fault : (c : MacroCall) (fault : Fault) → TurnsTo m (of_list l) (Ok (taken.Call c)) n (of_list k)
-      → answers_at levels c.definition (site_at c definitions (names_of n.frames ++ hidden)) (Err fault)
+      → answers_at levels c.opened.definition (site_at c definitions (names_of n.frames ++ hidden)) (Err fault)
       → Alone levels tokens (meaning_of definitions) hidden (Err fault)
   reached_call_fault c fault turns answers =
       let h = listed_leads false definitions hidden (answers_at levels) m n l k (Ok (taken.Call c)) r.state r.stands turns refl in
       r.goes_on (Err fault) (failed fault r.state h.0 (Err fault)
-      (h.2 fault (subst (λ (x : Site). answers_at levels c.definition x (Err fault))
+      (h.2 fault (subst (λ (x : Site). answers_at levels c.opened.definition x (Err fault))
       (sym (site_same false definitions hidden n k c h.0 h.1 (pending c turns).free)) answers)).0 refl)
 
   -- a call whose frame opened
@@ -141,20 +141,20 @@ module _ (levels : ℕ) (definitions : List Defined) (hidden : List Name) (token
 
     pub reached_call : Reached levels definitions hidden tokens p k items
     reached_call =
-        let f : Expander Listed = record led.0 { list = macro_before c.name c.definition c.closing.line opened.arguments led.0.list } in
+        let f : Expander Listed = record led.0 { list = macro_before c.opened.name c.opened.definition c.closing.line opened.arguments led.0.list } in
         let stands : StandsListed false definitions hidden n k led.0 = led.1 in
         record {
           state = f;
           stands = subst (λ (q : kept.Expander). StandsListed false definitions hidden q k f) (sym opened.opens)
               (record {
                 holds = stands.holds;
-                list = ap (macro_before c.name c.definition c.closing.line opened.arguments) stands.list;
+                list = ap (macro_before c.opened.name c.opened.definition c.closing.line opened.arguments) stands.list;
                 reader = stands.reader;
                 names = stands.names;
               });
           sound = less.sound;
           goes_on = λ out collects. r.goes_on out (emits_keeps r.state f
-              (λ o g emits. (led.3 opened.arguments (subst (λ (x : Site). answers_at levels c.definition x (Ok opened.arguments))
+              (λ o g emits. (led.3 opened.arguments (subst (λ (x : Site). answers_at levels c.opened.definition x (Ok opened.arguments))
               (sym (site_same false definitions hidden n k c led.0 led.1 (pending c turns).free)) opened.answers) o g emits).0) out collects);
           least = omega (arith, r.least, less.falls);
         }

@@ -108,12 +108,12 @@ module _ (is_line : Bool) (definitions : List Defined) (hidden : List Name) wher
   pub opened_less : (levels : ℕ) (m n : kept.Expander) (l k : Listing) → (c : MacroCall) (p : kept.Expander) → IsPending levels m (of_list l) c n (of_list k)
       → k.definitions ≡ definitions → IsOpened levels definitions (names_of n.frames ++ hidden) c n p → IsLess levels m (of_list l) p (of_list k)
   opened_less zero m n l k c p pend same opened =
-      absurd (none_at_limit c.definition (site_at c definitions (names_of n.frames ++ hidden)) opened.arguments opened.answers)
+      absurd (none_at_limit c.opened.definition (site_at c definitions (names_of n.frames ++ hidden)) opened.arguments opened.answers)
   opened_less (suc lower) m n l k c p pend same opened =
       let one : suc lower - 1 ≡ lower = omega arith in
       let least : All (λ (a : List Read). length a ≤ most_alone lower k.definitions (length c.tokens)) opened.arguments = rw (same, ← one) opened.least in
-      let at : p ≡ record { held = None; frames = new_frame c.name c.closing.line c.definition opened.arguments ∷ n.frames } = opened.opens
-      ∙ ap (λ (h : Option (Step Read)). record { held = h; frames = new_frame c.name c.closing.line c.definition opened.arguments ∷ n.frames }) pend.free in
+      let at : p ≡ record { held = None; frames = new_frame c.opened c.closing.line opened.arguments ∷ n.frames } = opened.opens
+      ∙ ap (λ (h : Option (Step Read)). record { held = h; frames = new_frame c.opened c.closing.line opened.arguments ∷ n.frames }) pend.free in
       rw at (pending_opens lower m (of_list l) c n (of_list k) opened.arguments pend least)
 
 -- a turn that was not refused memory

@@ -9,13 +9,14 @@ use Rattle.pp_macros.specs.inner.CallTurns.{Seeks, alone, called, no_call, refus
 use Rattle.pp_macros.specs.Item.{Step}
 use Rattle.pp_macros.specs.inner.Calling.{MacroCall}
 use Rattle.pp_macros.specs.inner.CallTurns as turn
-use Rattle.pp_macros.specs.inner.CallTurns.{TurnsOrRefuses}
+use Rattle.pp_macros.specs.inner.CallTurns.{TurnsTo, TurnsOrRefuses}
 use Rattle.pp_macros.specs.inner.Seeking as e
 use Rattle.pp_macros.specs.inner.Seeking.{Enters, FollowsToken}
-use Rattle.pp_macros.specs.inner.Turns.{macro_of, macro_of_value}
+use Rattle.pp_macros.specs.inner.Turns.{macro_of, macro_of_value, Opens}
 use Rattle.pp_macros.specs.Halting.{exit_of}
 use Rattle.pp_lexer.specs.declared.token.TokenValue.{TokenValue}
 use Rattle.pp_lexer.specs.declared.token.TokenValue.TheVariants.{Ident}
+use Rattle.pp_macros.specs.inner.Defined.{Macro}
 use Rattle.pp_macros.specs.inner.Frames.{new_frame}
 use Rattle.pp_model.specs.Names.{Name}
 use Rattle.pp_model.specs.Definitions.{Definition}
@@ -55,34 +56,34 @@ abbrev Refused : Step Taken → Type 0
 Refused step = step ≡ Err (Error out_of_memory)
 
 -- after a name: no call, a call, or its fault
-module _ (read : Read) (name : Name) (definition : Definition) (m n : Expander) (r s : Reader) (function : definition.function_like ≡ true) where
-  pub enters_nothing : FindsNothing m r n s → Enters read name definition m r (Ok (taken.Token read)) n s
+module _ (read : Read) (opened : Macro) (m n : Expander) (r s : Reader) (function : opened.definition.function_like ≡ true) where
+  pub enters_nothing : FindsNothing m r n s → Enters read opened m r (Ok (taken.Token read)) n s
   enters_nothing h = e.called (no_call h.next) (Ok (taken.Token read)) m h.before n r s function h.seeks (refl, h.holds)
 
   pub enters_whole : (paren : Location) (g : Gathered) (c : MacroCall) → Seeks m r (gathered paren g) n s
-      → c ≡ record { name = name; definition = definition; paren = paren; closing = g.closing; tokens = g.tokens }
-      → Enters read name definition m r (Ok (taken.Call c)) n s
+      → c ≡ record { opened = opened; paren = paren; closing = g.closing; tokens = g.tokens }
+      → Enters read opened m r (Ok (taken.Call c)) n s
   enters_whole paren g c h is = e.called (gathered paren g) (Ok (taken.Call c)) m n n r s function h (ap (λ (x : MacroCall). Ok (taken.Call x)) is, refl)
 
-  pub enters_halt : (h : Halt) (step : Step Taken) → FindsBy m r (Err h) n s → step ≡ Err (exit_of h) → Enters read name definition m r step n s ⊎ Refused step
+  pub enters_halt : (h : Halt) (step : Step Taken) → FindsBy m r (Err h) n s → step ≡ Err (exit_of h) → Enters read opened m r step n s ⊎ Refused step
   enters_halt (halt.Fault fault) step h is = inl (e.called (refused fault) step m n n r s function h (is, refl))
   enters_halt halt.OutOfMemory step h is = inr is
 
-pub follows_plain : (o : Option (Name
-    × Definition)) (read : Read) (name : Name) (definition : Definition) (m n : Expander) (r : Reader) (step : Step Taken)
-    → o ≡ Some (name, definition) → definition.function_like ≡ false
-    → ((step ≡ Err Continue) × (n ≡ record m { frames = new_frame name read.token.location.line definition [] ∷ m.frames })) ⊎ Refused step
-    → FollowsToken o read m r step n r ⊎ Refused step
-follows_plain o read name definition m n r step is plain (inl h) = inl (rw is (e.plain step m n r r plain h.0 h.1 refl))
-follows_plain o read name definition m n r step is plain (inr h) = inr h
+pub follows_plain : (read : Read) (opened : Macro) (m n : Expander) (r : Reader) (step : Step Taken)
+    → Opens r read opened → opened.definition.function_like ≡ false
+    → ((step ≡ Err Continue) × (n ≡ record m { frames = new_frame opened read.token.location.line [] ∷ m.frames })) ⊎ Refused step
+    → FollowsToken (macro_of r read) read m r step n r ⊎ Refused step
+follows_plain read opened m n r step opens plain (inl h) =
+    inl (rw opens.is (record { opened = opened; is = refl; numbered = opens.numbered; enters = e.plain step m n r r plain h.0 h.1 refl }))
+follows_plain read opened m n r step opens plain (inr h) = inr h
 
 -- the name of a function-like macro
-pub follows_called : (o : Option (Name × Definition)) (read given : Read) (name : Name) (definition : Definition) (m n : Expander) (r s : Reader)
-    (step : Step Taken) → o ≡ Some (name, definition) → given ≡ read → Enters given name definition m r step n s ⊎ Refused step
-    → FollowsToken o read m r step n s ⊎ Refused step
-follows_called o read given name definition m n r s step is same (inl h) =
-    inl (rw is (subst (λ (x : Read). Enters x name definition m r step n s) same h))
-follows_called o read given name definition m n r s step is same (inr h) = inr h
+pub follows_called : (read given : Read) (opened : Macro) (m n : Expander) (r s : Reader) (step : Step Taken) → Opens r read opened
+    → given ≡ read → Enters given opened m r step n s ⊎ Refused step → FollowsToken (macro_of r read) read m r step n s ⊎ Refused step
+follows_called read given opened m n r s step opens same (inl h) =
+    let enters : Enters read opened m r step n s = subst (λ (x : Read). Enters x opened m r step n s) same h in
+    inl (rw opens.is (record { opened = opened; is = refl; numbered = opens.numbered; enters = enters }))
+follows_called read given opened m n r s step opens same (inr h) = inr h
 
 -- what opens is unpainted
 pub opening_bare : (r : Reader) (read : Read) (opening : Name × Definition) → macro_of r read ≡ Some opening → read.painted ≡ false
@@ -105,10 +106,15 @@ pub turns_token : (m n p : Expander) (r s t : Reader) (read : Read) (step : Step
 turns_token m n p r s t read step steps o is (inr h) =
     inr (record { some = record { step = Ok read; after = n; reader = s; takes = steps; goes = refl }; fault = h })
 turns_token m n p r s t read step steps None is (inl (gives, same, stays)) = inl (rw (same, stays) (turn.gives read step m n r s steps is gives))
-turns_token m n p r s t read step steps (Some (name, definition)) is (inl (e.plain step1 m1 n1 r1 s1 plain pauses at stays)) =
-    inl (rw stays (turn.object read name definition step m n p r s steps is plain pauses at))
-turns_token m n p r s t read step steps (Some (name, definition)) is (inl (e.called c step1 m1 q n1 r1 s1 function seeks finds)) =
-    inl (turn.seeks read name definition c step m n q p r s t steps is function seeks finds)
+turns_token m n p r s t read step steps (Some named) is (inl h) =
+    let opens : Opens s read h.opened = record { is = is ∙ ap (λ (o : Name × Definition). Some o) h.is; numbered = h.numbered } in
+    inl (by opens h.enters)
+  where
+    by : {opened : Macro} → Opens s read opened → Enters read opened n s step p t → TurnsTo m r step p t
+    by {opened} opens (e.plain step1 m1 n1 r1 s1 plain pauses at stays) =
+        rw stays (turn.object read opened step m n p r s steps opens plain pauses at)
+    by {opened} opens (e.called c step1 m1 q n1 r1 s1 function seeks finds) =
+        turn.seeks read opened c step m n q p r s t steps opens function seeks finds
 
 pub turns_exit : (m n : Expander) (r s : Reader) (exit : StepExit) → StepsTaking m r (Err exit) n s → TurnsOrRefuses m r (Err exit) n s
 turns_exit m n r s exit steps = inl (turn.passes exit (Err exit) m n r s steps refl)

@@ -26,7 +26,7 @@ use Rattle.pp_macros.specs.inner.Expander as kept
 use Rattle.pp_macros.specs.inner.Expander.{outcome_of_step, StepsTaking, TakesNext}
 use Rattle.pp_macros.specs.inner.Reader.{Reader, Reads, hidden_of, shown_line, visible}
 use Rattle.pp_macros.specs.inner.Turns.{macro_of, macro_of_value}
-use Rattle.pp_macros.specs.inner.Defined.{opened_by}
+use Rattle.pp_macros.specs.inner.Defined.{Macro, opened_by}
 use Rattle.pp_macros.specs.declared.calls.Taken.{Taken}
 use Rattle.pp_macros.specs.declared.calls.Taken.TheVariants as taken
 use Rattle.pp_macros.specs.declared.step.StepExit.{StepExit}
@@ -58,10 +58,10 @@ module _ {R : Type 0} (I : Reading R) (StandsR : Reader → R → Type 0) (hidde
       × (item_line emits ≡ line_after n.held e.list f.list)
   LeadsTo (Ok (taken.Call c)) e n s =
       (f : Expander R) × StandsIn I StandsR hidden n s f
-      × ((fault : Fault) → A c.definition (site_of I f c.paren c.tokens) (Err fault)
+      × ((fault : Fault) → A c.opened.definition (site_of I f c.paren c.tokens) (Err fault)
       → (emits : Emits I A e (given.Fault fault) f) × (item_line emits ≡ outermost_line f.list))
-      × ((arguments : List (List Read)) → A c.definition (site_of I f c.paren c.tokens) (Ok arguments)
-      → EmitsLater I A e (record f { list = macro_before c.name c.definition c.closing.line arguments f.list }))
+      × ((arguments : List (List Read)) → A c.opened.definition (site_of I f c.paren c.tokens) (Ok arguments)
+      → EmitsLater I A e (record f { list = macro_before c.opened.name c.opened.definition c.closing.line arguments f.list }))
   LeadsTo (Err Continue) e n s = (f : Expander R) × StandsIn I StandsR hidden n s f × EmitsLater I A e f
   LeadsTo (Err Finished) e n s = (f : Expander R) × (emits : Emits I A e given.End f) × StandsIn I StandsR hidden n s f
       × (n.held ≡ None) × (item_line emits ≡ outermost_line f.list)
@@ -131,13 +131,13 @@ module _ {R : Type 0} (I : Reading R) (StandsR : Reader → R → Type 0) (hidde
   some_paren (Err exit) paren h = cc
 
   -- a call that was gathered, or its fault
-  call_leads : (read : Read) (name : Name) (definition : Definition) (first : Read) (paren : Location) (step : Step Taken)
+  call_leads : (read : Read) (opened : Macro) (first : Read) (paren : Location) (step : Step Taken)
       (p q : kept.Expander) (t : Reader) (e f h : Expander R) (g : Result Gathered Fault) → Takes I e (given.Token read) f
-      → opening I f (given.Token read) ≡ Some (record { token = read.token; name = name; definition = definition }) → definition.function_like ≡ true
+      → opening I f (given.Token read) ≡ Some (record { token = read.token; name = opened.name; definition = opened.definition }) → opened.definition.function_like ≡ true
       → Takes I f (given.Token first) h → paren_at (given.Token first) ≡ Some paren
-      → GathersTo I StandsR hidden simulates shows hides 0 paren h g p t → Finds read name definition (sought_by paren g) step p q → LeadsTo step e q t
-  call_leads read name definition first paren step p q t e f h (Err fault) takes macro_of function takes_paren at (k, gathers, list, freed) (is, becomes) =
-      let m : Opening = record { token = read.token; name = name; definition = definition } in
+      → GathersTo I StandsR hidden simulates shows hides 0 paren h g p t → Finds read opened (sought_by paren g) step p q → LeadsTo step e q t
+  call_leads read opened first paren step p q t e f h (Err fault) takes macro_of function takes_paren at (k, gathers, list, freed) (is, becomes) =
+      let m : Opening = record { token = read.token; name = opened.name; definition = opened.definition } in
       rw (is, becomes) (
         k,
         emitting.call_refused (given.Token read) (given.Fault fault) fault m e f k takes macro_of function
@@ -146,8 +146,8 @@ module _ {R : Type 0} (I : Reading R) (StandsR : Reader → R → Type 0) (hidde
         freed,
         refl,
       )
-  call_leads read name definition first paren step p q t e f h (Ok g) takes macro_of function takes_paren at (k, gathers, stands) (is, becomes) =
-      let m : Opening = record { token = read.token; name = name; definition = definition } in
+  call_leads read opened first paren step p q t e f h (Ok g) takes macro_of function takes_paren at (k, gathers, stands) (is, becomes) =
+      let m : Opening = record { token = read.token; name = opened.name; definition = opened.definition } in
       rw (is, becomes) (
         k,
         stands,
@@ -164,14 +164,14 @@ module _ {R : Type 0} (I : Reading R) (StandsR : Reader → R → Type 0) (hidde
       )
 
   -- what is sought after a name
-  seek_leads : (read : Read) (name : Name) (definition : Definition) (c : Sought) (step : Step Taken)
+  seek_leads : (read : Read) (opened : Macro) (c : Sought) (step : Step Taken)
       (n p q : kept.Expander) (s t : Reader) (e f : Expander R) → Takes I e (given.Token read) f → StandsIn I StandsR hidden n s f
-      → opening I f (given.Token read) ≡ Some (record { token = read.token; name = name; definition = definition }) → definition.function_like ≡ true
-      → outermost_line f.list ≡ outermost_line e.list → Seeks n s c p t → Finds read name definition c step p q → LeadsTo step e q t
-  seek_leads read name definition c step n p q s t e f takes stands macro_of function same (alone next n1 p1 s1 t1 c1 taken_next none reported is) found =
-      let m : Opening = record { token = read.token; name = name; definition = definition } in
+      → opening I f (given.Token read) ≡ Some (record { token = read.token; name = opened.name; definition = opened.definition }) → opened.definition.function_like ≡ true
+      → outermost_line f.list ≡ outermost_line e.list → Seeks n s c p t → Finds read opened c step p q → LeadsTo step e q t
+  seek_leads read opened c step n p q s t e f takes stands macro_of function same (alone next n1 p1 s1 t1 c1 taken_next none reported is) found =
+      let m : Opening = record { token = read.token; name = opened.name; definition = opened.definition } in
       let h = next_simulates I StandsR hidden simulates shows hides n p s t next f stands taken_next (not_refused next reported) in
-      let found' : Finds read name definition (no_call next) step p q = subst (λ (x : Sought). Finds read name definition x step p q) is found in
+      let found' : Finds read opened (no_call next) step p q = subst (λ (x : Sought). Finds read opened x step p q) is found in
       rw (found'.0, found'.1) (
         holding (outcome_of_step next) h.0,
         emitting.name_alone (given.Token read) (outcome_of_step next) (given.Token read) m e f h.0
@@ -180,26 +180,26 @@ module _ {R : Type 0} (I : Reading R) (StandsR : Reader → R → Type 0) (hidde
         h.2,
         same,
       )
-  seek_leads read name definition c step n p q s t e f takes stands macro_of function same
+  seek_leads read opened c step n p q s t e f takes stands macro_of function same
       (called next paren n1 between p1 s1 u t1 g c1 taken_next at gathers is) found =
       let first = some_paren next paren at in
       let h = SearchSimulates.token_stands I StandsR hidden simulates shows hides first.0 n between s u f stands
       (subst (λ (x : Step Read). TakesNext n s x between u) first.1 taken_next) in
-      call_leads read name definition first.0 paren step p q t e f h.0 g takes macro_of function h.1 first.2
+      call_leads read opened first.0 paren step p q t e f h.0 g takes macro_of function h.1 first.2
       (gather_simulates I StandsR hidden simulates shows hides 0 paren between p u t g h.0 h.2 gathers)
-      (subst (λ (x : Sought). Finds read name definition x step p q) is found)
+      (subst (λ (x : Sought). Finds read opened x step p q) is found)
 
-  object_leads : (read : Read) (name : Name) (definition : Definition) (n p : kept.Expander) (s : Reader) (e f : Expander R)
+  object_leads : (read : Read) (opened : Macro) (n p : kept.Expander) (s : Reader) (e f : Expander R)
       → Takes I e (given.Token read) f → StandsIn I StandsR hidden n s f → n.held ≡ None
-      → opening I f (given.Token read) ≡ Some (record { token = read.token; name = name; definition = definition }) → definition.function_like ≡ false
-      → p ≡ record n { frames = new_frame name read.token.location.line definition [] ∷ n.frames } → LeadsTo (Err Continue) e p s
-  object_leads read name definition n p s e f takes stands free macro_of plain is =
-      let m : Opening = record { token = read.token; name = name; definition = definition } in
+      → opening I f (given.Token read) ≡ Some (record { token = read.token; name = opened.name; definition = opened.definition }) → opened.definition.function_like ≡ false
+      → p ≡ record n { frames = new_frame opened read.token.location.line [] ∷ n.frames } → LeadsTo (Err Continue) e p s
+  object_leads read opened n p s e f takes stands free macro_of plain is =
+      let m : Opening = record { token = read.token; name = opened.name; definition = opened.definition } in
       rw is (
         with_macro m read.token.location.line [] f,
         record {
           holds = stands.holds;
-          list = ap (macro_before name definition read.token.location.line []) stands.list;
+          list = ap (macro_before opened.name opened.definition read.token.location.line []) stands.list;
           reader = stands.reader;
           names = stands.names;
         },
@@ -224,12 +224,12 @@ module _ {R : Type 0} (I : Reading R) (StandsR : Reader → R → Type 0) (hidde
         h.2,
         ap (λ o. line_after o e.list h.0.list) freed,
       )
-  turn_leads m p r s step e stands (object read name definition step1 m1 n p1 r1 s1 steps some plain is at) reported =
+  turn_leads m p r s step e stands (object read opened step1 m1 n p1 r1 s1 steps some plain is at) reported =
       let h = token_stands m n r s read e stands steps in
-      rw is (object_leads read name definition n p s e h.0 h.1 h.2 (step_frees I StandsR hidden simulates shows hides m n r s (Ok read) steps)
-      (as_opens s h.0 read (Some (name, definition)) h.3 some) plain at)
-  turn_leads m q r t step e stands (seeks read name definition c step1 m1 n p q1 r1 s t1 steps some function sought found) reported =
+      rw is (object_leads read opened n p s e h.0 h.1 h.2 (step_frees I StandsR hidden simulates shows hides m n r s (Ok read) steps)
+      (as_opens s h.0 read (Some (opened.name, opened.definition)) h.3 some.is) plain at)
+  turn_leads m q r t step e stands (seeks read opened c step1 m1 n p q1 r1 s t1 steps some function sought found) reported =
       let h = token_stands m n r s read e stands steps in
       let same : outermost_line h.0.list ≡ outermost_line e.list = ap outermost_line h.2.list ∙ outermost_flat n.frames ∙ token_line m n r s read steps
       ∙ sym (ap outermost_line stands.list ∙ outermost_flat m.frames) in
-      seek_leads read name definition c step n p q s t e h.0 h.1 h.2 (as_opens s h.0 read (Some (name, definition)) h.3 some) function same sought found
+      seek_leads read opened c step n p q s t e h.0 h.1 h.2 (as_opens s h.0 read (Some (opened.name, opened.definition)) h.3 some.is) function same sought found

@@ -9,14 +9,14 @@ use Rattle.pp_model.specs.Definitions.{Definition}
 use Rattle.pp_model.specs.Names.{Name, is_in}
 use Rattle.pp_macros.specs.inner.Calling.{MacroCall}
 use Rattle.pp_macros.specs.inner.CallTurns.{Sought, no_call, sought_by, Seeks, alone, called, Finds, TurnsTo, passes, gives, object, seeks, paren_of}
-use Rattle.pp_macros.specs.inner.Defined.{meaning_of, body_tokens, opened_by}
+use Rattle.pp_macros.specs.inner.Defined.{Macro, AreNumbered, meaning_of, names_in, numbered_by, body_tokens, opened_by}
 use Rattle.pp_macros.specs.inner.Frames.{new_frame, names_of}
 use Rattle.pp_macros.specs.Item.{Step, wants_memory}
 use Rattle.pp_macros.specs.inner.Left.{reads_left, most_open, most_bodies, one_more, regions_of, regions, work_of, IsSound, most_alone}
 use Rattle.pp_macros.specs.inner.Expander.{Expander, StepsTaking, GathersNext}
 use Rattle.pp_macros.specs.inner.Reach.{total}
 use Rattle.pp_macros.specs.inner.Reader.{Reader, of_source, of_list, visible, definitions_of, is_reserved}
-use Rattle.pp_macros.specs.inner.Turns.{macro_of, macro_of_value}
+use Rattle.pp_macros.specs.inner.Turns.{macro_of, macro_of_value, Opens}
 use Rattle.pp_macros.specs.declared.calls.Taken.{Taken}
 use Rattle.pp_macros.specs.declared.calls.Taken.TheVariants as taken
 use Rattle.pp_macros.specs.declared.step.StepExit.{StepExit}
@@ -31,9 +31,10 @@ use Rattle.pp_macros.proofs.work.SpendLemmas.{IsNoMore, Falls, Tightens, tighten
 use Rattle.pp_macros.proofs.work.WorkFallsLemmas.{frame_of, falls_work, opened_work, object_steps, call_opens_falls, alone_under}
 
 -- a macro that may open, where it is found
-pub record IsFound (n : Expander) (s : Reader) (macro : Name × Definition) : Type 0 where
-  pub apart : is_in macro.0 (names_of n.frames) ≡ false
-  pub defined : meaning_of (definitions_of s) macro.0 ≡ Some macro.1
+pub record IsFound (n : Expander) (s : Reader) (opened : Macro) : Type 0 where
+  pub apart : is_in opened.name (names_of n.frames) ≡ false
+  pub defined : meaning_of (definitions_of s) opened.name ≡ Some opened.definition
+  pub numbered : AreNumbered (names_in (definitions_of s)) (numbered_by opened)
 
 visible_defined : (s : Reader) (name : Name) (definition : Definition) → visible s name ≡ Some definition → meaning_of (definitions_of s) name ≡ Some definition
 visible_defined (of_source source) name definition e = e
@@ -43,24 +44,25 @@ visible_defined (of_list list) name definition e = go (is_reserved list name) e
     go true e = cc
     go false e = e
 
-found_named : (n : Expander) (s : Reader) (x name : Name) (definition : Definition) (d : Option Definition) → is_in name (names_of n.frames) ≡ false
-    → visible s x ≡ d → opened_by x d ≡ Some (name, definition) → IsFound n s (name, definition)
-found_named n s x name definition None apart f is = cc
-found_named n s x name definition (Some k) apart f is =
+name_defined : (s : Reader) (x name : Name) (definition : Definition) (d : Option Definition) → visible s x ≡ d
+    → opened_by x d ≡ Some (name, definition) → meaning_of (definitions_of s) name ≡ Some definition
+name_defined s x name definition None f is = cc
+name_defined s x name definition (Some k) f is =
     let pair : ◌≡◌ {A = Name × Definition} (x, k) (name, definition) = cc in
     let same : x ≡ name = ap (λ (p : Name × Definition). p.0) pair in
     let meaning : k ≡ definition = ap (λ (p : Name × Definition). p.1) pair in
-    record { apart = apart; defined = visible_defined s name definition (rw (same, meaning) at f) }
+    visible_defined s name definition (rw (same, meaning) at f)
 
-opens_found : (n : Expander) (s : Reader) (read : Read) (name : Name) (definition : Definition) → is_in name (names_of n.frames) ≡ false
-    → macro_of s read ≡ Some (name, definition) → IsFound n s (name, definition)
-opens_found n s read name definition apart is = by_paint read.painted is
+opens_defined : (s : Reader) (read : Read) (name : Name) (definition : Definition) → macro_of s read ≡ Some (name, definition)
+    → meaning_of (definitions_of s) name ≡ Some definition
+opens_defined s read name definition is = by_paint read.painted is
   where
-    go : (value : TokenValue) → macro_of_value s value ≡ Some (name, definition) → IsFound n s (name, definition)
-    go (Ident x) e = found_named n s x name definition (visible s x) apart refl e
+    go : (value : TokenValue) → macro_of_value s value ≡ Some (name, definition) → meaning_of (definitions_of s) name ≡ Some definition
+    go (Ident x) e = name_defined s x name definition (visible s x) refl e
     go _ e = cc
 
-    by_paint : (painted : Bool) → (if painted then None else macro_of_value s read.token.value) ≡ Some (name, definition) → IsFound n s (name, definition)
+    by_paint : (painted : Bool) → (if painted then None else macro_of_value s read.token.value) ≡ Some (name, definition)
+        → meaning_of (definitions_of s) name ≡ Some definition
     by_paint true e = cc
     by_paint false e = go read.token.value e
 
@@ -72,18 +74,20 @@ names_least : (s : Reader) → length (definitions_of s) + 1 ≤ most_open s
 names_least (of_source source) = omega arith
 names_least (of_list list) = omega arith
 
-pub found_body : (n : Expander) (s : Reader) (name : Name) (definition : Definition) → IsFound n s (name, definition) → length definition.body ≤ most_bodies s
-found_body n s name definition found = omega (arith, body_within (definitions_of s) name definition found.defined, bodies_least s)
+pub found_body : (n : Expander) (s : Reader) (opened : Macro) → IsFound n s opened → length opened.definition.body ≤ most_bodies s
+found_body n s opened found = omega (arith, body_within (definitions_of s) opened.name opened.definition found.defined, bodies_least s)
 
-pub found_sound : (n : Expander) (s : Reader) (name : Name) (definition : Definition) → IsFound n s (name, definition) → IsSound n s
-    → IsSoundWith (Some name) n s
-found_sound n s name definition found sound = opened_sound (definitions_of s) name (names_of n.frames) sound found.apart (rw found.defined refl)
+pub found_sound : (n : Expander) (s : Reader) (opened : Macro) → IsFound n s opened → IsSound n s → IsSoundWith (Some opened) n s
+found_sound n s opened found sound = record {
+  names = opened_sound (definitions_of s) opened.name (names_of n.frames) sound.names found.apart (rw found.defined refl);
+  numbers = (found.numbered, sound.numbers);
+}
 
-pub pending_few : (name : Name) (line : ℕ) (definition : Definition) (arguments : List (List Read)) (n : Expander) (s : Reader)
-    → IsSoundWith (Some name) n s → length (new_frame name line definition arguments ∷ n.frames) ≤ most_open s
-pending_few name line definition arguments n s sound = omega (
+pub pending_few : (opened : Macro) (line : ℕ) (arguments : List (List Read)) (n : Expander) (s : Reader)
+    → IsSoundWith (Some opened) n s → length (new_frame opened line arguments ∷ n.frames) ≤ most_open s
+pending_few opened line arguments n s sound = omega (
   arith,
-  open_names_few (definitions_of s) (name ∷ names_of n.frames) sound,
+  open_names_few (definitions_of s) (opened.name ∷ names_of n.frames) sound.names,
   length_names n.frames,
   names_least s,
 )
@@ -93,9 +97,9 @@ pub record IsPending (levels : ℕ) (m : Expander) (r : Reader) (c : MacroCall) 
   pub free : n.held ≡ None
   pub room : IsNoMore (frame_of levels r) (most_open r) (regions m r) (one_more (regions_of n.frames (reads_left s)))
   pub tight : Tightens r s
-  pub body : length c.definition.body ≤ most_bodies r
+  pub body : length c.opened.definition.body ≤ most_bodies r
   pub tokens : length c.tokens ≤ total (regions m r)
-  pub sound : IsSoundWith (Some c.name) n s
+  pub sound : IsSoundWith (Some c.opened) n s
 
 pub record IsLess (levels : ℕ) (m : Expander) (r : Reader) (n : Expander) (s : Reader) : Type 0 where
   pub falls : work_of levels n s < work_of levels m r
@@ -142,39 +146,39 @@ module _ (levels : ℕ) (m : Expander) (r : Reader) (sound : IsSound m r) where
   token_falls n s h = no_more_falls (frame_of levels r) (most_open r) rises (regions m r) (one_more (regions n s)) (regions n s) h.room
       (one_more_falls (frame_of levels r) (most_open r) rises (regions n s))
 
-  object_falls : (name : Name) (line : ℕ) (definition : Definition) (n : Expander) (s : Reader) → IsTokenTaken n s → IsFound n s (name, definition)
-      → IsLess levels m r (record n { frames = new_frame name line definition [] ∷ n.frames }) s
-  object_falls name line definition n s h found =
+  object_falls : (opened : Macro) (line : ℕ) (n : Expander) (s : Reader) → IsTokenTaken n s → IsFound n s opened
+      → IsLess levels m r (record n { frames = new_frame opened line [] ∷ n.frames }) s
+  object_falls opened line n s h found =
       let room : IsNoMore (frame_of levels r) (most_open r) (regions m r) (one_more (regions_of n.frames (reads_left s))) = rw h.free at h.room in
-      let body : length definition.body ≤ most_bodies r = omega (arith, found_body n s name definition found, h.tight.bodies) in
-      let with_it = found_sound n s name definition found h.kept in
+      let body : length opened.definition.body ≤ most_bodies r = omega (arith, found_body n s opened found, h.tight.bodies) in
+      let with_it = found_sound n s opened found h.kept in
       record {
-        falls = rw h.free (opened_work levels m (new_frame name line definition []) n.frames r s h.tight room
-            (object_steps levels (total (regions m r)) (most_bodies r) (most_open r) name line definition body)
-            (pending_few name line definition [] n s with_it));
+        falls = rw h.free (opened_work levels m (new_frame opened line []) n.frames r s h.tight room
+            (object_steps levels (total (regions m r)) (most_bodies r) (most_open r) opened line body)
+            (pending_few opened line [] n s with_it));
         tight = h.tight;
-        sound = with_it;
+        sound = record { names = with_it.names; numbers = with_it.numbers };
       }
 
   -- what is sought after a name
-  seek_falls : (read : Read) (name : Name) (definition : Definition) (c : Sought) (step : Step Taken) (n p q : Expander) (s t : Reader)
-      → IsTokenTaken n s → IsFound n s (name, definition) → Seeks n s c p t → Finds read name definition c step p q → FallsBy levels m r step q t
-  seek_falls read name definition c step n p q s t h found (alone next n1 p1 s1 t1 c1 taken_next none reported is) finds =
+  seek_falls : (read : Read) (opened : Macro) (c : Sought) (step : Step Taken) (n p q : Expander) (s t : Reader)
+      → IsTokenTaken n s → IsFound n s opened → Seeks n s c p t → Finds read opened c step p q → FallsBy levels m r step q t
+  seek_falls read opened c step n p q s t h found (alone next n1 p1 s1 t1 c1 taken_next none reported is) finds =
       let quiet : wants_memory next ≡ false = not_refused next reported in
       let k = next_spends (frame_of levels r) (most_open r) rises next n p s t taken_next quiet in
-      let found' : Finds read name definition (no_call next) step p q = subst (λ (x : Sought). Finds read name definition x step p q) is finds in
+      let found' : Finds read opened (no_call next) step p q = subst (λ (x : Sought). Finds read opened x step p q) is finds in
       let kept : IsSound p t = next_sound None next n p s t taken_next quiet h.kept in
       rw (found'.0, found'.1) (less_by (record p { held = Some next }) t (tightens_then r s t h.tight k.tightens)
       (falls_no_more (frame_of levels r) (most_open r) rises (regions m r) (regions n s) (regions (record p { held = Some next }) t)
       (token_falls n s h) k.spends) kept)
-  seek_falls read name definition c step n p q s t h found (called next paren n1 between p1 s1 u t1 g c1 taken_next at gathers is) finds =
-      go g gathers (subst (λ (x : Sought). Finds read name definition x step p q) is finds)
+  seek_falls read opened c step n p q s t h found (called next paren n1 between p1 s1 u t1 g c1 taken_next at gathers is) finds =
+      go g gathers (subst (λ (x : Sought). Finds read opened x step p q) is finds)
     where
       first : (next : Step Read) → paren_of next ≡ Some paren → wants_memory next ≡ false
       first (Ok read) e = refl
       first (Err exit) e = cc
 
-      go : (g : Result Gathered Fault) → GathersNext 0 paren between u g p t → Finds read name definition (sought_by paren g) step p q
+      go : (g : Result Gathered Fault) → GathersNext 0 paren between u g p t → Finds read opened (sought_by paren g) step p q
           → FallsBy levels m r step q t
       go (Err fault) gathers finds =
           let k = next_left (frame_of levels r) (most_open r) rises next n between s u taken_next (first next at) in
@@ -198,15 +202,18 @@ module _ (levels : ℕ) (m : Expander) (r : Reader) (sound : IsSound m r) where
             free = l.free;
             room = rw l.free at room;
             tight = tightens_then r u t (tightens_then r s u h.tight k.tightens) l.tightens;
-            body = omega (arith, found_body n s name definition found, h.tight.bodies);
+            body = omega (arith, found_body n s opened found, h.tight.bodies);
             tokens = omega (arith, l.least, fall.least);
-            sound = gather_sound (Some name) 0 paren between p u t (Ok g) gathers
-                (next_sound (Some name) next n between s u taken_next (first next at) (found_sound n s name definition found h.kept));
+            sound = gather_sound (Some opened) 0 paren between p u t (Ok g) gathers
+                (next_sound (Some opened) next n between s u taken_next (first next at) (found_sound n s opened found h.kept));
           })
 
-  taken_found : (read : Read) (name : Name) (definition : Definition) (n : Expander) (s : Reader) → StepsTaking m r (Ok read) n s
-      → macro_of s read ≡ Some (name, definition) → IsFound n s (name, definition)
-  taken_found read name definition n s steps some = opens_found n s read name definition (opens_apart m n r s read name definition steps some) some
+  taken_found : (read : Read) (opened : Macro) (n : Expander) (s : Reader) → StepsTaking m r (Ok read) n s → Opens s read opened → IsFound n s opened
+  taken_found read opened n s steps some = record {
+    apart = opens_apart m n r s read opened.name opened.definition steps some.is;
+    defined = opens_defined s read opened.name opened.definition some.is;
+    numbered = some.numbered;
+  }
 
   -- each turn lowers what is left; after a call there is room for its frame
   pub turn_falls : (step : Step Taken) (n : Expander) (s : Reader) → TurnsTo m r step n s → wants_taken step ≡ false → FallsBy levels m r step n s
@@ -214,25 +221,25 @@ module _ (levels : ℕ) (m : Expander) (r : Reader) (sound : IsSound m r) where
   turn_falls step n s (gives read step1 m1 n1 r1 s1 steps none is) reported =
       let h = token_taken read n s steps in
       rw is (less_by n s h.tight (token_falls n s h) h.kept)
-  turn_falls step p s (object read name definition step1 m1 n p1 r1 s1 steps some plain is at) reported =
-      rw (is, at) (object_falls name read.token.location.line definition n s (token_taken read n s steps)
-      (taken_found read name definition n s steps some))
-  turn_falls step q t (seeks read name definition c step1 m1 n p q1 r1 s t1 steps some function sought found) reported =
-      seek_falls read name definition c step n p q s t (token_taken read n s steps) (taken_found read name definition n s steps some)
+  turn_falls step p s (object read opened step1 m1 n p1 r1 s1 steps some plain is at) reported =
+      rw (is, at) (object_falls opened read.token.location.line n s (token_taken read n s steps)
+      (taken_found read opened n s steps some))
+  turn_falls step q t (seeks read opened c step1 m1 n p q1 r1 s t1 steps some function sought found) reported =
+      seek_falls read opened c step n p q s t (token_taken read n s steps) (taken_found read opened n s steps some)
       sought found
 
 -- the frame of a call that is pending opens, and less is left than before the turn that began the call
 pub pending_opens : (levels : ℕ) (m : Expander) (r : Reader) (c : MacroCall) (n : Expander) (s : Reader) (arguments : List (List Read))
     → IsPending (suc levels) m r c n s
     → All (λ argument. length argument ≤ most_alone levels (definitions_of s) (length c.tokens)) arguments
-    → IsLess (suc levels) m r (record { held = None; frames = new_frame c.name c.closing.line c.definition arguments ∷ n.frames }) s
+    → IsLess (suc levels) m r (record { held = None; frames = new_frame c.opened c.closing.line arguments ∷ n.frames }) s
 pending_opens levels m r c n s arguments pending all =
-    let few = pending_few c.name c.closing.line c.definition arguments n s pending.sound in
+    let few = pending_few c.opened c.closing.line arguments n s pending.sound in
     record {
       falls = call_opens_falls levels
-          (length c.tokens) m n.frames r s c.name c.closing.line c.definition arguments pending.tight pending.room pending.body pending.tokens
+          (length c.tokens) m n.frames r s c.opened c.closing.line arguments pending.tight pending.room pending.body pending.tokens
           (λ k d inside. le_trans (all k d inside) (alone_under levels (body_tokens (definitions_of s)) (most_bodies s)
           (length (definitions_of s) + 1) (most_open s) (length c.tokens) (bodies_least s) (names_least s))) few;
       tight = pending.tight;
-      sound = pending.sound;
+      sound = record { names = pending.sound.names; numbers = pending.sound.numbers };
     }

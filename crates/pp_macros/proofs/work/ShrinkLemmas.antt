@@ -1,13 +1,13 @@
 -- A step of a source shrinks it: fewer items and open blocks are left, and no more names or tokens are defined than were left or defined before.
-use Rattle.std.proofs.Common.{◌≡◌, ◌≢◌, ◌∙◌, ℕ, ◌+◌, ◌-◌, ◌<◌, ◌≤◌, ◌⊎◌, Bool, true, false, List, length, length-drop, refl, ap, arith, Option, Some, None, Err, MatchBool, inl, inr}
-use Rattle.std.proofs.lemmas.List.{length-take}
+use Rattle.std.proofs.Common.{◌≡◌, ◌≢◌, ◌∙◌, ℕ, ◌+◌, ◌-◌, ◌<◌, ◌≤◌, ◌⊎◌, Bool, true, false, List, length, length-drop, refl, sym, ap, arith, Option, Some, None, Err, MatchBool, inl, inr}
+use Rattle.std.proofs.lemmas.List.{length-map, length-take}
 use Rattle.std.proofs.lemmas.Option.{slice_get_within}
 use Rattle.std.specs.Prelude.{pos, ◌-ℤ◌}
 use Rattle.pp_lexer.specs.declared.token.Location.{Location}
 use Rattle.pp_lexer.specs.declared.token.Token.{Token}
 use Rattle.pp_model.specs.Definitions.{Definition}
 use Rattle.pp_model.specs.declared.definition.Named.{Named}
-use Rattle.pp_macros.specs.inner.Defined.{meaning_of, body_tokens}
+use Rattle.pp_macros.specs.inner.Defined.{Defined, names_in, meaning_of, body_tokens}
 use Rattle.pp_macros.specs.Item.{Step}
 use Rattle.pp_macros.specs.inner.OpenBlocks.{last_block, BlockChange, block_change_at}
 use Rattle.pp_macros.specs.declared.blocks.OpenBlock.{OpenBlock}
@@ -26,6 +26,10 @@ pub record Shrinks (old new : Source) : Type 0 where
   pub shorter : most_reads new < most_reads old
   pub names : most_names new ≤ most_names old
   pub steps : most_steps new ≤ most_steps old
+
+-- as many names with numbers
+as_many : {old new : List Defined} → names_in new ≡ names_in old → length new ≡ length old
+as_many {old} {new} same = sym (length-map new (λ (d : Defined). d.name)) ∙ ap length same ∙ length-map old (λ (d : Defined). d.name)
 
 module _ (old new : Source) where
   after_shrinks : (taken adds : ℕ) (note : Note) (blocks : List OpenBlock) → IsAfter taken note blocks old new
@@ -51,7 +55,9 @@ module _ (old new : Source) where
       record { shorter = shorter; names = omega arith; steps = omega arith }
 
   fault_shrinks : IsAfterFault old new → Shrinks old new
-  fault_shrinks after = record { shorter = omega (arith, after.fewer); names = omega (arith, after.fewer, after.names); steps = omega (arith, after.fewer, after.tokens) }
+  fault_shrinks after =
+      let names : length new.definitions ≡ length old.definitions = as_many after.names in
+      record { shorter = omega (arith, after.fewer); names = omega (arith, after.fewer, names); steps = omega (arith, after.fewer, after.tokens) }
 
   block_shrinks : IsAfterBlock old new → length old.rest + (length old.blocks - 1) < length old.rest + length old.blocks → Shrinks old new
   block_shrinks after low =

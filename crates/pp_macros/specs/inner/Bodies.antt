@@ -1,13 +1,15 @@
 -- The body of a macro as a list of entries, each a token or a parameter.
-use Rattle.std.specs.Prelude.{◌≡◌, ⊤, ℕ, ◌==◌, ◌+◌, ◌||◌, Bool, false, not, IsTrue, List, [], ◌∷◌, map, drop}
+use Rattle.std.specs.Prelude.{◌≡◌, ⊤, ℕ, ◌==◌, ◌+◌, ◌||◌, Bool, false, not, IsTrue, List, [], ◌∷◌, ◌++◌, map, drop}
 use Rattle.std.specs.Prelude.{Option, Some, None, slice_index_or}
 use Rattle.pp_lexer.specs.TokenValue.{is_ordinary}
 use Rattle.pp_lexer.specs.contracts.token.TokenValuePartialEq.TheImpl.{eq-value as value_eq}
 use Rattle.pp_lexer.specs.declared.token.Token.{Token}
+use Rattle.pp_lexer.specs.declared.token.TokenValue.{TokenValue}
 use Rattle.pp_lexer.specs.declared.token.TokenValue.TheVariants.{Ident}
 use Rattle.pp_model.specs.Names.{Name}
 use Rattle.pp_model.specs.Definitions.{Definition}
 use Rattle.pp_model.specs.SpliceList.{parameter_of}
+use Rattle.pp_macros.specs.inner.Defined.{Numbered}
 use Rattle.pp_macros.specs.declared.define.BodyEntry.{BodyEntry}
 use Rattle.pp_macros.specs.declared.define.BodyEntry.TheVariants as entry
 
@@ -60,3 +62,23 @@ is_same_entry old new = false
 -- each parameter is marked if the body has it
 abbrev pub AreSeen : List Name → List Token → List Bool → Type 0
 AreSeen parameters body seen = (k : ℕ) → slice_index_or seen k false ≡ has_parameter parameters body k
+
+-- an entry without its number
+abbrev pub unnumbered : BodyEntry → BodyEntry
+unnumbered (entry.Token token number) = entry.Token token None
+unnumbered (entry.Parameter k location is_last) = entry.Parameter k location is_last
+
+-- the name with its number, if the value is a name for which one is noted
+abbrev pub noted_by : Option ℕ → TokenValue → List Numbered
+noted_by (Some number) (Ident name) = record { name = name; number = number } ∷ []
+noted_by number value = []
+
+-- the same of an entry
+abbrev pub noted_at : BodyEntry → List Numbered
+noted_at (entry.Token token number) = noted_by number token.value
+noted_at (entry.Parameter k location is_last) = []
+
+-- all names in a body for which a number is noted
+abbrev pub noted_in : List BodyEntry → List Numbered
+noted_in [] = []
+noted_in (entry ∷ rest) = noted_at entry ++ noted_in rest

@@ -5,15 +5,14 @@ use Rattle.std.specs.Prelude.{⊤}
 use Rattle.pp_lexer.specs.PreprocessorError.{out_of_memory}
 use Rattle.pp_lexer.specs.declared.token.Location.{Location}
 use Rattle.pp_model.specs.declared.read.Read.{Read}
-use Rattle.pp_model.specs.Names.{Name}
-use Rattle.pp_model.specs.Definitions.{Definition}
 use Rattle.pp_model.specs.Calls.{Fault, Gathered, is_left_paren}
 use Rattle.pp_macros.specs.Item.{Step, is_out_of_memory}
+use Rattle.pp_macros.specs.inner.Defined.{Macro}
 use Rattle.pp_macros.specs.inner.Frames.{new_frame}
 use Rattle.pp_macros.specs.Held.{HoldsOrdinary}
 use Rattle.pp_macros.specs.inner.Expander.{Expander, StepsTaking, TakesNext, GathersNext}
 use Rattle.pp_macros.specs.inner.Reader.{Reader}
-use Rattle.pp_macros.specs.inner.Turns.{macro_of}
+use Rattle.pp_macros.specs.inner.Turns.{macro_of, Opens}
 use Rattle.pp_macros.specs.inner.Work.{is_end}
 use Rattle.pp_macros.specs.declared.calls.Taken.{Taken}
 use Rattle.pp_macros.specs.declared.calls.Taken.TheVariants as taken
@@ -56,14 +55,12 @@ pub data Seeks : Expander → Reader → Sought → Expander → Reader → Type
       → Seeks m r c p t
 
 -- what is done with what follows a name: without a call the name is given and what follows it is held
-abbrev pub Finds : Read → Name → Definition → Sought → Step Taken → Expander → Expander → Type 0
-Finds read name definition (no_call next) step n p =
-    (step ≡ Ok (taken.Token read)) × (p ≡ record n { held = Some next })
-Finds read name definition (refused fault) step n p = (step ≡ Err (Error fault)) × (p ≡ n)
-Finds read name definition (gathered paren g) step n p =
+abbrev pub Finds : Read → Macro → Sought → Step Taken → Expander → Expander → Type 0
+Finds read opened (no_call next) step n p = (step ≡ Ok (taken.Token read)) × (p ≡ record n { held = Some next })
+Finds read opened (refused fault) step n p = (step ≡ Err (Error fault)) × (p ≡ n)
+Finds read opened (gathered paren g) step n p =
     (step ≡ Ok (taken.Call (record {
-      name = name;
-      definition = definition;
+      opened = opened;
       paren = paren;
       closing = g.closing;
       tokens = g.tokens;
@@ -82,19 +79,18 @@ pub data TurnsTo : Expander → Reader → Step Taken → Expander → Reader �
       → step ≡ Ok (taken.Token read)
       → TurnsTo m r step n s
   -- the name of an object-like macro
-  object : (read : Read) (name : Name) (definition : Definition) (step : Step Taken) (m n p : Expander) (r s : Reader)
-      → StepsTaking m r (Ok read) n s → macro_of s read ≡ Some (name, definition)
-      → definition.function_like ≡ false
+  object : (read : Read) (opened : Macro) (step : Step Taken) (m n p : Expander) (r s : Reader)
+      → StepsTaking m r (Ok read) n s → Opens s read opened
+      → opened.definition.function_like ≡ false
       → step ≡ Err Continue
-      → p ≡ record n { frames = new_frame name read.token.location.line definition [] ∷ n.frames }
+      → p ≡ record n { frames = new_frame opened read.token.location.line [] ∷ n.frames }
       → TurnsTo m r step p s
   -- the name of a function-like macro
-  seeks : (read : Read) (name : Name) (definition : Definition) (c : Sought) (step : Step Taken) (m n p q : Expander)
-      (r s t : Reader)
-      → StepsTaking m r (Ok read) n s → macro_of s read ≡ Some (name, definition)
-      → definition.function_like ≡ true
+  seeks : (read : Read) (opened : Macro) (c : Sought) (step : Step Taken) (m n p q : Expander) (r s t : Reader)
+      → StepsTaking m r (Ok read) n s → Opens s read opened
+      → opened.definition.function_like ≡ true
       → Seeks n s c p t
-      → Finds read name definition c step p q
+      → Finds read opened c step p q
       → TurnsTo m r step q t
 
 -- a token that is given holds ordinary tokens; this says nothing of the tokens of a call

@@ -1,15 +1,31 @@
 -- The names that were ever defined, as the preprocessor keeps them: by number, each with its definition if it has one.
 use Rattle.std.specs.Prelude.{◌≡◌, ℕ, ◌+◌, ◌≤◌, ◌++◌, List, [], ◌∷◌, length, map, Option, Some, None, IfSome}
-use Rattle.std.specs.Prelude.{option_map, ⊤}
+use Rattle.std.specs.Prelude.{option_map, position, ⊤}
 use Rattle.std.specs.declared.rc.Rc.{Rc}
-use Rattle.pp_model.specs.Names.{Name}
+use Rattle.pp_model.specs.Names.{Name, is_same_name}
 use Rattle.pp_model.specs.Definitions.{Definition, Definitions, with_change}
 use Rattle.pp_model.specs.inner.Definitions.{nothing_defined}
 
--- a macro: a name and its definition
+-- a name with a number
+pub record Numbered : Type 0 where
+  pub name : Name
+  pub number : ℕ
+
+-- each of these names has its number among the names
+abbrev pub AreNumbered : List Name → List Numbered → Type 0
+AreNumbered names [] = ⊤
+AreNumbered names (n ∷ noted) = (position (is_same_name n.name) names ≡ Some n.number) × AreNumbered names noted
+
+-- a macro: a name with its number, the definition, and the names in its body for which a number is noted
 pub record Macro : Type 0 where
   pub name : Name
+  pub number : ℕ
   pub definition : Definition
+  pub noted : List Numbered
+
+-- its name and the names in its body, with their numbers
+abbrev pub numbered_by : Macro → List Numbered
+numbered_by m = record { name = m.name; number = m.number } ∷ m.noted
 
 -- a name that has a number, and its definition if it is defined
 pub record Defined : Type 0 where
@@ -32,6 +48,12 @@ abbrev pub AreOfNames : {Z : Type 0} → List Name → List (Option (Rc Macro Z)
 AreOfNames [] [] = ⊤
 AreOfNames (name ∷ names) (m ∷ macros) = IfSome m (λ shared. shared.value.name ≡ name) × AreOfNames names macros
 AreOfNames _ _ = ⊥
+
+-- the numbers of all macros are right
+abbrev pub AreAllNumbered : {Z : Type 0} → List Name → List (Option (Rc Macro Z)) → Type 0
+AreAllNumbered names [] = ⊤
+AreAllNumbered names (m ∷ macros) =
+    IfSome m (λ shared. AreNumbered names (numbered_by shared.value)) × AreAllNumbered names macros
 
 -- the definition of each name, if it has one; the first in the list counts
 abbrev pub meaning_of : List Defined → Definitions

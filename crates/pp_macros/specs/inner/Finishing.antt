@@ -33,16 +33,16 @@ AreOfCall levels definitions call arguments =
 pub record IsOpened (levels : ℕ) (definitions : List Defined) (around : List Name) (call : MacroCall)
     (old new : Expander) : Type 0 where
   pub arguments : List (List Read)
-  pub answers : answers_at levels call.definition (site_at call definitions around) (Ok arguments)
+  pub answers : answers_at levels call.opened.definition (site_at call definitions around) (Ok arguments)
   pub least : AreOfCall levels definitions call arguments
-  pub opens : new ≡ record old { frames = new_frame call.name call.closing.line call.definition arguments ∷ old.frames }
+  pub opens : new ≡ record old { frames = new_frame call.opened call.closing.line arguments ∷ old.frames }
 
 -- The frame opens, or the call has this fault and nothing changes. If memory runs out, this says nothing.
 abbrev pub Finishes : ℕ → List Defined → List Name → MacroCall → Expander → Result (Unit {0}) Halt → Expander → Type 0
 Finishes levels definitions hidden call old (Ok done) new =
     IsOpened levels definitions (names_of old.frames ++ hidden) call old new
 Finishes levels definitions hidden call old (Err (halt.Fault fault)) new =
-    answers_at levels call.definition (site_at call definitions (names_of old.frames ++ hidden)) (Err fault)
+    answers_at levels call.opened.definition (site_at call definitions (names_of old.frames ++ hidden)) (Err fault)
     × (new ≡ old)
 Finishes levels definitions hidden call old (Err halt.OutOfMemory) new = ⊤
 

@@ -5,17 +5,19 @@ use Rattle.pp_lexer.specs.declared.token.Token.{Token}
 use Rattle.pp_model.specs.declared.read.Read.{Read}
 use Rattle.pp_model.specs.Painting.{unpainted}
 use Rattle.pp_model.specs.Names.{Name}
-use Rattle.pp_model.specs.Definitions.{Definition}
 use Rattle.pp_model.specs.SpliceList.{body_before, parameter_of}
 use Rattle.pp_model.specs.inner.SpliceList.{followed_by}
 use Rattle.pp_macros.specs.inner.Bodies.{has_parameter}
+use Rattle.pp_macros.specs.inner.Defined.{Macro, Numbered}
 use Rattle.pp_model.specs.declared.splice.Entry.{Entry}
 use Rattle.pp_model.specs.declared.splice.Entry.TheVariants.{End}
 
--- A frame: the macro's name, the line that `__LINE__` shows in it, its parameters, what is left of its body, its
--- arguments, and what is left of the argument that is being read.
+-- A frame: the macro's name, its number and those that are noted in its body, the line that `__LINE__` shows in it, its
+-- parameters, what is left of its body, its arguments, and what is left of the argument that is being read.
 pub record Frame : Type 0 where
   pub name : Name
+  pub number : ℕ
+  pub noted : List Numbered
   pub line : ℕ
   pub parameters : List Name
   pub body : List Token
@@ -23,13 +25,14 @@ pub record Frame : Type 0 where
   pub reading : Option (List Read)
 
 -- the frame of a macro as it opens
-abbrev pub new_frame : Name → ℕ → Definition → List (List Read) → Frame
-new_frame name line definition arguments = record {
-  name = name;
+abbrev pub new_frame : Macro → ℕ → List (List Read) → Frame
+new_frame opened line arguments = record {
+  name = opened.name;
+  number = opened.number;
+  noted = opened.noted;
   line = line;
-  parameters = definition.parameters;
-  body =
-      definition.body;
+  parameters = opened.definition.parameters;
+  body = opened.definition.body;
   arguments = arguments;
   reading = None;
 }

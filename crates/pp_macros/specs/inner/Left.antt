@@ -3,7 +3,7 @@ use Rattle.std.specs.Prelude.{ℕ, suc, ◌+◌, if◌then◌else◌, List, [], 
 use Rattle.pp_model.specs.declared.read.Read.{Read}
 use Rattle.pp_model.specs.ApartMarks.{AreApart}
 use Rattle.pp_model.specs.Names.{Name}
-use Rattle.pp_macros.specs.inner.Defined.{Defined, meaning_of, body_tokens}
+use Rattle.pp_macros.specs.inner.Defined.{Defined, Numbered, AreNumbered, meaning_of, names_in, body_tokens}
 use Rattle.pp_macros.specs.Item.{Step}
 use Rattle.pp_macros.specs.inner.Frames.{Frame, names_of}
 use Rattle.pp_macros.specs.inner.Expander.{Expander}
@@ -62,8 +62,22 @@ pub record AreOpenSoundly (definitions : List Defined) (names : List Name) : Typ
   pub apart : AreApart names
   pub defined : AreDefinedAbove definitions names
 
+-- the name of an open macro and those that are noted in its body, with their numbers
+abbrev pub numbers_in : Frame → List Numbered
+numbers_in f = record { name = f.name; number = f.number } ∷ f.noted
+
+-- these numbers of open macros are right
+abbrev pub HaveNumbers : List Name → List Frame → Type 0
+HaveNumbers names [] = ⊤
+HaveNumbers names (f ∷ fs) = AreNumbered names (numbers_in f) × HaveNumbers names fs
+
+-- open macros are sound where these names are defined
+pub record AreSound (definitions : List Defined) (frames : List Frame) : Type 0 where
+  pub names : AreOpenSoundly definitions (names_of frames)
+  pub numbers : HaveNumbers (names_in definitions) frames
+
 abbrev pub IsSound : Expander → Reader → Type 0
-IsSound m r = AreOpenSoundly (definitions_of r) (names_of m.frames)
+IsSound m r = AreSound (definitions_of r) m.frames
 
 -- the most tokens that `n` tokens give, expanded alone, if arguments may be read inside each other `levels` levels
 -- deeper

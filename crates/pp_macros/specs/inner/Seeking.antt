@@ -2,6 +2,7 @@
 use Rattle.std.specs.Prelude.{◌≡◌, true, false, [], ◌∷◌, Option, Some, None, Result, Ok, Err, ⊤}
 use Rattle.pp_model.specs.Names.{Name}
 use Rattle.pp_model.specs.Definitions.{Definition}
+use Rattle.pp_macros.specs.inner.Defined.{Macro, AreNumbered, names_in, numbered_by}
 use Rattle.pp_macros.specs.inner.Frames.{new_frame}
 use Rattle.pp_macros.specs.declared.calls.Taken.{Taken}
 use Rattle.pp_macros.specs.declared.calls.Taken.TheVariants as taken
@@ -10,7 +11,7 @@ use Rattle.pp_model.specs.declared.read.Read.{Read}
 use Rattle.pp_macros.specs.inner.CallTurns.{Seeks, Sought, Finds, no_call, refused, gathered}
 use Rattle.pp_macros.specs.Item.{Step}
 use Rattle.pp_macros.specs.inner.Expander.{Expander}
-use Rattle.pp_macros.specs.inner.Reader.{Reader}
+use Rattle.pp_macros.specs.inner.Reader.{Reader, definitions_of}
 use Rattle.pp_macros.specs.declared.calls.AfterName.{AfterName}
 use Rattle.pp_macros.specs.declared.calls.AfterName.TheVariants.{NoCall, Whole}
 use Rattle.pp_macros.specs.declared.halt.Halt.{Halt}
@@ -30,22 +31,28 @@ FindsBy m r (Err (halt.Fault fault)) n s = Seeks m r (refused fault) n s
 FindsBy m r (Err halt.OutOfMemory) n s = ⊤
 
 -- a token opens its macro, begins its call, or, if there is no call, is given
-pub data Enters (read : Read) (name : Name) (definition : Definition) : Expander → Reader → Step Taken → Expander
-    → Reader
-    → Type 0 where
+pub data Enters (read : Read) (opened : Macro) : Expander → Reader → Step Taken → Expander → Reader → Type 0 where
   plain : (step : Step Taken) (m n : Expander) (r s : Reader)
-      → definition.function_like ≡ false
+      → opened.definition.function_like ≡ false
       → step ≡ Err Continue
-      → n ≡ record m { frames = new_frame name read.token.location.line definition [] ∷ m.frames }
+      → n ≡ record m { frames = new_frame opened read.token.location.line [] ∷ m.frames }
       → s ≡ r
-      → Enters read name definition m r step n s
+      → Enters read opened m r step n s
   called : (c : Sought) (step : Step Taken) (m p n : Expander) (r s : Reader)
-      → definition.function_like ≡ true
+      → opened.definition.function_like ≡ true
       → Seeks m r c p s
-      → Finds read name definition c step p n
-      → Enters read name definition m r step n s
+      → Finds read opened c step p n
+      → Enters read opened m r step n s
+
+-- the same of a macro with this name and definition, whose numbers are right where it opens
+pub record EntersAs (read : Read) (named : Name × Definition) (m : Expander) (r : Reader) (step : Step Taken)
+    (n : Expander) (s : Reader) : Type 0 where
+  pub opened : Macro
+  pub is : named ≡ (opened.name, opened.definition)
+  pub numbered : AreNumbered (names_in (definitions_of r)) (numbered_by opened)
+  pub enters : Enters read opened m r step n s
 
 abbrev pub FollowsToken : Option (Name × Definition) → Read → Expander → Reader → Step Taken → Expander → Reader
     → Type 0
 FollowsToken None read m r step n s = (step ≡ Ok (taken.Token read)) × (n ≡ m) × (s ≡ r)
-FollowsToken (Some (name, definition)) read m r step n s = Enters read name definition m r step n s
+FollowsToken (Some named) read m r step n s = EntersAs read named m r step n s

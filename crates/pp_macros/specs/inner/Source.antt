@@ -12,7 +12,7 @@ use Rattle.pp_model.specs.Emitting.{answers_at, expansion_limit}
 use Rattle.pp_model.specs.LineValues.{IsCondition, IsLineNumber}
 use Rattle.pp_model.specs.declared.definition.Named.{Named}
 use Rattle.pp_macros.specs.Item.{Step}
-use Rattle.pp_macros.specs.inner.Defined.{Defined, meaning_of, body_tokens, IsChanged}
+use Rattle.pp_macros.specs.inner.Defined.{Defined, meaning_of, names_in, body_tokens, IsChanged}
 use Rattle.pp_macros.specs.inner.OpenBlocks.{last_block, outer_blocks, BlockChange, block_change_at}
 use Rattle.pp_macros.specs.declared.blocks.OpenBlock.{OpenBlock}
 use Rattle.pp_model.specs.Moves.{Effect, gives, gives_item, fails, ends, passes, defines, undefines, tests, decides}
@@ -52,11 +52,11 @@ pub record IsAfter (taken : ℕ) (note : Note) (still_open : List OpenBlock) (ol
   pub has_directive : new.has_directive ≡ (notes_directive note || old.has_directive)
   pub dead_for_good : new.dead_for_good ≡ old.dead_for_good
 
--- All that is known after a fault: fewer items and open blocks are left, no more names or tokens of bodies are defined,
--- and memory didn't run out.
+-- All that is known after a fault: fewer items and open blocks are left, the same names have numbers, no more tokens of
+-- bodies are defined, and memory didn't run out.
 pub record IsAfterFault (old new : Source) : Type 0 where
   pub fewer : length new.rest + length new.blocks < length old.rest + length old.blocks
-  pub names : length new.definitions ≤ length old.definitions
+  pub names : names_in new.definitions ≡ names_in old.definitions
   pub tokens : body_tokens new.definitions ≤ body_tokens old.definitions
   pub spent : new.spent ≡ false
 

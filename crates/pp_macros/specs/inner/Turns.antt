@@ -12,9 +12,9 @@ use Rattle.pp_model.specs.declared.read.Taken.{Taken as Given}
 use Rattle.pp_model.specs.declared.read.Taken.TheVariants as given
 use Rattle.pp_model.specs.declared.read.Read.{Read}
 use Rattle.pp_macros.specs.Item.{Step}
-use Rattle.pp_macros.specs.inner.Defined.{opened_by}
+use Rattle.pp_macros.specs.inner.Defined.{Macro, AreNumbered, names_in, numbered_by, opened_by}
 use Rattle.pp_macros.specs.inner.Frames.{Frame, Advance, advance, names_of, outermost_frame_line}
-use Rattle.pp_macros.specs.inner.Reader.{Reader, Reads, visible, hidden_of, shown_line}
+use Rattle.pp_macros.specs.inner.Reader.{Reader, Reads, visible, hidden_of, shown_line, definitions_of}
 use Rattle.pp_macros.specs.declared.step.StepExit.TheVariants.{Error, Continue}
 
 abbrev pub as_pause : {T : Type 0} → Option T → Step T
@@ -61,3 +61,8 @@ macro_of_value reader _ = None
 -- the macro that a token opens, if its name is defined and it isn't painted
 abbrev pub macro_of : Reader → Read → Option (Name × Definition)
 macro_of reader read = if read.painted then None else macro_of_value reader read.token.value
+
+-- the macro that a token opens, with its numbers, which are right there
+pub record Opens (reader : Reader) (read : Read) (opened : Macro) : Type 0 where
+  pub is : macro_of reader read ≡ Some (opened.name, opened.definition)
+  pub numbered : AreNumbered (names_in (definitions_of reader)) (numbered_by opened)

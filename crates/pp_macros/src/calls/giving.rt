@@ -10,7 +10,9 @@ ghost use Rattle.pp_macros.specs.inner.Giving.{TurnsFrames, passed, token_ahead}
 ghost use Rattle.pp_macros.specs.inner.Idle.{is_idle};
 ghost use Rattle.pp_macros.specs.inner.CallTurns.{TakesSomething};
 ghost use Rattle.pp_macros.specs.inner.Left.{IsSound};
-ghost use Rattle.pp_macros.specs.inner.Reader.{of_list};
+ghost use Rattle.pp_macros.specs.inner.Bodies.{noted_by};
+ghost use Rattle.pp_macros.specs.inner.Defined.{AreNumbered, names_in, numbered_by};
+ghost use Rattle.pp_macros.specs.inner.Reader.{of_list, definitions_of};
 ghost use Rattle.pp_macros.specs.inner.Turns.{macro_of, masks};
 
 use crate::define::Macro;
@@ -31,15 +33,22 @@ fn opened_by<'l, L: MeLexer>(
     ahead: &Ahead<'_>,
     painted: bool,
 ) -> Option<&'l Rc<Macro>>
-    ensures { option_map (λ m. (m.now.value.name, m.now.value.definition)) result
-        ≡ macro_of (L.reader lexer.now) (record { token = ahead.now.token; painted = painted }) }
+    requires { AreNumbered (names_in (definitions_of (L.reader lexer.now)))
+        (noted_by ahead.now.number ahead.now.read.token.value) }
+    ensures opened { option_map (λ m. (m.now.value.name, m.now.value.definition)) result
+        ≡ macro_of (L.reader lexer.now) (record { token = ahead.now.read.token; painted = painted }) }
+    ensures numbered { IfSome result (λ m.
+        AreNumbered (names_in (definitions_of (L.reader lexer.now))) (numbered_by m.now.value)) }
 {
     if painted {
         return None;
     }
     match ahead.value() {
         TokenValue::Ident(name) => {
-            let id = lexer.find_first_at(ahead.number(), name.as_str())?;
+            let id = match ahead.number() {
+                Some(id) => id,
+                None => lexer.find(name.as_str())?,
+            };
             lexer.get_define(id)
         }
         _ => None,
@@ -62,13 +71,11 @@ impl MacroProcessor {
     #[inline(always)]
     fn paints<L: MeLexer>(&self, lexer: &L, ahead: &Ahead<'_>) -> bool
         ensures { result
-            ≡ (painted_among (masks self.now.frames (L.reader lexer.now)) ahead.now).painted }
+            ≡ (painted_among (masks self.now.frames (L.reader lexer.now)) ahead.now.read).painted }
     {
         match ahead.value() {
             TokenValue::Ident(name) => {
-                ahead.is_painted()
-                    || self.is_open(name.as_str())
-                    || lexer.is_hidden(name.as_str())
+                ahead.is_painted() || self.is_open(name.as_str()) || lexer.is_hidden(name.as_str())
             }
             _ => ahead.is_painted(),
         }
@@ -77,6 +84,7 @@ impl MacroProcessor {
     // One step of the open macros, if it is a pause or opens a macro without parentheses; otherwise nothing changes.
     #[inline(always)]
     fn turn<L: MeLexer>(&mut self, lexer: &L) -> Result<Turn, AllocError>
+        requires { IsSound self.old (L.reader lexer.now) }
         ensures turns { IfOk result (λ turn. TurnsFrames (L.reader lexer.now) self.old turn self.new) }
         ensures refused { OnErr result (TakesSomething self.old (L.reader lexer.now)) }
     {
@@ -94,7 +102,7 @@ impl MacroProcessor {
         let Some(found) = opened_by(lexer, &ahead, painted) else {
             return Ok(Turn::Token { painted });
         };
-        if found.define().is_function_like() {
+        if found.is_function_like() {
             return Ok(Turn::Other);
         }
         let line = ahead.line();

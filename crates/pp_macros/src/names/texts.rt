@@ -147,14 +147,6 @@ impl Texts {
         number_of(&self.table, &self.texts, name)
     }
 
-    /// Whether there is a text with this number, and it is this one.
-    #[inline(always)]
-    pub fn has_at(&self, number: usize, name: &str) -> bool
-        ensures { IsTrue result → position (is_same_name (chars name.now)) self.now ≡ Some number }
-    {
-        number < self.texts.len() && is_text(&self.texts[number], name)
-    }
-
     /// Adds a text that isn't there, with its mark. If an allocation fails, nothing changes.
     pub fn push(&mut self, text: Rc<Text>, mark: u64) -> Result<(), AllocError>
         requires new { is_in text.value self.old ≡ false }

@@ -12,7 +12,7 @@ use Rattle.pp_model.specs.inner.Run.{after_addition}
 use Rattle.pp_model.specs.SourceReader.{SourceReader}
 use Rattle.pp_model.specs.Emitting.{expansion_limit}
 use Rattle.pp_rs.specs.Adding.{IsAdded, refused, faulty, added}
-use Rattle.pp_macros.specs.inner.Defined.{Defined, IsChanged, meaning_of}
+use Rattle.pp_macros.specs.inner.Defined.{Defined, IsChanged, meaning_of, names_in}
 use Rattle.pp_rs.specs.inner.Fit.{EndIsLast, IsFit, IsReported}
 use Rattle.pp_macros.specs.inner.Frames.{Frame, names_of}
 use Rattle.pp_macros.specs.Item.{Fault, Step}
@@ -25,6 +25,7 @@ use Rattle.pp_macros.specs.inner.Source.{Source, unreported_of}
 use Rattle.pp_macros.specs.inner.Unreported.{unreported_with}
 use Rattle.pp_rs.specs.inner.Stands.{StandsForReader, StandsForHeld, StandsFor}
 use Rattle.pp_macros.specs.declared.step.StepExit.TheVariants.{Error, Continue, Finished}
+use Rattle.pp_macros.proofs.open_frames.OpenSoundLemmas.{numbers_more}
 use Rattle.pp_rs.proofs.runs.LeftLemmas.{no_more_work}
 
 module _ (name : Name) (tokens : List Token) (old new : Source) (h : IsSetIn name tokens old new) where
@@ -94,7 +95,10 @@ module _ (name : Name) (tokens : List Token) (old new : Source) (h : IsSetIn nam
   pub fit_added : (m : kept.Expander) → IsFit m old → IsFit m new
   fit_added m fit = record {
     unspent = ap (λ (source : Source). source.spent) h.others ∙ fit.unspent;
-    sound = record { apart = fit.sound.apart; defined = above_added (names_of m.frames) fit.sound.defined };
+    sound = record {
+      names = record { apart = fit.sound.names.apart; defined = above_added (names_of m.frames) fit.sound.names.defined };
+      numbers = numbers_more (names_in old.definitions) (names_in new.definitions) m.frames h.definitions.kept fit.sound.numbers;
+    };
     last = last_added m.held m.frames fit.last;
   }
 

@@ -27,12 +27,12 @@ turn_line : (m n : Expander) (r s : Reader) (step : Step Taken) (read : Read) �
     → outermost_frame_line n.frames ≡ outermost_frame_line m.frames
 turn_line m n r s step read (passes exit step1 m1 n1 r1 s1 takes is) e free = cc
 turn_line m n r s step read (gives other step1 m1 n1 r1 s1 takes plain is) e free = token_line m n r s other takes
-turn_line m n r s step read (object other name definition step1 m1 n1 p1 r1 s1 takes opens bare is at) e free = cc
-turn_line m n r s step read (seeks other name definition (no_call next) step1 m1 n1 p1 q1 r1 s1 t1 takes opens function seeking finds) e free =
+turn_line m n r s step read (object other opened step1 m1 n1 p1 r1 s1 takes opens bare is at) e free = cc
+turn_line m n r s step read (seeks other opened (no_call next) step1 m1 n1 p1 q1 r1 s1 t1 takes opens function seeking finds) e free =
     let held : Some next ≡ None = sym (ap (λ (k : Expander). k.held) finds.1) ∙ free in cc
-turn_line m n r s step read (seeks other name definition (refused fault) step1 m1 n1 p1 q1 r1 s1 t1 takes opens function seeking finds) e free =
+turn_line m n r s step read (seeks other opened (refused fault) step1 m1 n1 p1 q1 r1 s1 t1 takes opens function seeking finds) e free =
     let f = finds.0 in cc
-turn_line m n r s step read (seeks other name definition (gathered paren g) step1 m1 n1 p1 q1 r1 s1 t1 takes opens function seeking finds) e free =
+turn_line m n r s step read (seeks other opened (gathered paren g) step1 m1 n1 p1 q1 r1 s1 t1 takes opens function seeking finds) e free =
     let f = finds.0 in cc
 
 -- the line of the call that gives the token that is ahead

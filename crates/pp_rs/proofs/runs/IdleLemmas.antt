@@ -12,7 +12,7 @@ use Rattle.pp_model.specs.Definitions.{Definition}
 use Rattle.pp_model.specs.Painting.{unpainted}
 use Rattle.pp_model.proofs.SpelledRunLemmas.{or_none}
 use Rattle.pp_macros.specs.inner.CallTurns.{TurnsTo, passes, gives, object, seeks}
-use Rattle.pp_macros.specs.inner.Defined.{meaning_of, opened_by}
+use Rattle.pp_macros.specs.inner.Defined.{Macro, meaning_of, opened_by}
 use Rattle.pp_macros.specs.inner.Frames.{Frame, new_frame}
 use Rattle.pp_macros.specs.inner.Idle.{IsHeld, HoldsWord}
 use Rattle.pp_macros.specs.Item.{Step}
@@ -22,7 +22,7 @@ use Rattle.pp_macros.specs.inner.Reader.{Reader, of_source}
 use Rattle.pp_macros.specs.inner.Reading.{painted_step}
 use Rattle.pp_macros.specs.inner.Source.{Source}
 use Rattle.pp_rs.specs.inner.SourceTurns.{StepsOver}
-use Rattle.pp_macros.specs.inner.Turns.{masks, macro_of_value}
+use Rattle.pp_macros.specs.inner.Turns.{masks, macro_of_value, Opens}
 use Rattle.pp_macros.specs.declared.calls.Taken.{Taken}
 use Rattle.pp_macros.specs.declared.calls.Taken.TheVariants as taken
 use Rattle.pp_macros.specs.declared.step.StepExit.{StepExit}
@@ -66,10 +66,10 @@ module _ (m h : Expander) (r : Reader) (s : Source) (read : Read) (takes : Steps
   returned : (step : Step Taken) (n : Expander) (t : Reader) → TurnsTo h (of_source s) step n t → TurnsTo m r step n t
   returned step n t (passes exit step1 m1 n1 r1 s1 steps is) = passes exit step m n r t (retaken (Err exit) n t steps) is
   returned step n t (gives other step1 m1 n1 r1 s1 steps none is) = gives other step m n r t (retaken (Ok other) n t steps) none is
-  returned step p t (object other name definition step1 m1 n p1 r1 s1 steps some plain is opened) =
-      object other name definition step m n p r t (retaken (Ok other) n t steps) some plain is opened
-  returned step q t (seeks other name definition c step1 m1 n p q1 r1 u t1 steps some function sought finds) =
-      seeks other name definition c step m n p q r u t (retaken (Ok other) n u steps) some function sought finds
+  returned step p t (object other opened step1 m1 n p1 r1 s1 steps some plain is at) =
+      object other opened step m n p r t (retaken (Ok other) n t steps) some plain is at
+  returned step q t (seeks other opened c step1 m1 n p q1 r1 u t1 steps some function sought finds) =
+      seeks other opened c step m n p q r u t (retaken (Ok other) n u steps) some function sought finds
 
 module _ (levels : ℕ) (r s : Source) where
   -- where no macro is open, what comes first is taken as it is
@@ -107,15 +107,15 @@ module _ (levels : ℕ) (r s : Source) where
       rw e (inl (record { taken = Ok (taken.Token read); between = idle; turns = turns; follows = (refl, refl) }))
 
   -- the name of a macro without parentheses, which opens
-  pub idle_opens : (m n : Expander) (token : Token) (name : Name) (definition : Definition) → m ≡ idle → StepsReporting r (Ok token) s
-      → is_identifier line_name token.value ≡ false → macro_of_value (of_source s) token.value ≡ Some (name, definition)
-      → definition.function_like ≡ false → n ≡ record m { frames = new_frame name token.location.line definition [] ∷ m.frames }
+  pub idle_opens : (m n : Expander) (token : Token) (opened : Macro) → m ≡ idle → StepsReporting r (Ok token) s
+      → is_identifier line_name token.value ≡ false → Opens (of_source s) (unpainted token) opened
+      → opened.definition.function_like ≡ false → n ≡ record m { frames = new_frame opened token.location.line [] ∷ m.frames }
       → StepsOver levels m r (Err Continue) n s
-  idle_opens m n token name definition e reads apart opens bare is =
-      let opened : Expander = record { held = None; frames = new_frame name token.location.line definition [] ∷ [] } in
-      let turns = object (unpainted token) name definition (Err Continue) idle idle opened (of_source r) (of_source s)
+  idle_opens m n token opened e reads apart opens bare is =
+      let after : Expander = record { held = None; frames = new_frame opened token.location.line [] ∷ [] } in
+      let turns = object (unpainted token) opened (Err Continue) idle idle after (of_source r) (of_source s)
       (takes_token token reads apart) opens bare refl refl in
-      rw (is, e) (inl (record { taken = Err Continue; between = opened; turns = turns; follows = (refl, refl) }))
+      rw (is, e) (inl (record { taken = Err Continue; between = after; turns = turns; follows = (refl, refl) }))
 
   -- a step as which the word is taken
   shown : (word : Token) (step : Step Read) → StepsReporting r (Ok word) s → step ≡ taken_as (Ok (unpainted word)) [] (of_source s)

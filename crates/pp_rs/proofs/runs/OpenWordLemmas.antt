@@ -1,16 +1,18 @@
 -- A word of plain text that names a macro without parentheses, or is no identifier, while no macro is open.
-use Rattle.std.proofs.Common.{◌≡◌, Bool, true, false, not, ℕ, [], ◌∷◌, List, refl, ap, Option, Some, None, Ok, Err}
+use Rattle.std.proofs.Common.{◌≡◌, Bool, true, false, not, ℕ, [], ◌∷◌, List, refl, ap, sym, Option, Some, None, Ok, Err}
 use Rattle.std.specs.Prelude.{unwrap_or}
 use Rattle.std.proofs.lemmas.Bool.{and_parts, not-true}
 use Rattle.pp_lexer.specs.declared.lexer.plain.Form.{Form}
 use Rattle.pp_lexer.specs.declared.lexer.plain.Form.TheVariants.{Identifier, Hash}
+use Rattle.pp_lexer.specs.declared.token.Token.{Token}
 use Rattle.pp_model.specs.Definitions.{Definition}
 use Rattle.pp_model.specs.Names.{Name, is_identifier, is_same_name, line_name}
-use Rattle.pp_macros.specs.inner.Defined.{meaning_of, opened_by}
+use Rattle.pp_macros.specs.inner.Defined.{Macro, AreNumbered, meaning_of, names_in, numbered_by, opened_by}
 use Rattle.pp_macros.specs.inner.Plain.{gives_itself}
 use Rattle.pp_macros.specs.inner.Reader.{of_source}
 use Rattle.pp_macros.specs.inner.Source.{Source}
-use Rattle.pp_macros.specs.inner.Turns.{macro_of_value}
+use Rattle.pp_macros.specs.inner.Turns.{macro_of_value, Opens}
+use Rattle.pp_model.specs.Painting.{unpainted}
 use Rattle.pp_directives.specs.WordTokens.{word_value, word_token}
 use Rattle.pp_directives.specs.inner.PlainText.{is_bare, opens_bare, IsUnknown, TakesBare}
 use Rattle.pp_lexer.specs.declared.lexer.plain_item.PlainItem.{PlainItem}
@@ -63,6 +65,15 @@ word_is_bare source Identifier w unknown = name_is_bare source w unknown
 word_is_bare source Hash w unknown = absurd unknown
 word_is_bare source _ w unknown = record { apart = refl; bare = λ name definition e. cc; itself = λ e. refl }
 
+-- a macro that is found with right numbers opens
+pub macro_opens : {source : Source} {token : Token} {opened : Macro}
+    → record {
+      opened : Some (opened.name, opened.definition) ≡ macro_of_value (of_source source) token.value;
+      numbered : AreNumbered (names_in source.definitions) (numbered_by opened);
+    }
+    → Opens (of_source source) (unpainted token) opened
+macro_opens found = record { is = sym found.opened; numbered = found.numbered }
+
 module _ (m : Expander) (r s : Source) (word : PlainItem) (idle : is_idle m ≡ true) (takes : TakesBare r word s) where
   is_bare_word : IsBareWord s word.form word.spelling.now
   is_bare_word = word_is_bare s word.form word.spelling.now takes.opens
@@ -72,8 +83,8 @@ module _ (m : Expander) (r s : Source) (word : PlainItem) (idle : is_idle m ≡ 
   bare_over none = word_over m r s (word_token word) idle takes.step (is_bare_word.itself none)
 
   -- the macro that it names opens
-  pub opens_over : (n : Expander) (name : Name) (definition : Definition) → macro_of_value (of_source s) (word_token word).value ≡ Some (name, definition)
-      → n ≡ record m { frames = new_frame name word.location.line definition [] ∷ m.frames } → StepsOver expansion_limit m r (Err Continue) n s
-  opens_over n name definition e is =
-      idle_opens expansion_limit r s m n (word_token word) name definition (is_idle-idle m idle) (takes.step.reads, takes.step.errors)
-      is_bare_word.apart e (is_bare_word.bare name definition e) is
+  pub opens_over : (n : Expander) (opened : Macro) → Opens (of_source s) (unpainted (word_token word)) opened
+      → n ≡ record m { frames = new_frame opened word.location.line [] ∷ m.frames } → StepsOver expansion_limit m r (Err Continue) n s
+  opens_over n opened e is =
+      idle_opens expansion_limit r s m n (word_token word) opened (is_idle-idle m idle) (takes.step.reads, takes.step.errors)
+      is_bare_word.apart e (is_bare_word.bare opened.name opened.definition e.is) is

@@ -5,10 +5,10 @@ use Rattle.pp_lexer.specs.declared.token.Location.{Location}
 use Rattle.pp_lexer.specs.declared.token.Token.{Token}
 use Rattle.pp_model.specs.Calls.{Fault, Gathered}
 use Rattle.pp_model.specs.Names.{Name, is_identifier, line_name}
-use Rattle.pp_model.specs.Definitions.{Definition}
 use Rattle.pp_model.specs.Taking.{line_number}
 use Rattle.pp_model.specs.declared.read.Read.{Read}
 use Rattle.pp_model.specs.declared.read.Taken.TheVariants as given
+use Rattle.pp_macros.specs.inner.Defined.{Macro}
 use Rattle.pp_macros.specs.inner.CallTurns.{Sought, no_call, refused, gathered, sought_by, Seeks, alone, called, Finds, TurnsTo, passes, gives, object, seeks, paren_of, TakesSomething}
 use Rattle.pp_rs.specs.inner.Fit.{NothingIn, IsReady, EndIsLast}
 use Rattle.pp_macros.specs.inner.Frames.{Frame, Advance, advance, outermost_frame_line}
@@ -155,15 +155,15 @@ held_last (Err Continue) m n r s ready free next = tt
 held_last (Err Finished) m n r s ready free next = next_end m n r s (Err Finished) refl ready (free_last m.held m.frames r free) next
 held_last (Err (Error fault)) m n r s ready free next = tt
 
-finds_last : (read : Read) (name : Name) (definition : Definition) (c : Sought) (step : Step Taken) (m n p : Expander) (r s : Reader) → IsReady r
-    → m.held ≡ None → Seeks m r c n s → Finds read name definition c step n p → EndIsLast p.held p.frames s
-finds_last read name definition c step m n p r s ready free (alone next m1 n1 r1 s1 c1 taken none reported is) found =
-    let found' : Finds read name definition (no_call next) step n p = subst (λ (x : Sought). Finds read name definition x step n p) is found in
+finds_last : (read : Read) (opened : Macro) (c : Sought) (step : Step Taken) (m n p : Expander) (r s : Reader) → IsReady r
+    → m.held ≡ None → Seeks m r c n s → Finds read opened c step n p → EndIsLast p.held p.frames s
+finds_last read opened c step m n p r s ready free (alone next m1 n1 r1 s1 c1 taken none reported is) found =
+    let found' : Finds read opened (no_call next) step n p = subst (λ (x : Sought). Finds read opened x step n p) is found in
     rw found'.1 (held_last next m n r s ready free taken)
-finds_last read name definition c step m n p r s ready free (called next paren m1 between n1 r1 s1 t1 g c1 taken at gathers is) found =
-    go g (gather_free 0 paren between n s1 s g gathers) (subst (λ (x : Sought). Finds read name definition x step n p) is found)
+finds_last read opened c step m n p r s ready free (called next paren m1 between n1 r1 s1 t1 g c1 taken at gathers is) found =
+    go g (gather_free 0 paren between n s1 s g gathers) (subst (λ (x : Sought). Finds read opened x step n p) is found)
   where
-    go : (g : Result Gathered Fault) → n.held ≡ None → Finds read name definition (sought_by paren g) step n p → EndIsLast p.held p.frames s
+    go : (g : Result Gathered Fault) → n.held ≡ None → Finds read opened (sought_by paren g) step n p → EndIsLast p.held p.frames s
     go (Ok g) free f = rw f.1 (free_last n.held n.frames s free)
     go (Err fault) free f = rw f.1 (free_last n.held n.frames s free)
 
@@ -172,24 +172,24 @@ pub turn_ready : (m n : Expander) (r s : Reader) (step : Step Taken) → IsReady
 turn_ready m n r s step ready (passes exit step1 m1 n1 r1 s1 steps is) reported =
     step_ready m n r s (Err exit) ready steps (exit_reported exit (rw is at reported))
 turn_ready m n r s step ready (gives read step1 m1 n1 r1 s1 steps none is) reported = step_ready m n r s (Ok read) ready steps refl
-turn_ready m p r s step ready (object read name definition step1 m1 n p1 r1 s1 steps some plain is at) reported =
+turn_ready m p r s step ready (object read opened step1 m1 n p1 r1 s1 steps some plain is at) reported =
     step_ready m n r s (Ok read) ready steps refl
-turn_ready m q r t step ready (seeks read name definition c step1 m1 n p q1 r1 s t1 steps some function sought found) reported =
+turn_ready m q r t step ready (seeks read opened c step1 m1 n p q1 r1 s t1 steps some function sought found) reported =
     seeks_ready n p s t c (step_ready m n r s (Ok read) ready steps refl) sought
 
 pub turn_last : (m n : Expander) (r s : Reader) (step : Step Taken) → IsReady r → TurnsTo m r step n s → EndIsLast n.held n.frames s
 turn_last m n r s step ready (passes exit step1 m1 n1 r1 s1 steps is) = free_last n.held n.frames s (step_free m n r s (Err exit) steps)
 turn_last m n r s step ready (gives read step1 m1 n1 r1 s1 steps none is) = free_last n.held n.frames s (step_free m n r s (Ok read) steps)
-turn_last m p r s step ready (object read name definition step1 m1 n p1 r1 s1 steps some plain is at) =
+turn_last m p r s step ready (object read opened step1 m1 n p1 r1 s1 steps some plain is at) =
     free_last p.held p.frames s (ap (λ (x : Expander). x.held) at ∙ step_free m n r s (Ok read) steps)
-turn_last m q r t step ready (seeks read name definition c step1 m1 n p q1 r1 s t1 steps some function sought found) =
-    finds_last read name definition c step n p q s t (step_ready m n r s (Ok read) ready steps refl) (step_free m n r s (Ok read) steps) sought found
+turn_last m q r t step ready (seeks read opened c step1 m1 n p q1 r1 s t1 steps some function sought found) =
+    finds_last read opened c step n p q s t (step_ready m n r s (Ok read) ready steps refl) (step_free m n r s (Ok read) steps) sought found
 
-no_end : (read : Read) (name : Name) (definition : Definition) (c : Sought) (step : Step Taken) (n p : Expander)
-    → Finds read name definition c step n p → step ≡ Err Finished → ⊥
-no_end read name definition (no_call next) step n p found e = let k = found.0 in cc
-no_end read name definition (refused fault) step n p found e = let k = found.0 in cc
-no_end read name definition (gathered paren g) step n p found e = let k = found.0 in cc
+no_end : (read : Read) (opened : Macro) (c : Sought) (step : Step Taken) (n p : Expander)
+    → Finds read opened c step n p → step ≡ Err Finished → ⊥
+no_end read opened (no_call next) step n p found e = let k = found.0 in cc
+no_end read opened (refused fault) step n p found e = let k = found.0 in cc
+no_end read opened (gathered paren g) step n p found e = let k = found.0 in cc
 
 pub turn_end : (m n : Expander) (r s : Reader) (step : Step Taken) → step ≡ Err Finished → IsReady r → EndIsLast m.held m.frames r
     → TurnsTo m r step n s → (n.held ≡ None) × (n.frames ≡ []) × NothingIn s
@@ -201,9 +201,9 @@ turn_end m n r s step e ready last (passes exit step1 m1 n1 r1 s1 steps is) =
     exit_same : (exit : StepExit) → ◌≡◌ {A = Step Taken} (Err exit) (Err Finished) → exit ≡ Finished
     exit_same exit e = cc
 turn_end m n r s step e ready last (gives read step1 m1 n1 r1 s1 steps none is) = cc
-turn_end m p r s step e ready last (object read name definition step1 m1 n p1 r1 s1 steps some plain is at) = cc
-turn_end m q r t step e ready last (seeks read name definition c step1 m1 n p q1 r1 s t1 steps some function sought found) =
-    absurd (no_end read name definition c step p q found e)
+turn_end m p r s step e ready last (object read opened step1 m1 n p1 r1 s1 steps some plain is at) = cc
+turn_end m q r t step e ready last (seeks read opened c step1 m1 n p q1 r1 s t1 steps some function sought found) =
+    absurd (no_end read opened c step p q found e)
 
 -- but for the end, something is taken
 pub turn_some : (m n : Expander) (r s : Reader) (step : Step Taken) → TurnsTo m r step n s → (step ≡ Err Finished → ⊥) → TakesSomething m r
@@ -212,7 +212,7 @@ turn_some m n r s step (passes (Error fault) step1 m1 n1 r1 s1 steps is) goes =
     record { step = Err (Error fault); after = n; reader = s; takes = steps; goes = refl }
 turn_some m n r s step (passes Finished step1 m1 n1 r1 s1 steps is) goes = absurd (goes is)
 turn_some m n r s step (gives read step1 m1 n1 r1 s1 steps none is) goes = record { step = Ok read; after = n; reader = s; takes = steps; goes = refl }
-turn_some m p r s step (object read name definition step1 m1 n p1 r1 s1 steps some plain is at) goes =
+turn_some m p r s step (object read opened step1 m1 n p1 r1 s1 steps some plain is at) goes =
     record { step = Ok read; after = n; reader = s; takes = steps; goes = refl }
-turn_some m q r t step (seeks read name definition c step1 m1 n p q1 r1 s t1 steps some function sought found) goes =
+turn_some m q r t step (seeks read opened c step1 m1 n p q1 r1 s t1 steps some function sought found) goes =
     record { step = Ok read; after = n; reader = s; takes = steps; goes = refl }

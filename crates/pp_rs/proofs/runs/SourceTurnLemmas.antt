@@ -105,12 +105,12 @@ module _ (levels : ℕ) (m : kept.Expander) (old new : Source) (fit : IsFit m ol
 
   opened_less : (levels' : ℕ) → levels' ≡ levels → (c : MacroCall) (n p : kept.Expander) → IsPending levels' m (of_source old) c n (of_source new)
       → IsOpened levels' new.definitions (names_of n.frames ++ []) c n p → IsLess levels' m (of_source old) p (of_source new)
-  opened_less zero e c n p pend o = absurd (none_at_limit c.definition (site_at c new.definitions (names_of n.frames ++ [])) o.arguments o.answers)
+  opened_less zero e c n p pend o = absurd (none_at_limit c.opened.definition (site_at c new.definitions (names_of n.frames ++ [])) o.arguments o.answers)
   opened_less (suc lower) e c n p pend o =
       let one : suc lower - 1 ≡ lower = omega arith in
       let least : All (λ (a : List Read). length a ≤ most_alone lower new.definitions (length c.tokens)) o.arguments = rw (← one) o.least in
-      let at : p ≡ record { held = None; frames = new_frame c.name c.closing.line c.definition o.arguments ∷ n.frames } = o.opens
-      ∙ ap (λ (h : Option (Step Read)). record { held = h; frames = new_frame c.name c.closing.line c.definition o.arguments ∷ n.frames }) pend.free in
+      let at : p ≡ record { held = None; frames = new_frame c.opened c.closing.line o.arguments ∷ n.frames } = o.opens
+      ∙ ap (λ (h : Option (Step Read)). record { held = h; frames = new_frame c.opened c.closing.line o.arguments ∷ n.frames }) pend.free in
       rw at (pending_opens lower m (of_source old) c n (of_source new) o.arguments pend least)
 
   call_after : (c : MacroCall) (n p : kept.Expander) (step : Step Token) → IsPending levels m (of_source old) c n (of_source new)
@@ -128,7 +128,7 @@ module _ (levels : ℕ) (m : kept.Expander) (old new : Source) (fit : IsFit m ol
       (regions_of n.frames (reads_left s)) pend.room (one_more_falls (frame_of levels r) (most_open r) level (regions_of n.frames (reads_left s)))) in
       rw same (record {
         less = λ goes. falls_work levels m n r s pend.tight falls;
-        sound = sound_rest new.definitions c.name (names_of n.frames) pend.sound;
+        sound = record { names = sound_rest new.definitions c.opened.name (names_of n.frames) pend.sound.names; numbers = pend.sound.numbers.1 };
         last = free_last n.held n pend.free;
       })
 
@@ -252,21 +252,21 @@ module _ (levels : ℕ) (m : kept.Expander) (old new : Source) (fit : IsFit m ol
   call_leads : (c : MacroCall) (n p : kept.Expander) (step : Step Token) → n.held ≡ None → LeadsBy (Ok (taken.Call c)) n
       → FollowsCall levels new.definitions c n step p → LeadsFrom (answers_at levels) e step (outermost_frame_line m.frames) p new
   call_leads c n p step free led (opened is o) =
-      let f : Expander SourceReader = record led.0 { list = macro_before c.name c.definition c.closing.line o.arguments led.0.list } in
+      let f : Expander SourceReader = record led.0 { list = macro_before c.opened.name c.opened.definition c.closing.line o.arguments led.0.list } in
       let k = led.1 in
       rw is (
         f,
         subst (λ (q : kept.Expander). StandsFor q new f) (sym o.opens)
             (record {
               held = k.holds;
-              list = ap (macro_before c.name c.definition c.closing.line o.arguments) k.list;
+              list = ap (macro_before c.opened.name c.opened.definition c.closing.line o.arguments) k.list;
               reader = held_for n.held new led.0.reader k.reader;
               hidden = k.names;
             }),
-        led.3 o.arguments (subst (λ (x : Site). answers_at levels c.definition x (Ok o.arguments)) (sym (site_same c n new led.0 k free)) o.answers),
+        led.3 o.arguments (subst (λ (x : Site). answers_at levels c.opened.definition x (Ok o.arguments)) (sym (site_same c n new led.0 k free)) o.answers),
       )
   call_leads c n p step free led (refused fault is answers same) =
-      let emitted = led.2 fault (subst (λ (x : Site). answers_at levels c.definition x (Err fault)) (sym (site_same c n new led.0 led.1 free)) answers) in
+      let emitted = led.2 fault (subst (λ (x : Site). answers_at levels c.opened.definition x (Err fault)) (sym (site_same c n new led.0 led.1 free)) answers) in
       rw (is, same) (led.0, item (given.Fault fault) led.0 emitted.0, free_line n.held n.frames free led.0.list led.1.list ∙ sym emitted.1)
 
   follows_lead : (step : Step Token) (n p : kept.Expander) (t : Step Taken) → TurnsTo m (of_source old) t n (of_source new) → LeadsBy t n

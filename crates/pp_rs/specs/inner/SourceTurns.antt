@@ -25,7 +25,7 @@ pub data FollowsCall (levels : ℕ) (definitions : List Defined) (call : MacroCa
       → FollowsCall levels definitions call old step new
   refused : (fault : Fault)
       → step ≡ Err (Error fault)
-      → answers_at levels call.definition (site_at call definitions (names_of old.frames ++ [])) (Err fault)
+      → answers_at levels call.opened.definition (site_at call definitions (names_of old.frames ++ [])) (Err fault)
       → new ≡ old
       → FollowsCall levels definitions call old step new
 

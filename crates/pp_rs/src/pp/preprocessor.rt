@@ -104,7 +104,7 @@ fn open_shared(
     line: u32,
 ) -> Result<(), AllocError>
     ensures { OnOk result (expander.new ≡ record expander.old {
-      frames = new_frame found.now.value.name line found.now.value.definition [] ∷ expander.old.frames;
+      frames = new_frame found.now.value line [] ∷ expander.old.frames;
     }) }
 {
     let opened = found.clone()?;

@@ -238,9 +238,9 @@ expand_call-returns t c =
     let left : c.take_tokens.new.self ≡ record c.args.call.now { tokens = [] } = c.take_tokens.ensures.left in
     let cut : c.in_ok-arguments.arguments ≡ arguments_of c.args.call.now.tokens =
     c.in_ok-arguments.ensures ∙ ap arguments_of c.take_tokens.ensures.taken in
-    let fits : misfit c.args.call.now.definition.parameters (arguments_of c.args.call.now.tokens) ≡ None =
-    let known : misfit c.define.result.now.parameters c.in_ok-arguments.arguments ≡ None = sym c.misfit.ensures ∙ c.in-None.is in
-    rw (c.define.ensures, left, cut) at known in
+    let fits : misfit c.args.call.now.opened.definition.parameters (arguments_of c.args.call.now.tokens) ≡ None =
+    let known : misfit c.parameters.result.now c.in_ok-arguments.arguments ≡ None = sym c.misfit.ensures ∙ c.in-None.is in
+    rw (c.parameters.ensures, left, cut) at known in
     let some : c.args.levels ≢ 0 = λ e. omega (arith, e, c.if-levels-eq0.false) in
     let around = names_of c.args.expander.now.frames ++ c.args.hidden.now in
     record {

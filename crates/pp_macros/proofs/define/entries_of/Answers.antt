@@ -27,6 +27,7 @@ loop-token-preserved c =
           ∙ ap (λ (tokens : List Token). tokens ++ rest) (sym c.in-Some.ensures.items) ∙ c.loop-token.invariant.body);
       entries = rw (put, reverse_push c.loop-token.entries.items c.entry_before.result)
           (c.entry_before.ensures.entry rest seen ordinary, c.loop-token.invariant.entries);
+      bare = rw (put, reverse_push c.loop-token.entries.items c.entry_before.result, c.entry_before.ensures.bare) c.loop-token.invariant.bare;
       seen = rw (written, put, reverse_push c.loop-token.entries.items c.entry_before.result, c.entry_before.ensures.token)
           (c.entry_before.ensures.seen rest seen);
       as_parameters = rw written (omega arith);

@@ -3,8 +3,8 @@ use Rattle.pp_macros.specs.inner.Defined.{names_in}
 use Rattle.pp_macros.proofs.defined_names.ReaderNamesLemmas.{reserved_number}
 use Rattle.pp_macros.proofs.list_lexer.ListLexerMeLexer.get_define.Goals as goal
 
-pub returns-in-Some : goal.returns-in-Some
-returns-in-Some c = λ name at.
+pub returns-in-Some-clause-opened : goal.returns-in-Some-clause-opened
+returns-in-Some-clause-opened c = λ name at.
     let l = c.self.inside in
     let same : c.in-Some.reserved ≡ c.args.id = grind (arith, tests) in
     let numbered = rw (← c.self.view_is) at at in

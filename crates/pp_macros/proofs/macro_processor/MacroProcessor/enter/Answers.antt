@@ -5,11 +5,11 @@ use Rattle.pp_macros.proofs.macro_processor.MacroProcessor.enter.Goals as goal
 
 pub returns-then-is_function_like-clause-follows : goal.returns-then-is_function_like-clause-follows
 returns-then-is_function_like-clause-follows g c =
-    follows_called _ c.args.read _ _ _ _ _ _ _ _ c.requires.opens
-    (taken_whole c.args.read c.in-Ident.name (opening_bare _ c.args.read _ c.requires.opens) c.in-Ident.is) c.enter_call.ensures.enters
+    follows_called c.args.read _ _ _ _ _ _ _ c.requires.opens
+    (taken_whole c.args.read c.in-Ident.name (opening_bare _ c.args.read _ c.requires.opens.is) c.in-Ident.is) c.enter_call.ensures.enters
 
 pub returns-else-is_function_like-clause-follows : goal.returns-else-is_function_like-clause-follows
 returns-else-is_function_like-clause-follows g c =
-    follows_plain _ c.args.read _ _ _ _ _ _ c.requires.opens
-    (ap (λ d. d.function_like) (sym (c.define.ensures ∙ ap (λ (m : Macro). m.definition) c.deref.ensures)) ∙ sym c.is_function_like.ensures
-    ∙ c.if-is_function_like.false) c.open_plain.ensures.opens
+    follows_plain c.args.read _ _ _ _ _ c.requires.opens
+    (ap (λ (m : Macro). m.definition.function_like) (sym c.deref.ensures) ∙ sym c.is_function_like.ensures ∙ c.if-is_function_like.false)
+    c.open_plain.ensures.opens

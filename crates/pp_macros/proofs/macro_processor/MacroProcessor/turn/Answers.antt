@@ -9,6 +9,10 @@ use Rattle.pp_macros.proofs.taking.FrameTurnLemmas.{refused_there, frame_pauses,
 use Rattle.pp_macros.proofs.taking.ExpanderLemmas.{none_held}
 use Rattle.pp_macros.proofs.macro_processor.MacroProcessor.turn.Goals as goal
 
+-- the number of the token ahead is right
+pub opened_by-requires : goal.opened_by-requires
+opened_by-requires g c = c.in-Some.ensures.number _ c.requires.numbers
+
 -- a pause
 pub returns-in_default-clause-turns : goal.returns-in_default-clause-turns
 returns-in_default-clause-turns g c =
@@ -21,13 +25,13 @@ returns-in_default-clause-turns g c =
 pub returns-in_default-opened_by-clause-turns : goal.returns-in_default-opened_by-clause-turns
 returns-in_default-opened_by-clause-turns g c = (
   refl,
-  c.in-Some.ahead.token,
+  c.in-Some.ahead.read.token,
   frame_gives c.args.self.now (g.L.MeLexer.reader c.args.lexer.now)
       (none_held c.args.self.now.held (sym c.is_holding.ensures ∙ c.if-is_holding.false)) (sym c.has_frames.ensures ∙ c.if-not-has_frames.false)
-      c.in-Some.ahead c.in-Some.ensures.ahead
+      c.in-Some.ahead.read c.in-Some.ensures.ahead
       (ap (is_identifier line_name) (sym c.value.ensures) ∙ sym c.is_line_name.ensures ∙ c.if-is_line_name.false) c.paints-painted.result
       c.paints-painted.ensures
-      c.in-Some.ensures.holds (sym (c.in_default-opened_by.ensures {u = tt})),
+      c.in-Some.ensures.holds (sym (c.in_default-opened_by.ensures {u = tt}).opened),
 )
 
 -- a name whose macro can't be shared, or not be opened
@@ -35,7 +39,7 @@ pub returns-in_err-opened-clause-refused : goal.returns-in_err-opened-clause-ref
 returns-in_err-opened-clause-refused g c = refused_there c.from_residual.result
     (frame_takes_some c.args.self.now (g.L.MeLexer.reader c.args.lexer.now)
     (none_held c.args.self.now.held (sym c.is_holding.ensures ∙ c.if-is_holding.false)) (sym c.has_frames.ensures ∙ c.if-not-has_frames.false)
-    c.in-Some.ahead c.in-Some.ensures.ahead
+    c.in-Some.ahead.read c.in-Some.ensures.ahead
     (ap (is_identifier line_name) (sym c.value.ensures) ∙ sym c.is_line_name.ensures ∙ c.if-is_line_name.false) c.paints-painted.result
     c.paints-painted.ensures)
 
@@ -43,19 +47,18 @@ pub returns-in_err-open_bare-clause-refused : goal.returns-in_err-open_bare-clau
 returns-in_err-open_bare-clause-refused g c = refused_there c.from_residual-in_err-open_bare.result
     (frame_takes_some c.args.self.now (g.L.MeLexer.reader c.args.lexer.now)
     (none_held c.args.self.now.held (sym c.is_holding.ensures ∙ c.if-is_holding.false)) (sym c.has_frames.ensures ∙ c.if-not-has_frames.false)
-    c.in-Some.ahead c.in-Some.ensures.ahead
+    c.in-Some.ahead.read c.in-Some.ensures.ahead
     (ap (is_identifier line_name) (sym c.value.ensures) ∙ sym c.is_line_name.ensures ∙ c.if-is_line_name.false) c.paints-painted.result
     c.paints-painted.ensures)
 
 -- a name whose macro opens
 pub returns-clause-turns : goal.returns-clause-turns
 returns-clause-turns g c =
-    let bare = ap (λ d. d.function_like) (sym (c.define.ensures ∙ ap (λ (m : Macro). m.definition) c.deref.ensures)) ∙ sym c.is_function_like.ensures
-    ∙ c.if-is_function_like.false in
+    let bare = ap (λ (m : Macro). m.definition.function_like) (sym c.deref.ensures) ∙ sym c.is_function_like.ensures ∙ c.if-is_function_like.false in
+    let opened = rw c.in-Some-opened_by.is at c.opened_by.ensures in
     rw (c.in_ok-open_bare.ensures {u = tt}, c.pass_token.ensures, c.line-line.ensures, (c.in_ok-opened.ensures {u = tt}).cases)
     (frame_opens c.args.self.now (g.L.MeLexer.reader c.args.lexer.now)
     (none_held c.args.self.now.held (sym c.is_holding.ensures ∙ c.if-is_holding.false)) (sym c.has_frames.ensures ∙ c.if-not-has_frames.false)
-    c.in-Some.ahead c.in-Some.ensures.ahead
+    c.in-Some.ahead.read c.in-Some.ensures.ahead
     (ap (is_identifier line_name) (sym c.value.ensures) ∙ sym c.is_line_name.ensures ∙ c.if-is_line_name.false) c.paints-painted.result
-    c.paints-painted.ensures _ _
-    (sym (rw c.in-Some-opened_by.is at c.opened_by.ensures)) bare)
+    c.paints-painted.ensures _ (record { is = sym opened.opened; numbered = opened.numbered }) bare)

@@ -3,7 +3,7 @@ use Rattle.pp_directives.specs.WordTokens.{word_token}
 use Rattle.pp_rs.specs.Kept.{is_spent}
 use Rattle.pp_rs.proofs.runs.CallLineLemmas.{line_outside}
 use Rattle.pp_rs.proofs.runs.NextLemmas.{reached_first, reached_more, token_fits, next_token, some_items}
-use Rattle.pp_rs.proofs.runs.OpenWordLemmas.{bare_over, opens_over}
+use Rattle.pp_rs.proofs.runs.OpenWordLemmas.{bare_over, macro_opens, opens_over}
 use Rattle.pp_rs.proofs.runs.PassedLemmas.{passed_nothing, passed_pauses, idle_line}
 use Rattle.pp_rs.proofs.pp.preprocessor.Preprocessor.open_word.Goals as goal
 
@@ -15,7 +15,7 @@ invariant_of-self-in_default-macro_of_word c = (
       let takes = rw c.in-Some.is at c.next_bare.ensures in
       token_fits _ _ _ _ _ _ first (word_token c.in-Some.word)
       (bare_over _ _ _ c.in-Some.word (sym c.is_idle.ensures ∙ c.if-not-is_idle.false) takes
-      (sym (rw c.in_default-macro_of_word.is at c.macro_of_word.ensures))),
+      (sym (rw c.in_default-macro_of_word.is at c.macro_of_word.ensures).opened)),
   λ h. cc,
 )
 
@@ -29,7 +29,7 @@ returns-in_default-macro_of_word-clause-gives c =
           c.self.inside.name_line c.if-self.false (ap (λ p. p.place) c.self.view_is)
           (idle_line c.self.inside.expander _ _ (sym c.is_idle.ensures ∙ c.if-not-is_idle.false))
           (bare_over _ _ _ c.in-Some.word (sym c.is_idle.ensures ∙ c.if-not-is_idle.false) takes
-          (sym (rw c.in_default-macro_of_word.is at c.macro_of_word.ensures))) takes.holds;
+          (sym (rw c.in_default-macro_of_word.is at c.macro_of_word.ensures).opened)) takes.holds;
       line = line_outside _ (sym c.is_idle.ensures ∙ c.if-not-is_idle.false);
       plain = record { no_hash = takes.no_hash; ascii = takes.ascii };
     }
@@ -41,8 +41,8 @@ invariant_of-self-in-Ok c = (
       let first = reached_first _ _ _ _ (ap (λ p. p.expander) c.self.view_is) (ap (λ p. p.source) c.self.view_is) (c.self.invariant.0 c.if-self.false) in
       let takes = rw c.in-Some.is at c.next_bare.ensures in
       let on = reached_more _ _ _ _ _ _ first
-      (opens_over _ _ _ c.in-Some.word (sym c.is_idle.ensures ∙ c.if-not-is_idle.false) takes c.open_shared.new.expander _ _
-      (sym (rw c.in-Some-macro_of_word.is at c.macro_of_word.ensures)) (rw c.in-Ok.is at c.open_shared.ensures)) in
+      (opens_over _ _ _ c.in-Some.word (sym c.is_idle.ensures ∙ c.if-not-is_idle.false) takes c.open_shared.new.expander _
+      (macro_opens (rw c.in-Some-macro_of_word.is at c.macro_of_word.ensures)) (rw c.in-Ok.is at c.open_shared.ensures)) in
       (on.fit, on.reported),
   λ h. cc,
 )
@@ -52,8 +52,8 @@ returns-in-Ok-clause-gives c =
     let first = reached_first _ _ _ _ (ap (λ p. p.expander) c.self.view_is) (ap (λ p. p.source) c.self.view_is) (c.self.invariant.0 c.if-self.false) in
     let takes = rw c.in-Some.is at c.next_bare.ensures in
     let on = reached_more _ _ _ _ _ _ first
-    (opens_over _ _ _ c.in-Some.word (sym c.is_idle.ensures ∙ c.if-not-is_idle.false) takes c.open_shared.new.expander _ _
-    (sym (rw c.in-Some-macro_of_word.is at c.macro_of_word.ensures)) (rw c.in-Ok.is at c.open_shared.ensures)) in
+    (opens_over _ _ _ c.in-Some.word (sym c.is_idle.ensures ∙ c.if-not-is_idle.false) takes c.open_shared.new.expander _
+    (macro_opens (rw c.in-Some-macro_of_word.is at c.macro_of_word.ensures)) (rw c.in-Ok.is at c.open_shared.ensures)) in
     passed_pauses c.args.self.now _ _ _ _ _ on (ap (λ p. p.spent) (sym c.self.view_is) ∙ c.if-self.false) c.if-self.false
     (ap (λ p. p.place) c.self.view_is)
 
@@ -68,8 +68,8 @@ returns-in-Err-clause-some_left c =
     let first = reached_first _ _ _ _ (ap (λ p. p.expander) c.self.view_is) (ap (λ p. p.source) c.self.view_is) (c.self.invariant.0 c.if-self.false) in
     let takes = rw c.in-Some.is at c.next_bare.ensures in
     some_items _ _ _ _ _ _ first c.args.self.now (ap (λ p. p.spent) (sym c.self.view_is) ∙ c.if-self.false) refl refl
-    (opens_over _ _ _ c.in-Some.word (sym c.is_idle.ensures ∙ c.if-not-is_idle.false) takes _ _ _
-    (sym (rw c.in-Some-macro_of_word.is at c.macro_of_word.ensures)) refl)
+    (opens_over _ _ _ c.in-Some.word (sym c.is_idle.ensures ∙ c.if-not-is_idle.false) takes _ _
+    (macro_opens (rw c.in-Some-macro_of_word.is at c.macro_of_word.ensures)) refl)
 
 pub returns-then-self-clause-gives : goal.returns-then-self-clause-gives
 returns-then-self-clause-gives c = rw (← c.self.view_is) (passed_nothing _)
