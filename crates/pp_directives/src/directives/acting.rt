@@ -1,0 +1,316 @@
+//! What the lines of directives do, in live and in dead text.
+
+ghost use Rattle.std.specs.Prelude.{◌≡◌, ◌≢◌, [], drop, false, true, IfOk, IfSome, pos, ◌-ℤ◌};
+ghost use Rattle.pp_model.specs.Lines.{only_name, line_tokens, comments_before_end, first_token};
+ghost use Rattle.pp_model.specs.Blocks.{part_of};
+ghost use Rattle.pp_model.specs.declared.directive.Directive.TheVariants as d;
+ghost use Rattle.pp_macros.specs.Held.{HoldsOrdinary};
+ghost use Rattle.pp_directives.specs.inner.ReadNames.{as_named};
+ghost use Rattle.pp_macros.specs.inner.OpenBlocks.{facts_among, unchanged, block_change};
+ghost use Rattle.pp_macros.specs.inner.Source.{unreported_of};
+ghost use Rattle.pp_directives.specs.inner.LineEntries.{entries_move};
+ghost use Rattle.pp_directives.specs.inner.SourceActs.{Acts, GivesDirective, ActsAsItem, ActsNoted, Gives, GivesNoted};
+ghost use Rattle.pp_directives.specs.inner.SourceActs.{without_item, word_change, word_move, word_note, define_move};
+ghost use Rattle.pp_model.specs.Moves as moves;
+ghost use Rattle.pp_macros.specs.inner.Unreported.{Unreported, Reports};
+
+use crate::directives::DirectiveProcessor;
+use crate::line_value::line_number;
+use crate::lines::{
+    DefineLine, define_line, ended_line, first_name, first_token, line_reads, line_tokens,
+    only_name, skip_line,
+};
+use pp_lexer::lexer;
+use pp_lexer::token::{Extension, Location, Pragma, PreprocessorError, Token, TokenValue, Version};
+use pp_macros::halt::Halt;
+use pp_model::conversion::refused_token;
+use pp_model::directive::{Directive, directive_of};
+
+// Whether the directive is an item in live text.
+fn is_item(directive: Directive) -> bool {
+    matches!(
+        directive,
+        Directive::Version | Directive::Extension | Directive::Pragma
+    )
+}
+
+// The result of a directive that gives nothing, as that of one that may give an item.
+fn without_item(acted: Result<(), Halt>) -> Result<Option<Token>, Halt>
+    ensures is { result ≡ without_item acted }
+    ensures holds { IfOk result (λ given. IfSome given (λ token. HoldsOrdinary token.value)) }
+    ensures errors { (before after : Unreported) → Reports acted before after
+        → Reports result before after }
+{
+    acted?;
+    Ok(None)
+}
+
+impl<'a> DirectiveProcessor<'a> {
+    // Defines a name as its line says. If the name has the same definition already, the old one stays.
+    fn add(&mut self, line: DefineLine) -> Result<(), Halt>
+        requires { self.old.spent ≡ false }
+        ensures acts { Acts unchanged (define_move (as_named line)) self.old result self.new }
+        ensures errors { Reports result (unreported_of self.old) (unreported_of self.new) }
+    {
+        if let Some(before) = self.definitions.get(line.name.as_str()) {
+            let is_same = before.is_same(&line.define);
+            let location = line.location;
+            drop(line);
+            if is_same {
+                return Ok(());
+            }
+            return Err(Halt::Fault((PreprocessorError::DefineRedefined, location)));
+        }
+        self.definitions.set(line.name, line.define)?;
+        Ok(())
+    }
+
+    // Acts on a `#define` line, after its word.
+    fn define(&mut self, word: Location) -> Result<(), Halt>
+        requires { self.old.spent ≡ false }
+        ensures acts { Acts unchanged (moves.directive_move true
+            (facts_among self.old.blocks) d.Define word self.old.rest) self.old result self.new }
+        ensures errors { Reports result (unreported_of self.old) (unreported_of self.new) }
+    {
+        let line = define_line(self.alloc, word, &mut self.lexer)?;
+        self.add(line)
+    }
+
+    // Acts on an `#undef` line, after its word. A name that is followed by more tokens is undefined too.
+    fn undef(&mut self, word: Location) -> Result<(), Halt>
+        requires { self.old.spent ≡ false }
+        ensures acts { Acts unchanged (moves.line_move (only_name word self.old.rest)
+            moves.undefines self.old.rest) self.old result self.new }
+        ensures errors { Reports result (unreported_of self.old) (unreported_of self.new) }
+    {
+        let first = first_name(word, &mut self.lexer)?;
+        self.definitions.remove(first.name.as_str());
+        drop(first);
+        ended_line(word, &mut self.lexer)
+    }
+
+    // Shows the line as this number from now on, and the lines after it accordingly.
+    fn count_from(&mut self, line: u32, number: u32)
+        ensures { self.new ≡ record self.old { line_offset = pos number -ℤ pos line } }
+    {
+        self.line_offset = i64::from(number) - i64::from(line);
+    }
+
+    // Acts on a `#line` line, after its word: the next lines are numbered from its first number, also if only what
+    // follows that number has a fault.
+    fn number_lines(&mut self, word: Location) -> Result<(), Halt>
+        requires { self.old.spent ≡ false }
+        ensures acts { Acts unchanged (moves.line_move (line_tokens self.old.rest)
+            (moves.renumbers word) self.old.rest) self.old result self.new }
+        ensures errors { Reports result (unreported_of self.old) (unreported_of self.new) }
+    {
+        let tokens = line_reads(self.alloc, &mut self.lexer)?;
+        match line_number(self.alloc, word, tokens, &self.definitions) {
+            Ok(number) => {
+                self.count_from(word.line, number);
+                Ok(())
+            }
+            Err(unnumbered) => match unnumbered.number {
+                Some(number) => {
+                    self.count_from(word.line, number);
+                    Err(unnumbered.halt)
+                }
+                None => Err(unnumbered.halt),
+            },
+        }
+    }
+
+    // Skips the line.
+    fn skip(&mut self) -> Result<(), Halt>
+        requires { self.old.spent ≡ false }
+        ensures acts { Acts unchanged (moves.skip_move self.old.rest) self.old result self.new }
+        ensures errors { Reports result (unreported_of self.old) (unreported_of self.new) }
+    {
+        skip_line(&mut self.lexer)
+    }
+
+    // A `#version` line as an item.
+    fn version(&mut self, word: Location) -> Result<Token, Halt>
+        requires unspent { self.old.spent ≡ false }
+        requires left { self.old.rest ≢ [] }
+        ensures acts { ActsAsItem
+            (entries_move (moves.version_item (comments_before_end self.old.rest)) word self.old.rest)
+            self.old result self.new }
+        ensures holds { IfOk result (λ token. HoldsOrdinary token.value) }
+        ensures errors { Reports result (unreported_of self.old) (unreported_of self.new) }
+    {
+        let tokens = line_tokens(self.alloc, &mut self.lexer)?;
+        let value = TokenValue::Version(Version {
+            tokens,
+            is_first_directive: !(self.has_directive || self.has_text),
+            has_comments_before: self.lexer.had_comments(),
+        });
+        Ok(Token {
+            value,
+            location: word,
+        })
+    }
+
+    // An `#extension` line as an item.
+    fn extension(&mut self, word: Location) -> Result<Token, Halt>
+        requires unspent { self.old.spent ≡ false }
+        requires left { self.old.rest ≢ [] }
+        ensures acts { ActsAsItem
+            (entries_move moves.extension_item word self.old.rest) self.old result self.new }
+        ensures holds { IfOk result (λ token. HoldsOrdinary token.value) }
+        ensures errors { Reports result (unreported_of self.old) (unreported_of self.new) }
+    {
+        let tokens = line_tokens(self.alloc, &mut self.lexer)?;
+        let value = TokenValue::Extension(Extension {
+            tokens,
+            has_non_directive_before: self.has_text,
+        });
+        Ok(Token {
+            value,
+            location: word,
+        })
+    }
+
+    // A `#pragma` line as an item.
+    fn pragma(&mut self, word: Location) -> Result<Token, Halt>
+        requires unspent { self.old.spent ≡ false }
+        requires left { self.old.rest ≢ [] }
+        ensures acts { ActsAsItem
+            (entries_move moves.pragma_item word self.old.rest) self.old result self.new }
+        ensures holds { IfOk result (λ token. HoldsOrdinary token.value) }
+        ensures errors { Reports result (unreported_of self.old) (unreported_of self.new) }
+    {
+        let tokens = line_tokens(self.alloc, &mut self.lexer)?;
+        Ok(Token {
+            value: TokenValue::Pragma(Pragma { tokens }),
+            location: word,
+        })
+    }
+
+    // Acts on a directive in live text, after its word, and gives its item, if it is one.
+    fn act_live(&mut self, directive: Directive, word: Location) -> Result<Option<Token>, Halt>
+        requires unspent { self.old.spent ≡ false }
+        requires left { self.old.rest ≢ [] }
+        ensures gives { Gives (block_change (part_of directive) word) (moves.directive_move true
+            (facts_among self.old.blocks) directive word self.old.rest) self.old result self.new }
+        ensures holds { IfOk result (λ given. IfSome given (λ token. HoldsOrdinary token.value)) }
+        ensures errors { Reports result (unreported_of self.old) (unreported_of self.new) }
+    {
+        match directive {
+            Directive::Define => without_item(self.define(word)),
+            Directive::Undef => without_item(self.undef(word)),
+            Directive::If => without_item(self.open_if(word)),
+            Directive::Ifdef => without_item(self.open_where(true, word)),
+            Directive::Ifndef => without_item(self.open_where(false, word)),
+            Directive::Elif => without_item(self.elif_line(word)),
+            Directive::Else => without_item(self.else_line(word)),
+            Directive::Endif => without_item(self.endif_line(word)),
+            Directive::Line => without_item(self.number_lines(word)),
+            Directive::Error => Err(Halt::Fault((PreprocessorError::ErrorDirective, word))),
+            Directive::Version => Ok(Some(self.version(word)?)),
+            Directive::Extension => Ok(Some(self.extension(word)?)),
+            Directive::Pragma => Ok(Some(self.pragma(word)?)),
+            Directive::Unknown => Err(Halt::Fault((PreprocessorError::UnknownDirective, word))),
+        }
+    }
+
+    // Acts on a directive in dead text, after its word.
+    fn act_dead(&mut self, directive: Directive, word: Location) -> Result<(), Halt>
+        requires { self.old.spent ≡ false }
+        ensures acts { Acts (block_change (part_of directive) word) (moves.directive_move false
+            (facts_among self.old.blocks) directive word self.old.rest) self.old result self.new }
+        ensures errors { Reports result (unreported_of self.old) (unreported_of self.new) }
+    {
+        match directive {
+            Directive::If | Directive::Ifdef | Directive::Ifndef => self.open_unread(word),
+            Directive::Elif => self.elif_line(word),
+            Directive::Else => self.else_line(word),
+            Directive::Endif => self.endif_line(word),
+            Directive::Unknown => Ok(()),
+            Directive::Define
+            | Directive::Undef
+            | Directive::Line
+            | Directive::Error
+            | Directive::Version
+            | Directive::Extension
+            | Directive::Pragma => self.skip(),
+        }
+    }
+
+    // The item that a directive gives in live text, if it gives one, after its number sign. A number sign alone on its
+    // line gives nothing. A line that would be an item counts as a directive even if it has a fault.
+    fn read_live(&mut self, hash: Location) -> Result<Option<Token>, Halt>
+        requires { self.old.spent ≡ false }
+        ensures gives { GivesNoted (word_note true (first_token hash self.old.rest))
+            (word_change (first_token hash self.old.rest))
+            (word_move true (facts_among self.old.blocks) (first_token hash self.old.rest)
+            (drop 1 self.old.rest)) self.old result self.new }
+        ensures holds { IfOk result (λ given. IfSome given (λ token. HoldsOrdinary token.value)) }
+        ensures errors { Reports result (unreported_of self.old) (unreported_of self.new) }
+    {
+        let token = first_token(hash, &mut self.lexer)?;
+        let word = token.location;
+        match token.value {
+            lexer::TokenValue::Ident(name) => {
+                let directive = directive_of(&name);
+                drop(name);
+                match self.act_live(directive, word) {
+                    Ok(given) => {
+                        self.has_directive = true;
+                        Ok(given)
+                    }
+                    Err(halt) => {
+                        self.has_directive |= is_item(directive);
+                        Err(halt)
+                    }
+                }
+            }
+            lexer::TokenValue::NewLine => {
+                self.has_directive = true;
+                Ok(None)
+            }
+            _ => Err(Halt::Fault(refused_token(token))),
+        }
+    }
+
+    // Acts on a directive in dead text, after its number sign. Without a word after the number sign it does nothing.
+    fn read_dead(&mut self, hash: Location) -> Result<(), Halt>
+        requires { self.old.spent ≡ false }
+        ensures acts { ActsNoted (word_note false (first_token hash self.old.rest))
+            (word_change (first_token hash self.old.rest))
+            (word_move false (facts_among self.old.blocks) (first_token hash self.old.rest)
+            (drop 1 self.old.rest)) self.old result self.new }
+        ensures errors { Reports result (unreported_of self.old) (unreported_of self.new) }
+    {
+        let token = first_token(hash, &mut self.lexer)?;
+        let word = token.location;
+        match token.value {
+            lexer::TokenValue::Ident(name) => {
+                let directive = directive_of(&name);
+                drop(name);
+                self.act_dead(directive, word)?;
+                self.has_directive = true;
+                Ok(())
+            }
+            lexer::TokenValue::NewLine => {
+                self.has_directive = true;
+                Ok(())
+            }
+            _ => Ok(()),
+        }
+    }
+
+    // The item that a directive gives, if it gives one, after its number sign.
+    pub(crate) fn read_directive(&mut self, hash: Location) -> Result<Option<Token>, Halt>
+        requires { self.old.spent ≡ false }
+        ensures gives { GivesDirective hash self.old result self.new }
+        ensures holds { IfOk result (λ given. IfSome given (λ token. HoldsOrdinary token.value)) }
+        ensures errors { Reports result (unreported_of self.old) (unreported_of self.new) }
+    {
+        if self.is_live() {
+            return self.read_live(hash);
+        }
+        self.read_dead(hash)?;
+        Ok(None)
+    }
+}
