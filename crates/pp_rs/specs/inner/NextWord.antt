@@ -6,6 +6,7 @@ use Rattle.pp_lexer.specs.declared.lexer.plain_item.PlainItem.{PlainItem}
 use Rattle.pp_lexer.specs.declared.token.Token.{Token}
 use Rattle.pp_model.specs.declared.outcome.Outcome.{Outcome}
 use Rattle.pp_directives.specs.WordTokens.{word_token}
+use Rattle.pp_macros.specs.Item.{Item}
 use Rattle.pp_model.specs.CallLine.{item_line}
 use Rattle.pp_rs.specs.Comes.{State, Comes}
 use Rattle.pp_rs.specs.Kept.{Preprocessing, Stands, IsAhead, is_spent, most_items, errors_left, error_place, call_line}
@@ -46,3 +47,7 @@ IsNextWord old answer new = MatchOption answer (IsPassed old new) (λ word. IsWo
 -- an open macro gives a token next
 abbrev pub SomeAhead : Preprocessing → Type 0
 SomeAhead p = (token : Token) × IsAhead p token
+
+-- one call of `next_given`
+abbrev pub IsNextGiven : Preprocessing → Option Item → Preprocessing → Type 0
+IsNextGiven old given new = MatchOption given (IsPassed old new) (λ item. IsNextItem old (Some item) new)

@@ -15,7 +15,7 @@ ghost use Rattle.pp_macros.specs.inner.Frames.{new_frame};
 ghost use Rattle.pp_rs.specs.Kept.{Stands, IsAhead, is_spent, most_items, errors_left, error_place, call_line};
 ghost use Rattle.pp_macros.specs.LexerErrors.{lexer_errors};
 ghost use Rattle.pp_directives.specs.WordTokens.{word_token};
-ghost use Rattle.pp_rs.specs.inner.NextWord.{IsNextWord, IsPassed, IsPlain, SomeAhead};
+ghost use Rattle.pp_rs.specs.inner.NextWord.{IsNextGiven, IsNextWord, IsPassed, IsPlain, SomeAhead};
 ghost use Rattle.pp_rs.specs.Preprocessing.{IsNextItem};
 
 use crate::lexer::PlainItem;
@@ -286,6 +286,44 @@ impl<'a> Preprocessor<'a> {
         }
     }
 
+    // Does what `next` does, if the open macros give the next item from their lists. Otherwise returns `None`, after what
+    // `advance` passes.
+    #[inline(always)]
+    fn next_given(&mut self) -> Option<PreprocessorItem>
+        requires { is_spent self.old ≡ false }
+        ensures { IsNextGiven self.old result self.new }
+    {
+        self.in_text = false;
+        match self.expander.give_next(&self.source) {
+            Ok(Some(token)) => Some(Ok(token)),
+            Ok(None) => None,
+            Err(_) => {
+                self.spent = true;
+                Some(Err(out_of_memory()))
+            }
+        }
+    }
+
+    // Does what `next_item` does. That is too large to be built in where `give_tokens` is called too. So a token of an
+    // open macro is asked for first, and what `next_item` returns is taken apart, so that no other item is kept in memory
+    // with it.
+    #[inline(always)]
+    fn next_given_or_item(&mut self) -> Option<PreprocessorItem>
+        ensures { IsNextItem self.old result self.new }
+    {
+        if self.spent {
+            return None;
+        }
+        if let Some(item) = self.next_given() {
+            return Some(item);
+        }
+        match self.next_item() {
+            Some(Ok(token)) => Some(Ok(token)),
+            Some(Err(error)) => Some(Err(error)),
+            None => None,
+        }
+    }
+
     // Does what `next` does. Most items are words of plain text, and these are moved less than others if they are asked
     // for first. Then a macro without parameters is opened at its name, as the program does it. `word_item` is called
     // once, since it is built in at each call.
@@ -305,7 +343,7 @@ impl<'a> Preprocessor<'a> {
                 return Some(self.word_item(word));
             }
         }
-        self.next_item()
+        self.next_given_or_item()
     }
 
     // Goes on in the open macros, and returns whether the next token is ordinary, and the body or an argument of an

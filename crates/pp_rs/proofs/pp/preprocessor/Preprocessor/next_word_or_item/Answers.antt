@@ -50,8 +50,8 @@ returns c =
             | in-None+in-Ok v ↦ rw (v.in-None.is, v.self-is, v.word-is) v.in-Ok.ensures.gives
           ]) in
           let passed = rw w.in_default.is at joined in
-          passed_next old w.match-next_word.self c.next_item.new.self c.next_item.result reads.unspent passed
-          (subst (λ (p : Preprocessing). IsNextItem p c.next_item.result c.next_item.new.self) w.self-is c.next_item.ensures)
+          passed_next old w.match-next_word.self c.next_given_or_item.new.self c.next_given_or_item.result reads.unspent passed
+          (subst (λ (p : Preprocessing). IsNextItem p c.next_given_or_item.result c.next_given_or_item.new.self) w.self-is c.next_given_or_item.ensures)
       | else-is_in_text w ↦
-          subst (λ (p : Preprocessing). IsNextItem p c.next_item.result c.next_item.new.self) (w.self-is ∙ c.is_in_text.ensures.same) c.next_item.ensures
+          subst (λ (p : Preprocessing). IsNextItem p c.next_given_or_item.result c.next_given_or_item.new.self) (w.self-is ∙ c.is_in_text.ensures.same) c.next_given_or_item.ensures
     ]
