@@ -290,10 +290,9 @@ impl<'a> Run<'a> {
             }
             self.output.leave_out(line);
         }
-        let Some(mut diagnostic) = self.explainer.explain(&error, location)? else {
+        let Some(diagnostic) = self.explainer.explain(&error, location, used)? else {
             return Ok(());
         };
-        diagnostic.used = used;
         self.push_error(error.name(), location, &diagnostic)
     }
 

@@ -1,10 +1,12 @@
 -- Errors as compilers print them.
-use Rattle.std.specs.Prelude.{◌≡◌, ◌⊎◌, ℕ, false, List, [], ◌∷◌, ◌++◌, codes, string_bytes}
+use Rattle.std.specs.Prelude.{◌≡◌, ◌⊎◌, ℕ, false, List, [], ◌∷◌, ◌++◌, Option, Some, None, codes, string_bytes}
 use Rattle.std.specs.Fmt.{decimal}
 use Rattle.glslpp_parts.specs.declared.report.Style.{Style}
 use Rattle.glslpp_parts.specs.declared.report.Style.TheVariants.{Plain, Coloured, Json}
 use Rattle.glslpp_parts.specs.declared.diagnostic.Diagnostic.{Diagnostic}
 use Rattle.glslpp_parts.specs.declared.diagnostic.Severity.{Severity}
+use Rattle.glslpp_parts.specs.declared.diagnostic.Site.{Site}
+use Rattle.glslpp_parts.specs.declared.diagnostic.Site.TheVariants.{InSource, OnCommandLine, InFile}
 use Rattle.glslpp_parts.specs.declared.diagnostic.Severity.TheVariants.{Error, Warning, Note}
 use Rattle.glslpp_parts.specs.Output.{IsItem}
 
@@ -34,6 +36,18 @@ name_of Note = codes "note"
 -- `error: `, `warning: ` or `note: `, in its colour
 abbrev pub severity_text : Style → Severity → List ℕ
 severity_text style severity = colour style severity ++ name_of severity ++ codes ": " ++ ended style
+
+-- the line of the source to which a message points, if it points into the source
+abbrev pub line_of : Site → Option ℕ
+line_of (InSource line column place) = Some line
+line_of (OnCommandLine place) = None
+line_of InFile = None
+
+-- the byte offset there
+abbrev pub start_of : Site → Option ℕ
+start_of (InSource line column place) = Some place.start
+start_of (OnCommandLine place) = None
+start_of InFile = None
 
 -- how a place of a file is named: `<command line>: ` in a definition of the command line, and otherwise `FILE: ` or
 -- `FILE:LINE:COLUMN: `

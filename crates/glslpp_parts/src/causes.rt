@@ -2,6 +2,7 @@
 
 use crate::diagnostic::{Note, Site};
 use crate::directive_line::{DirectiveLine, is_punct, name_of};
+use crate::macro_use::MacroUse;
 use crate::place::Place;
 use pp_rs::lexer::{Token, TokenValue};
 use pp_rs::token::{Punct, TokenValue as Value};
@@ -90,12 +91,14 @@ fn before_parenthesis(tokens: &[Token]) -> Option<&Token> {
     None
 }
 
-/// Why a token isn't expected at a place of a directive's line. `value` is the token as the library read it.
+/// Why a token isn't expected at a place of a directive's line. `value` is the token as the library read it, and `used`
+/// the use of the macro from which it comes.
 pub(crate) fn of_unexpected_token<'a>(
     alloc: Global,
     line: &DirectiveLine<'a>,
     place: Place<'a>,
     value: &Value,
+    used: &Option<MacroUse<'a>>,
 ) -> Result<Option<String>, AllocError> {
     if line.word().is_empty() {
         let message = format!(in alloc; "`{}` is not a directive", place.here)?;
@@ -125,19 +128,38 @@ pub(crate) fn of_unexpected_token<'a>(
         word @ ("undef" | "ifdef" | "ifndef") => {
             format!(in alloc; "extra token `{text}` after the name of `#{word}`")?
         }
-        "define" => return of_token_in_definition(alloc, before, token, text, value),
+        "define" => {
+            let word = word_of_use(alloc, used)?;
+            return of_token_in_definition(alloc, before, token, text, value, word);
+        }
         _ => return Ok(None),
     };
     Ok(Some(message))
 }
 
-// Why a token isn't expected in the parameters of a macro, or in its content if an expression uses it.
+// The word of the directive by whose rules a token of a macro's content is judged: that of the `#line` in which the
+// macro was used, or else that of its definition.
+fn word_of_use(
+    alloc: Global,
+    used: &Option<MacroUse<'_>>,
+) -> Result<&'static str, AllocError> {
+    let Some(used) = used else {
+        return Ok("define");
+    };
+    Ok(match DirectiveLine::of(alloc, used.site)? {
+        Some(line) if line.word() == "line" => "line",
+        _ => "define",
+    })
+}
+
+// Why a token isn't expected in the parameters of a macro, or in its content, by this word, if an expression uses it.
 fn of_token_in_definition(
     alloc: Global,
     before: &[Token],
     token: &Token,
     text: &str,
     value: &Value,
+    word: &str,
 ) -> Result<Option<String>, AllocError> {
     let message = match before {
         [_, open, parameters @ ..] if is_list(open, parameters) => match parameters.last() {
@@ -149,7 +171,7 @@ fn of_token_in_definition(
         },
         _ => {
             let found = Unexpected {
-                word: "define",
+                word,
                 before: content_of(before),
                 token,
                 text,

@@ -1,7 +1,7 @@
 //! What is said of a source: messages with their places.
 
 ghost use Rattle.std.specs.Prelude.{◌≡◌};
-ghost use Rattle.glslpp_parts.specs.Reports.{name_of};
+ghost use Rattle.glslpp_parts.specs.Reports.{line_of, name_of, start_of};
 
 use crate::macro_use::MacroUse;
 use crate::outline::Define;
@@ -65,8 +65,10 @@ impl<'a> Site<'a> {
         }
     }
 
-    /// The line in the source, or `None` if it points elsewhere.
-    pub fn line(self) -> Option<u32> {
+    /// The 1-based line in the source, or `None` if it points elsewhere.
+    pub fn line(self) -> Option<u32>
+        ensures { result ≡ line_of self }
+    {
         match self {
             Site::InSource(line, _, _) => Some(line),
             Site::OnCommandLine(_) | Site::InFile => None,
@@ -74,7 +76,9 @@ impl<'a> Site<'a> {
     }
 
     /// The byte offset in the source, or `None` if it points elsewhere.
-    pub fn start(self) -> Option<usize> {
+    pub fn start(self) -> Option<usize>
+        ensures { result ≡ start_of self }
+    {
         match self {
             Site::InSource(_, _, place) => Some(place.start),
             Site::OnCommandLine(_) | Site::InFile => None,

@@ -78,13 +78,14 @@ impl<'a> Explainer<'a> {
         used
     }
 
-    /// Returns the message for an error: the library's sentence, and what the source adds to it. It returns `None` if
-    /// the error only follows from another one: an `#elif`, `#else` or `#endif` without `#if`, before which an `#if`
-    /// with an error stands.
+    /// Returns the message for an error: the library's sentence, and what the source adds to it. `used` is the use of
+    /// the macro from which the error comes. It returns `None` if the error only follows from another one: an `#elif`,
+    /// `#else` or `#endif` without `#if`, before which an `#if` with an error stands.
     pub fn explain(
         &mut self,
         error: &PreprocessorError,
         location: Location,
+        used: Option<MacroUse<'a>>,
     ) -> Result<Option<Diagnostic<'a>>, AllocError>
         ensures { IfOk result (λ found. IfSome found (λ diagnostic.
             IsErrorMessage (sentence_of error.now) diagnostic)) }
@@ -94,14 +95,14 @@ impl<'a> Explainer<'a> {
         }
         let severity = Severity::Error;
         let site = Site::of(self.texts, cause_of(error, location));
-        if let Some(cause) = self.cause(error, location, site)? {
+        if let Some(cause) = self.cause(error, location, site, &used)? {
             return Ok(Some(Diagnostic {
                 severity,
                 message: cause.message,
                 is_of_cause: true,
                 site: cause.site,
                 note: cause.note,
-                used: None,
+                used,
             }));
         }
         let more = self.more(error, location, site)?;
@@ -114,7 +115,7 @@ impl<'a> Explainer<'a> {
             is_of_cause: false,
             site,
             note,
-            used: None,
+            used,
         }))
     }
 
@@ -124,6 +125,7 @@ impl<'a> Explainer<'a> {
         error: &PreprocessorError,
         location: Location,
         site: Site<'a>,
+        used: &Option<MacroUse<'a>>,
     ) -> Result<Option<Cause<'a>>, AllocError> {
         let Some(place) = site.place() else {
             return Ok(None);
@@ -150,7 +152,7 @@ impl<'a> Explainer<'a> {
                 if let Some(name) = macro_before(line, place) {
                     return self.empty_macro(line, name, location);
                 }
-                of_unexpected_token(self.alloc, line, place, value)?
+                of_unexpected_token(self.alloc, line, place, value, used)?
             }
             (PreprocessorError::UnexpectedNewLine, Some(line)) => {
                 Some(of_early_end(self.alloc, line)?)
