@@ -286,8 +286,8 @@ impl<'a> Preprocessor<'a> {
         }
     }
 
-    // Does what `next` does, if the open macros give the next item from their lists. Otherwise returns `None`, after what
-    // `advance` passes.
+    // Does what `next` does, if the open macros give the next item from their lists. Otherwise returns `None`, after
+    // what `advance` passes.
     #[inline(always)]
     fn next_given(&mut self) -> Option<PreprocessorItem>
         requires { is_spent self.old ≡ false }
@@ -304,9 +304,9 @@ impl<'a> Preprocessor<'a> {
         }
     }
 
-    // Does what `next_item` does. That is too large to be built in where `give_tokens` is called too. So a token of an
-    // open macro is asked for first, and what `next_item` returns is taken apart, so that no other item is kept in memory
-    // with it.
+    // Does what `next_item` does, which is too large to be built in where `give_tokens` is called too. So a token of an
+    // open macro is asked for first, and what `next_item` returns is taken apart, so that no other item is kept in
+    // memory with it.
     #[inline(always)]
     fn next_given_or_item(&mut self) -> Option<PreprocessorItem>
         ensures { IsNextItem self.old result self.new }
