@@ -1,7 +1,6 @@
 -- A step of a reader adds names at the end alone.
 use Rattle.std.proofs.Common.{◌≡◌, ◌∙◌, inl, inr, ◌⊎◌, ℕ, Bool, true, false, List, [], ◌++◌, refl, sym, ap, append_assoc, Option, Some, None, Ok, Err, MatchBool}
 use Rattle.std.proofs.lemmas.List.{append-nil}
-use Rattle.std.specs.Prelude.{is_some}
 use Rattle.pp_lexer.specs.declared.token.Location.{Location}
 use Rattle.pp_lexer.specs.declared.token.Token.{Token}
 use Rattle.pp_model.specs.Definitions.{Definition}
@@ -11,7 +10,7 @@ use Rattle.pp_model.specs.Names.{Name}
 use Rattle.pp_model.specs.Sights.{sight_of}
 use Rattle.pp_model.specs.declared.read.Read.{Read}
 use Rattle.pp_macros.specs.Item.{Step, wants_memory}
-use Rattle.pp_macros.specs.inner.Defined.{Defined, GrowAtEnd, meaning_of, names_in}
+use Rattle.pp_macros.specs.inner.Defined.{GrowAtEnd, meaning_of, names_in}
 use Rattle.pp_macros.specs.inner.OpenBlocks.{last_block, BlockChange, block_change_at}
 use Rattle.pp_macros.specs.inner.Reader.{Reader, of_source, of_list, Reads, definitions_of}
 use Rattle.pp_macros.specs.inner.Reading.{unpainted_step}

@@ -2,7 +2,6 @@
 use Rattle.std.proofs.Common.{◌≡◌, ◌∙◌, ℕ, ap, refl, List, [], ◌∷◌, Option, Some, None, Ok, Err, IfSome, inl, inr}
 use Rattle.std.specs.Prelude.{unwrap_or}
 use Rattle.pp_lexer.specs.declared.token.Token.{Token}
-use Rattle.pp_model.specs.Names.{Name}
 use Rattle.pp_model.specs.SpliceList.{parameter_of}
 use Rattle.pp_model.specs.declared.read.Read.{Read}
 use Rattle.pp_macros.specs.Item.{Step}

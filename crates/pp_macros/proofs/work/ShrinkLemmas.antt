@@ -28,8 +28,8 @@ pub record Shrinks (old new : Source) : Type 0 where
   pub steps : most_steps new ≤ most_steps old
 
 -- as many names with numbers
-as_many : {old new : List Defined} → names_in new ≡ names_in old → length new ≡ length old
-as_many {old} {new} same = sym (length-map new (λ (d : Defined). d.name)) ∙ ap length same ∙ length-map old (λ (d : Defined). d.name)
+as_many : (old new : List Defined) → names_in new ≡ names_in old → length new ≡ length old
+as_many old new same = sym (length-map new (λ (d : Defined). d.name)) ∙ ap length same ∙ length-map old (λ (d : Defined). d.name)
 
 module _ (old new : Source) where
   after_shrinks : (taken adds : ℕ) (note : Note) (blocks : List OpenBlock) → IsAfter taken note blocks old new
@@ -56,7 +56,7 @@ module _ (old new : Source) where
 
   fault_shrinks : IsAfterFault old new → Shrinks old new
   fault_shrinks after =
-      let names : length new.definitions ≡ length old.definitions = as_many after.names in
+      let names : length new.definitions ≡ length old.definitions = as_many old.definitions new.definitions after.names in
       record { shorter = omega (arith, after.fewer); names = omega (arith, after.fewer, names); steps = omega (arith, after.fewer, after.tokens) }
 
   block_shrinks : IsAfterBlock old new → length old.rest + (length old.blocks - 1) < length old.rest + length old.blocks → Shrinks old new

@@ -1,10 +1,6 @@
 use Rattle.std.proofs.Common.{◌∙◌, ap, sym, refl}
-use Rattle.std.specs.Prelude.{not}
 use Rattle.pp_model.specs.Names.{is_identifier, line_name}
-use Rattle.pp_model.specs.Painting.{painted_among}
 use Rattle.pp_macros.specs.inner.Defined.{Macro}
-use Rattle.pp_macros.specs.inner.Expander.{Expander}
-use Rattle.pp_macros.specs.inner.Turns.{masks}
 use Rattle.pp_macros.proofs.taking.FrameTurnLemmas.{refused_there, frame_pauses, frame_gives, frame_opens, frame_takes_some}
 use Rattle.pp_macros.proofs.taking.ExpanderLemmas.{none_held}
 use Rattle.pp_macros.proofs.macro_processor.MacroProcessor.turn.Goals as goal
