@@ -59,7 +59,7 @@ module _ (definitions : List Defined) (blocks : List OpenBlock)
       → HasKept (source_of old definitions blocks line_offset has_text has_directive dead) (source_of new definitions after offset has_text has_directive dead)
   kept after offset few = record {
     left = omega (arith, few, drop_fewer old.rest new.rest (line_length old.rest) taken.rest);
-    names = omega arith;
+    names = refl;
     tokens = omega arith;
     spent = taken.spent;
   }

@@ -66,13 +66,10 @@ word_is_bare source Hash w unknown = absurd unknown
 word_is_bare source _ w unknown = record { apart = refl; bare = λ name definition e. cc; itself = λ e. refl }
 
 -- a macro that is found with right numbers opens
-pub macro_opens : {source : Source} {token : Token} {opened : Macro}
-    → record {
-      opened : Some (opened.name, opened.definition) ≡ macro_of_value (of_source source) token.value;
-      numbered : AreNumbered (names_in source.definitions) (numbered_by opened);
-    }
-    → Opens (of_source source) (unpainted token) opened
-macro_opens found = record { is = sym found.opened; numbered = found.numbered }
+pub macro_opens : (source : Source) (token : Token) (opened : Macro)
+    → Some (opened.name, opened.definition) ≡ macro_of_value (of_source source) token.value
+    → AreNumbered (names_in source.definitions) (numbered_by opened) → Opens (of_source source) (unpainted token) opened
+macro_opens source token opened is numbered = record { is = sym is; numbered = numbered }
 
 module _ (m : Expander) (r s : Source) (word : PlainItem) (idle : is_idle m ≡ true) (takes : TakesBare r word s) where
   is_bare_word : IsBareWord s word.form word.spelling.now

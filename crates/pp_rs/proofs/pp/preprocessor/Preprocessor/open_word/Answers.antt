@@ -40,9 +40,10 @@ invariant_of-self-in-Ok c = (
   λ e.
       let first = reached_first _ _ _ _ (ap (λ p. p.expander) c.self.view_is) (ap (λ p. p.source) c.self.view_is) (c.self.invariant.0 c.if-self.false) in
       let takes = rw c.in-Some.is at c.next_bare.ensures in
+      let found = rw c.in-Some-macro_of_word.is at c.macro_of_word.ensures in
       let on = reached_more _ _ _ _ _ _ first
       (opens_over _ _ _ c.in-Some.word (sym c.is_idle.ensures ∙ c.if-not-is_idle.false) takes c.open_shared.new.expander _
-      (macro_opens (rw c.in-Some-macro_of_word.is at c.macro_of_word.ensures)) (rw c.in-Ok.is at c.open_shared.ensures)) in
+      (macro_opens _ _ c.in-Some-macro_of_word.found.now.value found.opened found.numbered) (rw c.in-Ok.is at c.open_shared.ensures)) in
       (on.fit, on.reported),
   λ h. cc,
 )
@@ -51,9 +52,10 @@ pub returns-in-Ok-clause-gives : goal.returns-in-Ok-clause-gives
 returns-in-Ok-clause-gives c =
     let first = reached_first _ _ _ _ (ap (λ p. p.expander) c.self.view_is) (ap (λ p. p.source) c.self.view_is) (c.self.invariant.0 c.if-self.false) in
     let takes = rw c.in-Some.is at c.next_bare.ensures in
+    let found = rw c.in-Some-macro_of_word.is at c.macro_of_word.ensures in
     let on = reached_more _ _ _ _ _ _ first
     (opens_over _ _ _ c.in-Some.word (sym c.is_idle.ensures ∙ c.if-not-is_idle.false) takes c.open_shared.new.expander _
-    (macro_opens (rw c.in-Some-macro_of_word.is at c.macro_of_word.ensures)) (rw c.in-Ok.is at c.open_shared.ensures)) in
+    (macro_opens _ _ c.in-Some-macro_of_word.found.now.value found.opened found.numbered) (rw c.in-Ok.is at c.open_shared.ensures)) in
     passed_pauses c.args.self.now _ _ _ _ _ on (ap (λ p. p.spent) (sym c.self.view_is) ∙ c.if-self.false) c.if-self.false
     (ap (λ p. p.place) c.self.view_is)
 
@@ -67,9 +69,10 @@ pub returns-in-Err-clause-some_left : goal.returns-in-Err-clause-some_left
 returns-in-Err-clause-some_left c =
     let first = reached_first _ _ _ _ (ap (λ p. p.expander) c.self.view_is) (ap (λ p. p.source) c.self.view_is) (c.self.invariant.0 c.if-self.false) in
     let takes = rw c.in-Some.is at c.next_bare.ensures in
+    let found = rw c.in-Some-macro_of_word.is at c.macro_of_word.ensures in
     some_items _ _ _ _ _ _ first c.args.self.now (ap (λ p. p.spent) (sym c.self.view_is) ∙ c.if-self.false) refl refl
     (opens_over _ _ _ c.in-Some.word (sym c.is_idle.ensures ∙ c.if-not-is_idle.false) takes _ _
-    (macro_opens (rw c.in-Some-macro_of_word.is at c.macro_of_word.ensures)) refl)
+    (macro_opens _ _ c.in-Some-macro_of_word.found.now.value found.opened found.numbered) refl)
 
 pub returns-then-self-clause-gives : goal.returns-then-self-clause-gives
 returns-then-self-clause-gives c = rw (← c.self.view_is) (passed_nothing _)
