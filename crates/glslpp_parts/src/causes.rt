@@ -139,10 +139,7 @@ pub(crate) fn of_unexpected_token<'a>(
 
 // The word of the directive by whose rules a token of a macro's content is judged: that of the `#line` in which the
 // macro was used, or else that of its definition.
-fn word_of_use(
-    alloc: Global,
-    used: &Option<MacroUse<'_>>,
-) -> Result<&'static str, AllocError> {
+fn word_of_use(alloc: Global, used: &Option<MacroUse<'_>>) -> Result<&'static str, AllocError> {
     let Some(used) = used else {
         return Ok("define");
     };

@@ -6,7 +6,8 @@ ghost use Rattle.pp_lexer.specs.declared.token.TokenValue.TheVariants as value;
 ghost use Rattle.pp_rs.specs.TokenRefs.{token_of};
 ghost use Rattle.pp_rs.specs.TokenValue.{is_ordinary};
 ghost use Rattle.glslpp_parts.specs.Layout.{finished, on_line};
-ghost use Rattle.glslpp_parts.specs.Output.{is_closing, is_left_out, line_of, PutsText, PutsWord, PutsDirective, Puts, PutsError, Takes, IsItem};
+ghost use Rattle.glslpp_parts.specs.Output.{is_closing, is_left_out, line_of, PutsText, PutsWord, PutsDirective, Puts};
+ghost use Rattle.glslpp_parts.specs.Output.{PutsError, Takes, IsItem};
 
 use crate::arguments::Form;
 use crate::columns::Columns;
@@ -45,7 +46,13 @@ impl<'a> Model for Output<'a> {
 
     ghost Value = { Printed };
 
-    ghost view = { λ o. record { form = o.form; laid = o.layout; end = o.end; items = string_bytes o.lines; left_out = o.left_out } };
+    ghost view = { λ o. record {
+      form = o.form;
+      laid = o.layout;
+      end = o.end;
+      items = string_bytes o.lines;
+      left_out = o.left_out;
+    } };
 }
 
 /// Takes an ordinary token, unless it is on the line that is left out. A token that a macro gives is on the line of the

@@ -5,7 +5,9 @@ ghost use Rattle.pp_model.specs.LineWords.{unwanted_closing};
 ghost use Rattle.pp_model.specs.inner.LineWords.{is_open_paren, is_close_paren};
 ghost use Rattle.pp_macros.specs.inner.Defined.{meaning_of};
 ghost use Rattle.pp_macros.specs.Held.{AllHoldOrdinary};
-ghost use Rattle.pp_directives.specs.inner.ReadingWords.{IsReading, GivesItem, TakesOff, GivesTaken, IsNameOrFault, GivesOperand, GivesInParentheses, GivesClosed, AreWordsOf, AreWordsOfLine};
+ghost use Rattle.pp_directives.specs.inner.ReadingWords.{IsReading, GivesItem, TakesOff, GivesTaken, IsNameOrFault};
+ghost use Rattle.pp_directives.specs.inner.ReadingWords.{GivesOperand, GivesInParentheses, GivesClosed, AreWordsOf};
+ghost use Rattle.pp_directives.specs.inner.ReadingWords.{AreWordsOfLine};
 ghost use Rattle.pp_directives.specs.inner.LineItems.{taken_of_read};
 
 use crate::token_list::LineReads;

@@ -4,7 +4,8 @@ ghost use Rattle.std.specs.Prelude.{◌≡◌, ◌++◌, ◌∷◌, [], false, I
 ghost use Rattle.pp_model.specs.DefineLines.{parameters};
 ghost use Rattle.pp_model.specs.Names.{is_in};
 ghost use Rattle.pp_macros.specs.inner.LineReading as spec;
-ghost use Rattle.pp_macros.specs.inner.ParameterReading.{ends_parameters, one_parameter, first_parameter, alone, GoesOnInLine};
+ghost use Rattle.pp_macros.specs.inner.ParameterReading.{ends_parameters, one_parameter, first_parameter, alone};
+ghost use Rattle.pp_macros.specs.inner.ParameterReading.{GoesOnInLine};
 ghost use Rattle.pp_macros.specs.inner.SourceLexed.{unreported_at};
 ghost use Rattle.pp_macros.specs.inner.Unreported.{Reports};
 ghost use Rattle.pp_directives.specs.inner.ReadNames.{parameters_to};

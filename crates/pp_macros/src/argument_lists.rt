@@ -1,6 +1,7 @@
 //! The arguments of a call: lists of tokens, each a part of one list.
 
-ghost use Rattle.std.specs.Prelude.{◌≡◌, ◌<◌, ◌^◌, [], Some, None, IfSome, IsSome, MatchOption, is_some, option_map, set, slice_get, length};
+ghost use Rattle.std.specs.Prelude.{◌≡◌, ◌<◌, ◌^◌, [], Some, None, IfSome, IsSome, MatchOption, is_some, option_map};
+ghost use Rattle.std.specs.Prelude.{set, slice_get, length};
 ghost use Rattle.pp_model.specs.Calls.{is_one_empty};
 ghost use Rattle.pp_macros.specs.Held.{HoldsOrdinary};
 ghost use Rattle.pp_macros.specs.inner.Frames.{argument_at};

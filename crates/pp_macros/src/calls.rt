@@ -10,7 +10,8 @@ ghost use Rattle.pp_macros.specs.Held.{HoldsOrdinary};
 ghost use Rattle.pp_macros.specs.inner.Reading.{AllReadOrdinary};
 ghost use Rattle.pp_macros.specs.inner.Idle.{is_idle};
 ghost use Rattle.pp_macros.specs.inner.CallTurns.{TurnsOrRefuses, is_out_of_memory_step, paren_of, TakenHoldsOrdinary};
-ghost use Rattle.pp_macros.specs.inner.Expander.{StepsFetching, StepsTaking, TakesNext, TakesOnto, TakesRun, GathersNext, Satisfies, place_after, gathered_to, taken_as, is_pause};
+ghost use Rattle.pp_macros.specs.inner.Expander.{StepsFetching, StepsTaking, TakesNext, TakesOnto, TakesRun};
+ghost use Rattle.pp_macros.specs.inner.Expander.{GathersNext, Satisfies, place_after, gathered_to, taken_as, is_pause};
 ghost use Rattle.pp_macros.specs.inner.Defined.{AreNumbered, names_in, numbered_by};
 ghost use Rattle.pp_macros.specs.inner.Reader.{definitions_of};
 ghost use Rattle.pp_macros.specs.inner.Turns.{macro_of, macro_of_value, Opens};
@@ -49,7 +50,12 @@ impl Model for MacroCall {
 
     ghost Value = { spec.MacroCall };
 
-    ghost view = { λ c. record { opened = c.opened.value; paren = c.paren; closing = c.closing; tokens = c.tokens.items } };
+    ghost view = { λ c. record {
+      opened = c.opened.value;
+      paren = c.paren;
+      closing = c.closing;
+      tokens = c.tokens.items;
+    } };
 
     ghost invariant = { λ c. AllReadOrdinary c.tokens.items };
 }

@@ -9,7 +9,8 @@ ghost use Rattle.pp_model.specs.Names.{Name};
 ghost use Rattle.pp_model.specs.Definitions.{IsSameDefinition, object_like};
 ghost use Rattle.pp_macros.specs.inner.Marks.{mark_of};
 ghost use Rattle.pp_macros.specs.inner.Defined.{AreNumbered, names_in};
-ghost use Rattle.pp_macros.specs.inner.Bodies.{AreEntries, AreSeen, IsEntry, IsEntryAt, body_of, is_same_entry, token_of, unnumbered, noted_at, noted_in};
+ghost use Rattle.pp_macros.specs.inner.Bodies.{AreEntries, AreSeen, IsEntry, IsEntryAt, body_of, is_same_entry};
+ghost use Rattle.pp_macros.specs.inner.Bodies.{token_of, unnumbered, noted_at, noted_in};
 
 use crate::marks::mark_of;
 use crate::names::{Definitions, NameId};

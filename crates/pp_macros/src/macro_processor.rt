@@ -1,6 +1,8 @@
 //! The macros that are open, over a reader.
 
-ghost use Rattle.std.specs.Prelude.{List, ◌≡◌, ◌≤◌, ◌<◌, ◌-◌, ◌∷◌, [], drop, take, IfOk, IfSome, OnErr, OnOk, MatchOption, MatchResult, Ok, Err, Some, None, IsSome, option_map, is_some, pos, false};
+ghost use Rattle.std.specs.Prelude.{List, ◌≡◌, ◌≤◌, ◌<◌, ◌-◌, ◌∷◌, [], drop, take, IfOk, IfSome, OnErr, OnOk};
+ghost use Rattle.std.specs.Prelude.{MatchOption, MatchResult, Ok, Err, Some, None, IsSome, option_map, is_some, pos};
+ghost use Rattle.std.specs.Prelude.{false};
 ghost use Rattle.std.specs.List.{list_any};
 ghost use Rattle.std.specs.Str.{chars};
 ghost use Rattle.pp_lexer.specs.declared.token.PreprocessorError.TheVariants.{LineOverflow};

@@ -8,7 +8,8 @@ ghost use Rattle.pp_model.specs.declared.read.Read.{Read};
 ghost use Rattle.pp_macros.specs.Held.{HoldsOrdinary};
 ghost use Rattle.pp_macros.specs.Item.{as_step};
 ghost use Rattle.pp_macros.specs.inner.Defined.{AreNumbered, names_in, numbered_by, opened_by};
-ghost use Rattle.pp_macros.specs.inner.Reader.{Reader, Reads, ReadsRun, nests, visible, hidden_of, shown_line, definitions_of};
+ghost use Rattle.pp_macros.specs.inner.Reader.{Reader, Reads, ReadsRun, nests, visible, hidden_of, shown_line};
+ghost use Rattle.pp_macros.specs.inner.Reader.{definitions_of};
 
 use crate::define::Macro;
 use crate::names::NameId;
@@ -40,7 +41,8 @@ pub trait MeLexer {
 
     /// The macro of the name with this number, if it is defined there.
     fn get_define(&self, id: NameId) -> Option<&Rc<Macro>>
-        ensures opened { (name : Name) → position (is_same_name name) (names_in (definitions_of (reader self.now))) ≡ Some id
+        ensures opened { (name : Name)
+            → position (is_same_name name) (names_in (definitions_of (reader self.now))) ≡ Some id
             → option_map (λ m. (m.now.value.name, m.now.value.definition)) result
             ≡ opened_by name (visible (reader self.now) name) }
         ensures numbered { IfSome result (λ m.

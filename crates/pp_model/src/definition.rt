@@ -44,7 +44,11 @@ impl Model for Definition {
 
     ghost Value = { spec.Definition };
 
-    ghost view = { λ d. record { function_like = d.function_like; parameters = d.parameters.items; body = d.body.items } };
+    ghost view = { λ d. record {
+      function_like = d.function_like;
+      parameters = d.parameters.items;
+      body = d.body.items;
+    } };
 }
 
 /// A definition with the name that a `#define` line gives it.

@@ -2,7 +2,8 @@
 #![tactic(auto)]
 
 ghost use Rattle.std.specs.Prelude.{◌≡◌, ◌↔◌, ◌⊎◌, ◌-◌, ◌^◌, true, false, All, Any, OnOk, IfOk, IfErr, IfSome, IsErrOf};
-ghost use Rattle.pp_print.specs.Runs.{FitsSource, IsAccepted, IsRefused, IsBeforeOutput, IsStoppedBySource, IsPrinted, IsBegun};
+ghost use Rattle.pp_print.specs.Runs.{FitsSource, IsAccepted, IsRefused, IsBeforeOutput, IsStoppedBySource, IsPrinted};
+ghost use Rattle.pp_print.specs.Runs.{IsBegun};
 ghost use Rattle.pp_print.specs.Runs.{TakesAtMost};
 ghost use Rattle.pp_print.specs.SourceRuns.{AreFirstOf, IsRunOf};
 

@@ -3,7 +3,8 @@
 ghost use Rattle.std.specs.Prelude.{◌≡◌, ◌≤◌, [], map, IfOk, MatchResult, Some, None};
 ghost use Rattle.pp_reference.specs.inner.Changes.{meaning_of};
 ghost use Rattle.pp_model.specs.Emitting.{answers_at};
-ghost use Rattle.pp_model.specs.LineWords.{LineWords, InParentheses, Operand, name_in, is_defined, unwanted_part, unwanted_closing};
+ghost use Rattle.pp_model.specs.LineWords.{LineWords, InParentheses, Operand, name_in, is_defined, unwanted_part};
+ghost use Rattle.pp_model.specs.LineWords.{unwanted_closing};
 ghost use Rattle.pp_model.specs.inner.LineWords.{is_open_paren, is_close_paren};
 ghost use Rattle.pp_model.specs.Painting.{unpainted};
 ghost use Rattle.pp_model.specs.Reading.{reading_of};

@@ -2,7 +2,8 @@
 
 ghost use Rattle.std.specs.Prelude.{◌≡◌, [], ◌∷◌, ◌++◌, List, IfOk, OnOk, MatchOption, position};
 ghost use Rattle.pp_model.specs.Names.{is_same_name};
-ghost use Rattle.pp_model.specs.SpliceList.{after_marks, open_names, outermost_line, parameter_of, replacement, body_before, macro_before};
+ghost use Rattle.pp_model.specs.SpliceList.{after_marks, open_names, outermost_line, parameter_of, replacement};
+ghost use Rattle.pp_model.specs.SpliceList.{body_before, macro_before};
 ghost use Rattle.pp_model.specs.inner.SpliceList.{followed_by};
 ghost use Rattle.pp_model.specs.declared.splice.Entry.{Entry as Item};
 

@@ -61,7 +61,14 @@ impl<'a> Model for SourceReader<'a> {
 
     ghost Value = { spec.ReaderState };
 
-    ghost view = { λ r. record { items = r.items.now; position = r.position; changes = r.definitions; line_offset = r.line_offset; truths = r.truths.items; unfinished = r.unfinished } };
+    ghost view = { λ r. record {
+      items = r.items.now;
+      position = r.position;
+      changes = r.definitions;
+      line_offset = r.line_offset;
+      truths = r.truths.items;
+      unfinished = r.unfinished;
+    } };
 
     ghost invariant = { λ r. r.position ≤ length r.items.now };
 }

@@ -1,9 +1,11 @@
 //! The table in which texts are found by their hash.
 
-ghost use Rattle.std.specs.Prelude.{◌≡◌, ◌<◌, ◌++◌, ◌∷◌, [], List, false, position, vec_len, length, OnOk, OnErr, IfOk, MatchOption};
+ghost use Rattle.std.specs.Prelude.{◌≡◌, ◌<◌, ◌++◌, ◌∷◌, [], List, false, position, vec_len, length, OnOk, OnErr, IfOk};
+ghost use Rattle.std.specs.Prelude.{MatchOption};
 ghost use Rattle.std.specs.Str.{chars};
 ghost use Rattle.pp_model.specs.Names.{Name, is_in, is_same_name};
-ghost use Rattle.pp_macros.specs.inner.NamePlaces.{hash_of, place_index, IsCrowded, IsFree, AreDistinct, FindsNames, names_of};
+ghost use Rattle.pp_macros.specs.inner.NamePlaces.{hash_of, place_index, IsCrowded, IsFree, AreDistinct, FindsNames};
+ghost use Rattle.pp_macros.specs.inner.NamePlaces.{names_of};
 
 use pp_lexer::token::Text;
 use std::alloc::{AllocError, Global};

@@ -1,6 +1,7 @@
 //! Texts with numbers, each found by its hash.
 
-ghost use Rattle.std.specs.Prelude.{◌≡◌, ◌-◌, ◌++◌, ◌∷◌, [], false, length, take, position, OnOk, OnErr, IfSome, IsTrue, Some, ◌<◌};
+ghost use Rattle.std.specs.Prelude.{◌≡◌, ◌-◌, ◌++◌, ◌∷◌, [], false, length, take, position, OnOk, OnErr, IfSome};
+ghost use Rattle.std.specs.Prelude.{IsTrue, Some, ◌<◌};
 ghost use Rattle.std.specs.Str.{chars};
 ghost use Rattle.pp_model.specs.Names.{is_in, is_same_name};
 ghost use Rattle.pp_macros.specs.inner.Marks.{mark_of};

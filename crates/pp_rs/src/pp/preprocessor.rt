@@ -1,6 +1,7 @@
 //! The items of a preprocessed source.
 
-ghost use Rattle.std.specs.Prelude.{◌≡◌, ◌-◌, ◌^◌, ◌<◌, ◌∷◌, [], false, length, if◌then◌else◌, true, IsTrue, OnOk, OnErr, IfOk, IfErr, ℕ, Option, None, Some, Ok, Err, unwrap_or};
+ghost use Rattle.std.specs.Prelude.{◌≡◌, ◌-◌, ◌^◌, ◌<◌, ◌∷◌, [], false, length, if◌then◌else◌, true, IsTrue, OnOk};
+ghost use Rattle.std.specs.Prelude.{OnErr, IfOk, IfErr, ℕ, Option, None, Some, Ok, Err, unwrap_or};
 ghost use Rattle.pp_lexer.specs.declared.token.Token.{Token};
 ghost use Rattle.std.specs.Iterator.{at_most};
 ghost use Rattle.pp_lexer.specs.Location.{nowhere};
@@ -59,7 +60,13 @@ impl<'a> Model for Preprocessor<'a> {
 
     ghost Value = { Preprocessing };
 
-    ghost view = { λ p. record { expander = p.expander; source = p.source; spent = p.spent; place = p.place; name_line = p.name_line } };
+    ghost view = { λ p. record {
+      expander = p.expander;
+      source = p.source;
+      spent = p.spent;
+      place = p.place;
+      name_line = p.name_line;
+    } };
 
     ghost invariant = { λ p. (p.spent ≡ false → IsFit p.expander p.source × IsReported p.expander p.source)
         × (p.in_text ≡ true → ReadsText p.expander p.source p.spent) };
