@@ -49,8 +49,8 @@ returns-then-is_none c =
     alone c.args.directive c.args.tokens c.args.definitions.now c.in_ok-parser.parser _ c.in_ok-parser.ensures c.in_ok-value.value c.in-Some.number
     c.in_ok-value.ensures.takes some last
 
-pub returns-in-Err : goal.returns-in-Err
-returns-in-Err c =
+pub returns : goal.returns
+returns c =
     let fits : FitsSigned w64 c.in_ok-value.value = search rules in
     let some = rw (to_z-of_z w64 c.in_ok-value.value fits) at (sym c.as_line_number.ensures ∙ c.in-Some.is) in
     let more = ap is_none (sym c.peek.ensures) ∙ none_copied c.peek.result ∙ ap not c.is_none.ensures ∙ ap (λ (b : Bool). not (not b)) c.if-is_none.false in
