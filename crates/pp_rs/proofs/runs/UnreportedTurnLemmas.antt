@@ -192,15 +192,15 @@ holds_next (Err Continue) errors u reported h = (h.1, h.0)
 holds_next (Err Finished) errors u reported h = (h.1, h.0)
 holds_next (Err (Error fault)) errors u reported h = (tt, sym (h reported))
 
-find_leaves : (read : Read) (opened : Macro) (c : Sought) (step : Step Taken) (errors : List ErrorAt)
-    (m p q : Expander) (r t : Reader) → Seeks m r c p t → Finds read opened c step p q → IsClear errors m r → TakenLeaves step errors q t
-find_leaves read opened c step errors m p q r t (alone next m1 n1 r1 s1 c1 takes apart reported is) finds clear =
+find_leaves : (read : Read) (macro : Macro) (c : Sought) (step : Step Taken) (errors : List ErrorAt)
+    (m p q : Expander) (r t : Reader) → Seeks m r c p t → Finds read macro c step p q → IsClear errors m r → TakenLeaves step errors q t
+find_leaves read macro c step errors m p q r t (alone next m1 n1 r1 s1 c1 takes apart reported is) finds clear =
     let h : Leaves (fault_of next) errors (unreported_in t) =
     goes_on (fault_of next) errors m r t clear (next_leaves m p r t next takes (clear_reported errors m r clear)) in
-    let f : Finds read opened (no_call next) step p q = subst (λ (x : Sought). Finds read opened x step p q) is finds in
+    let f : Finds read macro (no_call next) step p q = subst (λ (x : Sought). Finds read macro x step p q) is finds in
     rw (f.0, f.1) (holds_next next errors (unreported_in t) reported h)
-find_leaves read opened c step errors m p q r t (called next paren m1 between n1 r1 s1 t1 g c1 takes at gathers is) finds clear =
-    go g gathers (subst (λ (x : Sought). Finds read opened x step p q) is finds)
+find_leaves read macro c step errors m p q r t (called next paren m1 between n1 r1 s1 t1 g c1 takes at gathers is) finds clear =
+    go g gathers (subst (λ (x : Sought). Finds read macro x step p q) is finds)
   where
     clear_paren : (next : Step Read) → paren_of next ≡ Some paren → TakesNext m r next between s1 → IsClear errors between s1
     clear_paren (Ok other) e takes = record {
@@ -209,7 +209,7 @@ find_leaves read opened c step errors m p q r t (called next paren m1 between n1
     }
     clear_paren (Err exit) e takes = cc
 
-    go : (g : Result Gathered Fault) → GathersNext 0 paren between s1 g p t → Finds read opened (sought_by paren g) step p q
+    go : (g : Result Gathered Fault) → GathersNext 0 paren between s1 g p t → Finds read macro (sought_by paren g) step p q
         → TakenLeaves step errors q t
     go (Ok found) gathers f =
         let c = clear_paren next at takes in
@@ -226,10 +226,10 @@ turn_leaves m n r s step (passes exit step1 m1 n1 r1 s1 takes is) reported =
 turn_leaves m n r s step (gives read step1 m1 n1 r1 s1 takes apart is) reported =
     let c : IsClear (UnreportedFirst m r) n s = record { free = step_free m n r s (Ok read) takes; leaves = step_leaves m n r s (Ok read) takes reported } in
     rw is (clear_reported (UnreportedFirst m r) n s c, clear_same (UnreportedFirst m r) n s c)
-turn_leaves m p r s step (object read opened step1 m1 n p1 r1 s1 takes opens plain is at) reported =
+turn_leaves m p r s step (object read macro step1 m1 n p1 r1 s1 takes opens plain is at) reported =
     rw (is, at) (step_free m n r s (Ok read) takes, step_leaves m n r s (Ok read) takes reported)
-turn_leaves m q r t step (seeks read opened c step1 m1 n p q1 r1 s t1 takes opens by_call sought finds) reported =
-    find_leaves read opened c step (UnreportedFirst m r) n p q s t sought finds
+turn_leaves m q r t step (seeks read macro c step1 m1 n p q1 r1 s t1 takes opens by_call sought finds) reported =
+    find_leaves read macro c step (UnreportedFirst m r) n p q s t sought finds
     (record { free = step_free m n r s (Ok read) takes; leaves = step_leaves m n r s (Ok read) takes reported })
 
 -- the errors that are unreported of a source
