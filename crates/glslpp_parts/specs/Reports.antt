@@ -38,16 +38,16 @@ abbrev pub severity_text : Style → Severity → List ℕ
 severity_text style severity = colour style severity ++ name_of severity ++ codes ": " ++ ended style
 
 -- the line of the source to which a message points, if it points into the source
-abbrev pub line_of : Site → Option ℕ
-line_of (InSource line column place) = Some line
-line_of (OnCommandLine place) = None
-line_of InFile = None
+abbrev pub line_of_site : Site → Option ℕ
+line_of_site (InSource line column place) = Some line
+line_of_site (OnCommandLine place) = None
+line_of_site InFile = None
 
 -- the byte offset there
-abbrev pub start_of : Site → Option ℕ
-start_of (InSource line column place) = Some place.start
-start_of (OnCommandLine place) = None
-start_of InFile = None
+abbrev pub start_of_site : Site → Option ℕ
+start_of_site (InSource line column place) = Some place.start
+start_of_site (OnCommandLine place) = None
+start_of_site InFile = None
 
 -- how a place of a file is named: `<command line>: ` in a definition of the command line, and otherwise `FILE: ` or
 -- `FILE:LINE:COLUMN: `

@@ -143,10 +143,11 @@ fn word_of_use(alloc: Global, used: &Option<MacroUse<'_>>) -> Result<&'static st
     let Some(used) = used else {
         return Ok("define");
     };
-    Ok(match DirectiveLine::of(alloc, used.site)? {
+    let word = match &DirectiveLine::of(alloc, used.site)? {
         Some(line) if line.word() == "line" => "line",
         _ => "define",
-    })
+    };
+    Ok(word)
 }
 
 // Why a token isn't expected in the parameters of a macro, or in its content, by this word, if an expression uses it.

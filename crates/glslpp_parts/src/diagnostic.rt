@@ -1,7 +1,7 @@
 //! What is said of a source: messages with their places.
 
 ghost use Rattle.std.specs.Prelude.{◌≡◌};
-ghost use Rattle.glslpp_parts.specs.Reports.{line_of, name_of, start_of};
+ghost use Rattle.glslpp_parts.specs.Reports.{line_of_site, name_of, start_of_site};
 
 use crate::macro_use::MacroUse;
 use crate::outline::Define;
@@ -67,7 +67,7 @@ impl<'a> Site<'a> {
 
     /// The 1-based line in the source, or `None` if it points elsewhere.
     pub fn line(self) -> Option<u32>
-        ensures { result ≡ line_of self }
+        ensures { result ≡ line_of_site self.entry }
     {
         match self {
             Site::InSource(line, _, _) => Some(line),
@@ -77,7 +77,7 @@ impl<'a> Site<'a> {
 
     /// The byte offset in the source, or `None` if it points elsewhere.
     pub fn start(self) -> Option<usize>
-        ensures { result ≡ start_of self }
+        ensures { result ≡ start_of_site self.entry }
     {
         match self {
             Site::InSource(_, _, place) => Some(place.start),
