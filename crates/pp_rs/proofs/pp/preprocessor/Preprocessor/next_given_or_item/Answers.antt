@@ -1,4 +1,4 @@
-use Rattle.std.proofs.Common.{◌≡◌, ◌∙◌, Option, Some, None, Ok, Err, ap, sym, false}
+use Rattle.std.proofs.Common.{◌≡◌, ◌∙◌, Some, None, Ok, Err, ap, sym, false}
 use Rattle.pp_rs.specs.Kept.{is_spent}
 use Rattle.pp_rs.specs.inner.NextWord.{IsPassed}
 use Rattle.pp_rs.proofs.runs.NextLemmas.{next_none}
