@@ -6,22 +6,25 @@ use Rattle.std.proofs.lemmas.List.{length_push}
 use Rattle.std.specs.Prelude.{ℤ, pos, ◌-ℤ◌}
 use Rattle.pp_lexer.specs.declared.token.Location.{Location}
 use Rattle.pp_lexer.specs.declared.token.Token.{Token}
+use Rattle.pp_model.specs.Calls.{Fault}
 use Rattle.pp_model.specs.Lines.{line_length, line_tokens}
 use Rattle.pp_model.specs.declared.block.Part.TheVariants as part
 use Rattle.pp_macros.specs.inner.Defined.{Defined}
-use Rattle.pp_macros.specs.inner.LineReading.{HasTaken, Meets, TakesItems}
 use Rattle.pp_macros.specs.inner.OpenBlocks.{last_block, outer_blocks, with_last, block_opened, block_decided, block_branched, BlockChange, unchanged, elif_change, block_change}
 use Rattle.pp_macros.specs.declared.blocks.OpenBlock.{OpenBlock}
 use Rattle.pp_macros.specs.inner.Source.{Source, IsAfter, Condition, LineNumber, holds, numbers}
 use Rattle.pp_macros.specs.inner.Expander.{Satisfies}
 use Rattle.pp_macros.specs.declared.halt.Halt.{Halt}
 use Rattle.pp_macros.specs.declared.halt.Halt.TheVariants as halt
+use Rattle.pp_directives.specs.inner.ReadingLines.{ReadsLine}
 use Rattle.pp_directives.specs.inner.SourceActs.{Acts, HasKept}
-use Rattle.pp_macros.specs.inner.SourceLexed.{SourceLexed}
-use Rattle.pp_model.specs.Moves.{Effect, decides, renumbers, line_move}
+use Rattle.pp_macros.specs.inner.SourceLexed.{SourceLexed, unreported_at}
+use Rattle.pp_macros.specs.inner.Unreported.{IsMet}
+use Rattle.pp_model.specs.Moves.{decides, renumbers, line_move}
 use Rattle.pp_macros.specs.inner.SourceMoves.{unnoted}
 use Rattle.pp_directives.proofs.LineReadingLemmas.{drop_fewer}
-use Rattle.pp_directives.proofs.SourceActsLemmas.{source_of, acts_failed}
+use Rattle.pp_directives.proofs.SourceActsLemmas.{source_of}
+use Rattle.pp_directives.proofs.UnreportedLemmas.{nothing_met}
 
 -- the innermost block changes
 pub with_last_is : (change : OpenBlock → OpenBlock) (blocks : List OpenBlock) (block : OpenBlock) → last_block blocks ≡ Some block
@@ -30,64 +33,81 @@ with_last_is change blocks block last = ap (λ found. outer_blocks blocks ++ opt
 
 module _ (definitions : List Defined) (blocks : List OpenBlock)
     (line_offset : ℤ) (has_text has_directive dead : Bool) (old new : SourceLexed) (word : Location) (tokens : List Token)
-    (is : line_tokens old.rest ≡ Ok tokens) (taken : HasTaken (line_length old.rest) old new) where
+    (read : ReadsLine {A = List Token} (λ tokens. tokens) line_tokens old (Ok tokens) new) where
   after_line : (offset : ℤ) (after : List OpenBlock) → IsAfter (line_length old.rest) unnoted after
       (source_of old definitions blocks offset has_text has_directive dead) (source_of new definitions after offset has_text has_directive dead)
-  after_line offset after = record { rest = taken.rest; blocks = refl; line_offset = refl; spent = taken.spent; has_text = refl; has_directive = refl; dead_for_good = refl }
+  after_line offset after = record {
+    rest = read.takes.rest;
+    blocks = refl;
+    line_offset = refl;
+    spent = read.takes.spent;
+    has_text = refl;
+    has_directive = refl;
+    dead_for_good = refl;
+  }
 
   -- an `#if` opens a block
   pub if_opens : (value : Bool) (after : List OpenBlock) → Condition word tokens definitions (Ok value) → after ≡ blocks ++ block_opened word value ∷ []
       → Acts (block_change (Some part.Opens) word) (line_move (line_tokens old.rest) (decides word) old.rest)
       (source_of old definitions blocks line_offset has_text has_directive dead) (Ok tt) (source_of new definitions after line_offset has_text has_directive dead)
-  if_opens value after condition made = rw (is, made) (holds value condition (refl, after_line line_offset _, refl))
+  if_opens value after condition made = record {
+    acts = rw (read.is, made) (holds value condition (refl, after_line line_offset _, refl));
+    holds = tt;
+    errors = read.errors;
+  }
 
   -- an `#elif` parts the innermost block
   pub elif_parts : (block : OpenBlock) (value : Bool) (after : List OpenBlock) → Condition word tokens definitions (Ok value)
       → last_block blocks ≡ Some block → after ≡ outer_blocks blocks ++ block_decided block value ∷ []
       → Acts elif_change (line_move (line_tokens old.rest) (decides word) old.rest)
       (source_of old definitions blocks line_offset has_text has_directive dead) (Ok tt) (source_of new definitions after line_offset has_text has_directive dead)
-  elif_parts block value after condition last made =
-      rw (is, made ∙ sym (with_last_is (block_branched (Some value)) blocks block last)) (holds value condition (refl, after_line line_offset _, refl))
+  elif_parts block value after condition last made = record {
+    acts = rw (read.is, made ∙ sym (with_last_is (block_branched (Some value)) blocks block last))
+        (holds value condition (refl, after_line line_offset _, refl));
+    holds = tt;
+    errors = read.errors;
+  }
 
   -- a `#line` numbers the lines after it
   pub line_numbers : (n : ℕ) (offset : ℤ) → LineNumber word tokens definitions (Ok n) → offset ≡ pos n -ℤ pos word.line
       → Acts unchanged (line_move (line_tokens old.rest) (renumbers word) old.rest)
       (source_of old definitions blocks line_offset has_text has_directive dead) (Ok tt) (source_of new definitions blocks offset has_text has_directive dead)
-  line_numbers n offset number made = rw (is, made) (numbers n number (refl, after_line (pos n -ℤ pos word.line) blocks, refl))
+  line_numbers n offset number made = record {
+    acts = rw (read.is, made) (numbers n number (refl, after_line (pos n -ℤ pos word.line) blocks, refl));
+    holds = tt;
+    errors = read.errors;
+  }
 
   kept : (after : List OpenBlock) (offset : ℤ) → length after ≤ length blocks
       → HasKept (source_of old definitions blocks line_offset has_text has_directive dead) (source_of new definitions after offset has_text has_directive dead)
   kept after offset few = record {
-    left = omega (arith, few, drop_fewer old.rest new.rest (line_length old.rest) taken.rest);
+    left = omega (arith, few, drop_fewer old.rest new.rest (line_length old.rest) read.takes.rest);
     names = refl;
     tokens = omega arith;
-    spent = taken.spent;
+    spent = read.takes.spent;
   }
 
-  -- the condition of an `#if` is at fault
-  pub if_failed : (h : Halt) → Satisfies {A = Bool} (Err h) (Condition word tokens definitions)
-      → Acts (block_change (Some part.Opens) word) (line_move (line_tokens old.rest) (decides word) old.rest)
-      (source_of old definitions blocks line_offset has_text has_directive dead) (Err h)
-      (source_of new definitions blocks line_offset has_text has_directive dead)
-  if_failed (halt.Fault fault) condition = rw is (condition, kept blocks line_offset (omega arith))
-  if_failed halt.OutOfMemory condition = tt
+  nothing_more : (fault : Fault) → IsMet fault (unreported_at old) (unreported_at new)
+  nothing_more fault = nothing_met fault (unreported_at old) (unreported_at new) read.errors
 
-  -- so is that of an `#elif`, after which no more blocks are open
-  pub elif_failed : (block : OpenBlock) (after : List OpenBlock) → length after ≤ length blocks → (h : Halt)
+  -- the condition of an `#if` or `#elif` is at fault, and no more blocks are open after it
+  pub condition_failed : (change : BlockChange) (after : List OpenBlock) → length after ≤ length blocks → (h : Halt)
       → Satisfies {A = Bool} (Err h) (Condition word tokens definitions)
-      → Acts elif_change (line_move (line_tokens old.rest) (decides word) old.rest)
+      → Acts change (line_move (line_tokens old.rest) (decides word) old.rest)
       (source_of old definitions blocks line_offset has_text has_directive dead) (Err h)
       (source_of new definitions after line_offset has_text has_directive dead)
-  elif_failed block after few (halt.Fault fault) condition = rw is (condition, kept after line_offset few)
-  elif_failed block after few halt.OutOfMemory condition = tt
+  condition_failed change after few (halt.Fault fault) condition =
+      record { acts = rw read.is (condition, kept after line_offset few); holds = tt; errors = nothing_more fault }
+  condition_failed change after few halt.OutOfMemory condition = record { acts = tt; holds = tt; errors = tt }
 
   -- so is the number of a `#line`, after which the lines may be numbered from anywhere
   pub number_failed : (offset : ℤ) (h : Halt) → Satisfies {A = ℕ} (Err h) (LineNumber word tokens definitions)
       → Acts unchanged (line_move (line_tokens old.rest) (renumbers word) old.rest)
       (source_of old definitions blocks line_offset has_text has_directive dead) (Err h)
       (source_of new definitions blocks offset has_text has_directive dead)
-  number_failed offset (halt.Fault fault) number = rw is (number, kept blocks offset (omega arith))
-  number_failed offset halt.OutOfMemory number = tt
+  number_failed offset (halt.Fault fault) number =
+      record { acts = rw read.is (number, kept blocks offset (omega arith)); holds = tt; errors = nothing_more fault }
+  number_failed offset halt.OutOfMemory number = record { acts = tt; holds = tt; errors = tt }
 
 -- the same of sources that are equal to these
 pub numbering_failed : (word : Location) (h : Halt) (old new s t : Source) → s ≡ old → t ≡ new
@@ -96,18 +116,6 @@ pub numbering_failed : (word : Location) (h : Halt) (old new s t : Source) → s
 numbering_failed word h old new s t before after acts =
     subst (λ (n : Source). Acts unchanged (line_move (line_tokens old.rest) (renumbers word) old.rest) old (Err h) n) after
     (subst (λ (o : Source). Acts unchanged (line_move (line_tokens o.rest) (renumbers word) o.rest) o (Err h) t) before acts)
-
--- the tokens of a line are at fault, and no more blocks are open after it
-pub tokens_failed : (change : BlockChange) (effect : List Token → Effect) (h : Halt) (definitions : List Defined) (blocks after : List OpenBlock)
-    → length after ≤ length blocks → (line_offset : ℤ) (has_text has_directive dead : Bool) (old new : SourceLexed)
-    → Meets {A = List Token} (λ tokens. tokens) (Err h) (line_tokens old.rest)
-    → TakesItems {A = List Token} (line_length old.rest) old (Err h) new
-    → Acts change (line_move (line_tokens old.rest) effect old.rest)
-    (source_of old definitions blocks line_offset has_text has_directive dead) (Err h)
-    (source_of new definitions after line_offset has_text has_directive dead)
-tokens_failed change effect h definitions blocks after few line_offset has_text has_directive dead old new m t =
-    acts_failed {A = List Token} (λ tokens. tokens) h change (line_tokens old.rest) effect old.rest (line_length old.rest)
-    definitions blocks after few line_offset has_text has_directive dead old new m t
 
 -- a block in the place of the innermost one, which was put in such a place itself
 pub replaced_twice : (blocks mid after : List OpenBlock) (first second : OpenBlock) → mid ≡ outer_blocks blocks ++ first ∷ []

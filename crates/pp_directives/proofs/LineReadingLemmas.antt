@@ -9,9 +9,11 @@ use Rattle.pp_model.specs.inner.Emitting.{token_before}
 use Rattle.pp_model.specs.Lines.{line_tokens, line_length, line_fault}
 use Rattle.pp_expression.specs.Answers.{◌>>=◌}
 use Rattle.pp_macros.specs.inner.LineReading.{HasTaken, TakesItems, some_token, next_line_token, tokens_after, length_after, unless_fault, skipped_line, goes_on_after, line_goes_on}
-use Rattle.pp_macros.specs.inner.SourceLexed.{SourceLexed}
+use Rattle.pp_macros.specs.inner.SourceLexed.{SourceLexed, unreported_at}
 use Rattle.pp_macros.specs.declared.halt.Halt.{Halt}
 use Rattle.pp_macros.specs.declared.halt.Halt.TheVariants as halt
+use Rattle.pp_directives.specs.inner.ReadingLines.{ReadsPart, ReadsNext, ReadsLine}
+use Rattle.pp_directives.proofs.UnreportedLemmas.{reports_after}
 
 -- tokens that were read, and then those of the rest
 abbrev pub tokens_before : List Token → Result (List Token) Fault → Result (List Token) Fault
@@ -122,3 +124,20 @@ takes_after (Ok value) first more total old mid new m t e = record { rest = t.re
 takes_after (Err (halt.Fault fault)) first more total old mid new m t e =
     record { rest = omega (arith, t.rest, drop_fewer old.rest mid.rest first m.rest); spent = t.spent }
 takes_after (Err halt.OutOfMemory) first more total old mid new m t e = t
+
+-- the tokens of a line are read: the next one, and those after it
+pub reads_line : {A : Type 0} (shows : A → List Token) (first : Option Token) (result : Result A Halt) (old mid new : SourceLexed)
+    → ReadsNext {A = Option Token} (λ t. t) next_line_token old (Ok first) mid
+    → ReadsPart shows (tokens_after first mid.rest) (length_after first mid.rest) mid result new
+    → ReadsLine shows line_tokens old result new
+reads_line shows first result old mid new next more =
+    let rest = old.rest in
+    let same = sym next.takes.rest in
+    let tokens : line_tokens rest ≡ tokens_after first mid.rest =
+    line_tokens-next rest ∙ ap (λ r. r >>= λ n. tokens_after n (drop 1 rest)) next.is ∙ ap (tokens_after first) same in
+    record {
+      is = rw tokens more.is;
+      takes = takes_after result 1 _ _ _ _ _ next.takes more.takes
+          (line_place-next rest first next.is ∙ ap (λ r. drop (length_after first r) r) same);
+      errors = reports_after result (unreported_at old) (unreported_at mid) (unreported_at new) next.errors more.errors;
+    }

@@ -13,19 +13,20 @@ use Rattle.pp_model.specs.DefineLines.{defined_on}
 use Rattle.pp_model.specs.Lines.{line_length}
 use Rattle.pp_model.specs.declared.directive.Directive.TheVariants as d
 use Rattle.pp_macros.specs.inner.Defined.{Defined, meaning_of}
-use Rattle.pp_macros.specs.inner.LineReading.{Meets, TakesItems, HasTaken}
 use Rattle.pp_macros.specs.inner.OpenBlocks.{last_block, facts_among, BlockChange, unchanged}
 use Rattle.pp_macros.specs.declared.blocks.OpenBlock.{OpenBlock}
-use Rattle.pp_macros.specs.inner.Source.{Source, IsAfter, IsAfterFault, Ends, DefinesOver, HasEffect, Decides, holds, faulty, Renumbers, numbers, unnumbered}
-use Rattle.pp_directives.specs.inner.SourceActs.{HasKept, RedefinesWith, FailsWith, Acts, ActsNoted, GivesNoted, define_move}
-use Rattle.pp_macros.specs.inner.SourceLexed.{SourceLexed}
+use Rattle.pp_macros.specs.inner.Source.{Source, unreported_of, IsAfter, IsAfterFault, Ends, DefinesOver, HasEffect, Decides, holds, faulty, Renumbers, numbers, unnumbered}
+use Rattle.pp_directives.specs.inner.ReadingLines.{ReadsLine}
+use Rattle.pp_directives.specs.inner.SourceActs.{HasKept, RedefinesWith, FailsWith, DoesMove, Acts, ActsNoted, define_move}
+use Rattle.pp_macros.specs.inner.SourceLexed.{SourceLexed, unreported_at}
 use Rattle.pp_model.specs.Moves.{Effect, gives, gives_item, fails, ends, passes, defines, undefines, tests, decides, renumbers, Move, line_move, directive_move}
 use Rattle.pp_macros.specs.inner.SourceMoves.{Note, unnoted}
 use Rattle.pp_macros.specs.inner.Turns.{as_pause}
 use Rattle.pp_macros.specs.declared.halt.Halt.{Halt}
 use Rattle.pp_macros.specs.declared.halt.Halt.TheVariants as halt
-use Rattle.pp_macros.specs.declared.step.StepExit.TheVariants.{Error, Finished}
+use Rattle.pp_macros.specs.declared.step.StepExit.TheVariants.{Error, Continue, Finished}
 use Rattle.pp_directives.proofs.LineReadingLemmas.{drop_fewer}
+use Rattle.pp_directives.proofs.UnreportedLemmas.{reports_after}
 
 -- an error that is known is the result
 pub err_result : {A E : Type 0} (r : Result A E) (h : E) → IsErrAnd r (λ e. e ≡ h) → r ≡ Err h
@@ -49,15 +50,21 @@ source_of l definitions blocks line_offset has_text has_directive dead =
     }
 
 -- a line at fault, or without memory for it; the blocks that are open then are no more
-pub acts_failed : {A B : Type 0} (shows : A → B) (h : Halt) (change : BlockChange) (line : Result B Fault) (effect : B → Effect) (rest : List Seen) (taken : ℕ) (definitions : List Defined)
-    (blocks after : List OpenBlock) → length after ≤ length blocks
+pub acts_failed : {A B : Type 0} (shows : A → B) (h : Halt) (change : BlockChange) (line : List Seen → Result B Fault)
+    (effect : B → Effect) (definitions : List Defined) (blocks after : List OpenBlock) → length after ≤ length blocks
     → (line_offset : ℤ) (has_text has_directive dead : Bool) (old new : SourceLexed)
-    → Meets shows (Err h) line → TakesItems {A = A} taken old (Err h) new
-    → Acts change (line_move line effect rest) (source_of old definitions blocks line_offset has_text has_directive dead) (Err h)
+    → ReadsLine shows line old (Err h) new → Acts change (line_move (line old.rest) effect old.rest)
+    (source_of old definitions blocks line_offset has_text has_directive dead) (Err h)
     (source_of new definitions after line_offset has_text has_directive dead)
-acts_failed shows (halt.Fault fault) change line effect rest taken definitions blocks after few line_offset has_text has_directive dead old new m t =
-    rw m (refl, record { left = omega (arith, t.rest, few); names = refl; tokens = omega arith; spent = t.spent })
-acts_failed shows halt.OutOfMemory change line effect rest taken definitions blocks after few line_offset has_text has_directive dead old new m t = tt
+acts_failed shows (halt.Fault fault) change line effect definitions blocks after few line_offset has_text has_directive dead old new read =
+    let t = read.takes in
+    record {
+      acts = rw read.is (refl, record { left = omega (arith, t.rest, few); names = refl; tokens = omega arith; spent = t.spent });
+      holds = tt;
+      errors = read.errors;
+    }
+acts_failed shows halt.OutOfMemory change line effect definitions blocks after few line_offset has_text has_directive dead old new read =
+    record { acts = tt; holds = tt; errors = tt }
 
 pub pause_no_fault : (given : Option Token) (fault : Fault) → as_pause given ≡ Err (Error fault) → ⊥
 pause_no_fault (Some token) fault e = cc
@@ -140,39 +147,39 @@ module _ (definitions : List Defined) (blocks : List OpenBlock)
         → HasKept (source_of old definitions blocks line_offset has_text has_directive dead) new
     kept_after new k = record { left = omega (arith, k.left, drop_fewer old.rest mid.rest n taken); names = k.names; tokens = k.tokens; spent = k.spent }
 
-    -- so do what a directive does, and what it gives
-    pub acts_after : (effect : Effect) (result : Result (Unit {0}) Halt) (new : Source)
+    -- so does what a directive does
+    does_after : (effect : Effect) (result : Result (Unit {0}) Halt) (new : Source)
+        → DoesMove (λ done. Err Continue) note change (record { effect = effect; taken = more })
+        (source_of mid definitions blocks line_offset has_text has_directive dead) result new
+        → DoesMove (λ done. Err Continue) note change (record { effect = effect; taken = total })
+        (source_of old definitions blocks line_offset has_text has_directive dead) result new
+    does_after effect (Ok done) new h = effect_after None new effect h
+    does_after effect (Err (halt.Fault fault)) new h = (h.0, kept_after new h.1)
+    does_after effect (Err halt.OutOfMemory) new h = tt
+
+    pub acts_after : unreported_at mid ≡ unreported_at old → (effect : Effect) (result : Result (Unit {0}) Halt) (new : Source)
         → ActsNoted note change (record { effect = effect; taken = more }) (source_of mid definitions blocks line_offset has_text has_directive dead) result new
         → ActsNoted note change (record { effect = effect; taken = total }) (source_of old definitions blocks line_offset has_text has_directive dead) result new
-    acts_after effect (Ok done) new h = effect_after None new effect h
-    acts_after effect (Err (halt.Fault fault)) new h = (h.0, kept_after new h.1)
-    acts_after effect (Err halt.OutOfMemory) new h = tt
+    acts_after same effect result new h = record {
+      acts = does_after effect result new h.acts;
+      holds = h.holds;
+      errors = reports_after result (unreported_at old) (unreported_at mid) (unreported_of new) same h.errors;
+    }
 
-    pub gives_after : (effect : Effect) (result : Result (Option Token) Halt) (new : Source)
-        → GivesNoted note change (record { effect = effect; taken = more }) (source_of mid definitions blocks line_offset has_text has_directive dead) result new
-        → GivesNoted note change (record { effect = effect; taken = total }) (source_of old definitions blocks line_offset has_text has_directive dead) result new
-    gives_after effect (Ok given) new h = effect_after given new effect h
-    gives_after effect (Err (halt.Fault fault)) new h = (h.0, kept_after new h.1)
-    gives_after effect (Err halt.OutOfMemory) new h = tt
-
--- a `#define`, by its line
-module _ (definitions : List Defined) (blocks : List OpenBlock)
-    (line_offset : ℤ) (has_text has_directive dead : Bool) (old new : SourceLexed) (word : Location) where
-  pub define_failed : {A : Type 0} (shows : A → Named) (h : Halt) → Meets shows (Err h) (defined_on word old.rest)
-      → TakesItems {A = A} (line_length old.rest) old (Err h) new
-      → Acts unchanged (directive_move true (facts_among blocks) d.Define word old.rest) (source_of old definitions blocks line_offset has_text has_directive dead)
-      (Err h) (source_of new definitions blocks line_offset has_text has_directive dead)
-  define_failed shows h m t = acts_failed shows h unchanged (defined_on word old.rest) defines old.rest
-      (line_length old.rest) definitions blocks blocks (omega arith) line_offset has_text has_directive dead old new m t
-
-  pub define_acts : (named : Named) (result : Result (Unit {0}) Halt) (after : Source) → defined_on word old.rest ≡ Ok named
-      → HasTaken (line_length old.rest) old new → Acts unchanged (define_move named) (source_of new definitions blocks line_offset has_text has_directive dead) result after
-      → Acts unchanged (directive_move true (facts_among blocks) d.Define word old.rest) (source_of old definitions blocks line_offset has_text has_directive dead) result after
-  define_acts named result after e t acts =
-      subst (λ (move : Move). Acts unchanged move (source_of old definitions blocks line_offset has_text has_directive dead) result after)
-      (sym (ap (λ line. line_move line defines old.rest) e))
-      (acts_after definitions blocks line_offset has_text has_directive dead old new (line_length old.rest) 0 (line_length old.rest)
-      (omega arith) t.rest unnoted unchanged (defines named) result after acts)
+-- a `#define`, once its line is read
+pub define_acts : (definitions : List Defined) (blocks : List OpenBlock) (line_offset : ℤ)
+    (has_text has_directive dead : Bool) (old new : SourceLexed) (word : Location) {A : Type 0} (shows : A → Named)
+    (line : A) (result : Result (Unit {0}) Halt) (after : Source) → ReadsLine shows (defined_on word) old (Ok line) new
+    → Acts unchanged (define_move (shows line))
+    (source_of new definitions blocks line_offset has_text has_directive dead) result after
+    → Acts unchanged (directive_move true (facts_among blocks) d.Define word old.rest)
+    (source_of old definitions blocks line_offset has_text has_directive dead) result after
+define_acts definitions blocks line_offset has_text has_directive dead old new word shows line result after read acts =
+    let before = source_of old definitions blocks line_offset has_text has_directive dead in
+    subst (λ (move : Move). Acts unchanged move before result after)
+    (sym (ap (λ found. line_move found defines old.rest) read.is))
+    (acts_after definitions blocks line_offset has_text has_directive dead old new (line_length old.rest) 0
+    (line_length old.rest) (omega arith) read.takes.rest unnoted unchanged read.errors (defines (shows line)) result after acts)
 
 -- a fault after something that was read
 module _ (definitions : List Defined) (blocks : List OpenBlock)

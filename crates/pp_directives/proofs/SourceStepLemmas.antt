@@ -32,7 +32,7 @@ use Rattle.pp_macros.specs.inner.SourceMoves.{Note, unnoted, directive_line, not
 use Rattle.pp_macros.specs.declared.step.StepExit.TheVariants.{Continue}
 use Rattle.pp_macros.specs.declared.halt.Halt.{Halt}
 use Rattle.pp_macros.specs.declared.halt.Halt.TheVariants as halt
-use Rattle.pp_directives.proofs.SourceActsLemmas.{source_of, gives_after, fault_makes}
+use Rattle.pp_directives.proofs.SourceActsLemmas.{source_of, effect_after, fault_makes}
 
 match_false : (P Q : Type 0) (b : Bool) → b ≡ false → Q → MatchBool b P Q
 match_false P Q true e q = cc
@@ -69,9 +69,9 @@ module _ (definitions : List Defined) (blocks : List OpenBlock)
       → GivesNoted note change (record { effect = effect; taken = more }) (source_of mid definitions blocks line_offset has_text has_directive dead) result new
       → StepsBy result note change (record { effect = effect; taken = total })
   acts_make effect more total note change sum (Ok given) h =
-      inr (gives_after definitions blocks line_offset has_text has_directive dead old mid 1 more total sum taken note change effect (Ok given) new h)
+      inr (effect_after definitions blocks line_offset has_text has_directive dead old mid 1 more total sum taken note change given new effect h.acts)
   acts_make effect more total note change sum (Err (halt.Fault fault)) h =
-      inr (fault_makes definitions blocks line_offset has_text has_directive dead old mid new fault fewer h.1 effect total note change h.0)
+      inr (fault_makes definitions blocks line_offset has_text has_directive dead old mid new fault fewer h.acts.1 effect total note change h.acts.0)
   acts_make effect more total note change sum (Err halt.OutOfMemory) h = inl (record { some_left = λ e. absurd (omega (arith, ap length e)); fault = refl })
 
   directive_makes : (live : Bool) (block : Option BlockFacts) (name : Name) (word : Location) (result : Result (Option Token) Halt)

@@ -10,6 +10,7 @@ pub mod LineItems
 pub mod DefineReading
 pub mod LineHalts
 pub mod IfParsing
+pub mod ReadingLines
 pub mod ReadingWords
 pub mod Starting
 pub mod TokenTaking

@@ -1,10 +1,10 @@
 //! The contents of added definitions.
 
-ghost use Rattle.std.specs.Prelude.{◌≡◌, ◌-◌, ◌^◌, ◌<◌, length, IsTrue, All, IfOk};
-ghost use Rattle.pp_lexer.specs.TokenValue.{is_ordinary};
+ghost use Rattle.std.specs.Prelude.{◌≡◌, ◌-◌, ◌^◌, ◌<◌, length, IfOk};
 ghost use Rattle.pp_model.specs.Conversions.{is_newline};
 ghost use Rattle.pp_model.specs.Run.{items_of, content_tokens};
 ghost use Rattle.pp_macros.specs.inner.LineReading as spec;
+ghost use Rattle.pp_directives.specs.inner.ReadingLines.{AreOrdinary};
 
 use crate::source_lexer::SourceLexer;
 use pp_lexer::lexer;
@@ -26,8 +26,7 @@ pub fn content_tokens(alloc: Global, content: &str) -> Result<Vec<Token>, Halt>
     requires { length content.now < 2 ^ 32 - 1 }
     ensures is { spec.Meets (λ tokens. tokens.items) result (content_tokens
         (items_of content.now)) }
-    ensures ordinary { IfOk result (λ tokens. All (λ t. IsTrue
-        (is_ordinary t.value)) tokens.items) }
+    ensures ordinary { IfOk result (λ tokens. AreOrdinary tokens.items) }
 {
     let mut lexer = SourceLexer::new(alloc, content);
     let mut tokens = Vec::new(alloc);

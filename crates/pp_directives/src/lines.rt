@@ -4,7 +4,7 @@ ghost use Rattle.std.specs.Prelude.{◌≡◌, ◌≢◌, [], false, Some, Ok, I
 ghost use Rattle.pp_lexer.specs.Lexed.{comments_before};
 ghost use Rattle.pp_lexer.specs.TokenValue.{is_ordinary};
 ghost use Rattle.pp_model.specs.DefineLines.{is_attached_paren, definition_at, defined_on};
-ghost use Rattle.pp_model.specs.Lines.{first_token, first_name, ended_line, only_name, line_tokens, line_length};
+ghost use Rattle.pp_model.specs.Lines.{first_token, first_name, ended_line, only_name, line_tokens};
 ghost use Rattle.pp_model.specs.Lines.{comments_before_end};
 ghost use Rattle.pp_directives.specs.inner.LineEntries.{line_entries};
 ghost use Rattle.pp_directives.specs.inner.DefineReading.{opens_list};
@@ -12,9 +12,8 @@ ghost use Rattle.pp_directives.specs.inner.PlainText.{GivesLineToken};
 ghost use Rattle.pp_macros.specs.Held.{is_ordinary_leaf};
 ghost use Rattle.pp_macros.specs.inner.LineReading as spec;
 ghost use Rattle.pp_directives.specs.inner.ReadNames.{as_named, as_placed};
+ghost use Rattle.pp_directives.specs.inner.ReadingLines.{AreOrdinary, ReadsNext, ReadsLine, ReadsTokens};
 ghost use Rattle.pp_macros.specs.inner.ParameterReading.{function_at};
-ghost use Rattle.pp_macros.specs.inner.SourceLexed.{unreported_at};
-ghost use Rattle.pp_macros.specs.inner.Unreported.{Reports};
 
 use crate::parameters::parameters;
 use crate::source_lexer::SourceLexer;
@@ -29,9 +28,7 @@ use std::alloc::{AllocError, Global};
 /// The next token. The end of the source is an error at the directive's word.
 pub fn first_token(word: Location, lexer: &mut SourceLexer<'_>) -> Result<lexer::Token, Halt>
     requires { lexer.old.spent ≡ false }
-    ensures is { spec.Meets (λ t. t) result (first_token word lexer.old.rest) }
-    ensures takes { spec.TakesItems 1 lexer.old result lexer.new }
-    ensures errors { Reports result (unreported_at lexer.old) (unreported_at lexer.new) }
+    ensures reads { ReadsNext (λ t. t) (first_token word) lexer.old result lexer.new }
     ensures left { IfOk result (λ token. spec.LeavesSome (Some token) lexer.new.rest) }
 {
     match lexer.next_token()? {
@@ -50,9 +47,7 @@ pub struct PlacedName {
 /// The name that comes next. Anything else is an error.
 pub fn first_name(word: Location, lexer: &mut SourceLexer<'_>) -> Result<PlacedName, Halt>
     requires { lexer.old.spent ≡ false }
-    ensures is { spec.Meets as_placed result (first_name word lexer.old.rest) }
-    ensures takes { spec.TakesItems 1 lexer.old result lexer.new }
-    ensures errors { Reports result (unreported_at lexer.old) (unreported_at lexer.new) }
+    ensures reads { ReadsNext as_placed (first_name word) lexer.old result lexer.new }
     ensures left { IfOk result (λ name. lexer.new.rest ≢ []) }
 {
     let token = first_token(word, lexer)?;
@@ -66,9 +61,7 @@ pub fn first_name(word: Location, lexer: &mut SourceLexer<'_>) -> Result<PlacedN
 /// Fails unless the line ends here.
 pub fn ended_line(word: Location, lexer: &mut SourceLexer<'_>) -> Result<(), Halt>
     requires { lexer.old.spent ≡ false }
-    ensures is { spec.Meets (λ t. t) result (ended_line word lexer.old.rest) }
-    ensures takes { spec.TakesItems 1 lexer.old result lexer.new }
-    ensures errors { Reports result (unreported_at lexer.old) (unreported_at lexer.new) }
+    ensures { ReadsNext (λ t. t) (ended_line word) lexer.old result lexer.new }
 {
     let token = first_token(word, lexer)?;
     match token.value {
@@ -80,9 +73,7 @@ pub fn ended_line(word: Location, lexer: &mut SourceLexer<'_>) -> Result<(), Hal
 /// The name that is alone on the line. Anything else is an error.
 pub fn only_name(word: Location, lexer: &mut SourceLexer<'_>) -> Result<Text, Halt>
     requires { lexer.old.spent ≡ false }
-    ensures is { spec.Meets (λ t. t) result (only_name word lexer.old.rest) }
-    ensures takes { spec.TakesItems (line_length lexer.old.rest) lexer.old result lexer.new }
-    ensures errors { Reports result (unreported_at lexer.old) (unreported_at lexer.new) }
+    ensures { ReadsLine (λ t. t) (only_name word) lexer.old result lexer.new }
 {
     let first = first_name(word, lexer)?;
     ended_line(word, lexer)?;
@@ -92,9 +83,7 @@ pub fn only_name(word: Location, lexer: &mut SourceLexer<'_>) -> Result<Text, Ha
 // Passes a token. Returns whether the line continues after it.
 fn pass_token(lexer: &mut SourceLexer<'_>) -> Result<bool, Halt>
     requires { lexer.old.spent ≡ false }
-    ensures is { spec.Meets (λ t. t) result (spec.line_goes_on lexer.old.rest) }
-    ensures takes { spec.TakesItems 1 lexer.old result lexer.new }
-    ensures errors { Reports result (unreported_at lexer.old) (unreported_at lexer.new) }
+    ensures reads { ReadsNext (λ t. t) spec.line_goes_on lexer.old result lexer.new }
     ensures fault { spec.FaultTakesSome result lexer.old lexer.new }
 {
     if let Some(word) = lexer.peek_word() {
@@ -110,9 +99,7 @@ fn pass_token(lexer: &mut SourceLexer<'_>) -> Result<bool, Halt>
 /// Passes the rest of the line. An error of the lexer on it is returned.
 pub fn skip_line(lexer: &mut SourceLexer<'_>) -> Result<(), Halt>
     requires { lexer.old.spent ≡ false }
-    ensures is { spec.Meets (λ t. t) result (spec.skipped_line lexer.old.rest) }
-    ensures takes { spec.TakesItems (line_length lexer.old.rest) lexer.old result lexer.new }
-    ensures errors { Reports result (unreported_at lexer.old) (unreported_at lexer.new) }
+    ensures reads { ReadsLine (λ t. t) spec.skipped_line lexer.old result lexer.new }
     ensures fault { spec.FaultTakesSome result lexer.old lexer.new }
 {
     'line: while pass_token(lexer)? {}
@@ -122,9 +109,7 @@ pub fn skip_line(lexer: &mut SourceLexer<'_>) -> Result<(), Halt>
 /// Reads the end of an `#endif` line, or skips it if the block's surroundings are dead.
 pub fn endif_end(live_around: bool, word: Location, lexer: &mut SourceLexer<'_>) -> Result<(), Halt>
     requires { lexer.old.spent ≡ false }
-    ensures is { spec.Meets (λ t. t) result (spec.endif_end live_around word lexer.old.rest) }
-    ensures takes { spec.TakesItems (line_length lexer.old.rest) lexer.old result lexer.new }
-    ensures errors { Reports result (unreported_at lexer.old) (unreported_at lexer.new) }
+    ensures { ReadsLine (λ t. t) (spec.endif_end live_around word) lexer.old result lexer.new }
 {
     if live_around {
         ended_line(word, lexer)
@@ -166,9 +151,7 @@ fn plain_token(alloc: Global, lexer: &mut SourceLexer<'_>) -> Result<Option<Toke
 #[inline(always)]
 pub fn next_line_token(alloc: Global, lexer: &mut SourceLexer<'_>) -> Result<Option<Token>, Halt>
     requires { lexer.old.spent ≡ false }
-    ensures is { spec.Meets (λ t. t) result (spec.next_line_token lexer.old.rest) }
-    ensures takes { spec.TakesItems 1 lexer.old result lexer.new }
-    ensures errors { Reports result (unreported_at lexer.old) (unreported_at lexer.new) }
+    ensures reads { ReadsNext (λ t. t) spec.next_line_token lexer.old result lexer.new }
     ensures ordinary { spec.IsOrdinaryIfOk result }
     ensures comments { IfOk result (λ next. lexer.new.had_comments
         ≡ comments_before lexer.old.rest lexer.old.at_end) }
@@ -209,14 +192,7 @@ fn read_line<T: TokenList>(
     requires ordinary { IfSome first (λ t. IsTrue (is_ordinary t.value)) }
     requires left { IfSome first (λ t. lexer.old.rest ≢ []) }
     requires empty { T.tokens tokens.old ≡ [] }
-    ensures is { spec.Meets (λ _. T.tokens tokens.new) result (spec.tokens_after first lexer.old.rest) }
-    ensures takes { spec.TakesItems
-        (spec.length_after first lexer.old.rest) lexer.old result lexer.new }
-    ensures errors { Reports result (unreported_at lexer.old) (unreported_at lexer.new) }
-    ensures comments { IfOk result (λ _. lexer.new.had_comments
-        ≡ spec.comments_after first lexer.old.rest lexer.old.had_comments) }
-    ensures ordinary { IfOk result (λ _. All (λ t. IsTrue
-        (is_ordinary t.value)) (T.tokens tokens.new)) }
+    ensures { ReadsTokens (λ _. T.tokens tokens.new) first lexer.old result lexer.new }
 {
     let mut next = first;
     while let Some(token) = next {
@@ -235,15 +211,7 @@ pub fn line_tokens_from(
     requires unspent { lexer.old.spent ≡ false }
     requires ordinary { IfSome first (λ t. IsTrue (is_ordinary t.value)) }
     requires left { IfSome first (λ t. lexer.old.rest ≢ []) }
-    ensures is { spec.Meets (λ tokens. tokens.items) result (spec.tokens_after first
-        lexer.old.rest) }
-    ensures takes { spec.TakesItems
-        (spec.length_after first lexer.old.rest) lexer.old result lexer.new }
-    ensures errors { Reports result (unreported_at lexer.old) (unreported_at lexer.new) }
-    ensures comments { IfOk result (λ tokens. lexer.new.had_comments
-        ≡ spec.comments_after first lexer.old.rest lexer.old.had_comments) }
-    ensures ordinary { IfOk result (λ tokens. All (λ t. IsTrue
-        (is_ordinary t.value)) tokens.items) }
+    ensures { ReadsTokens (λ tokens. tokens.items) first lexer.old result lexer.new }
 {
     let room = if first.is_some() { 16 } else { 0 };
     let mut tokens = Vec::with_capacity(alloc, room)?;
@@ -254,13 +222,10 @@ pub fn line_tokens_from(
 /// The tokens of the rest of the line.
 pub fn rest_of_line(alloc: Global, lexer: &mut SourceLexer<'_>) -> Result<Vec<Token>, Halt>
     requires { lexer.old.spent ≡ false }
-    ensures is { spec.Meets (λ tokens. tokens.items) result (line_tokens lexer.old.rest) }
-    ensures takes { spec.TakesItems (line_length lexer.old.rest) lexer.old result lexer.new }
-    ensures errors { Reports result (unreported_at lexer.old) (unreported_at lexer.new) }
+    ensures reads { ReadsLine (λ tokens. tokens.items) line_tokens lexer.old result lexer.new }
     ensures comments { IfOk result (λ tokens. lexer.old.rest ≢ [] → lexer.new.had_comments
         ≡ comments_before_end lexer.old.rest) }
-    ensures ordinary { IfOk result (λ tokens. All (λ t. IsTrue
-        (is_ordinary t.value)) tokens.items) }
+    ensures ordinary { IfOk result (λ tokens. AreOrdinary tokens.items) }
 {
     let first = next_line_token(alloc, lexer)?;
     line_tokens_from(alloc, first, lexer)
@@ -269,10 +234,8 @@ pub fn rest_of_line(alloc: Global, lexer: &mut SourceLexer<'_>) -> Result<Vec<To
 /// The tokens of the rest of the line, for an expander.
 pub fn line_reads(alloc: Global, lexer: &mut SourceLexer<'_>) -> Result<LineReads, Halt>
     requires { lexer.old.spent ≡ false }
-    ensures is { spec.Meets (λ tokens. tokens) result (line_tokens lexer.old.rest) }
-    ensures takes { spec.TakesItems (line_length lexer.old.rest) lexer.old result lexer.new }
-    ensures errors { Reports result (unreported_at lexer.old) (unreported_at lexer.new) }
-    ensures ordinary { IfOk result (λ tokens. All (λ t. IsTrue (is_ordinary t.value)) tokens) }
+    ensures reads { ReadsLine (λ tokens. tokens) line_tokens lexer.old result lexer.new }
+    ensures ordinary { IfOk result AreOrdinary }
 {
     let first = next_line_token(alloc, lexer)?;
     let mut tokens = LineReads::new(alloc)?;
@@ -284,9 +247,7 @@ pub fn line_reads(alloc: Global, lexer: &mut SourceLexer<'_>) -> Result<LineRead
 pub fn line_tokens(alloc: Global, lexer: &mut SourceLexer<'_>) -> Result<Tokens, Halt>
     requires unspent { lexer.old.spent ≡ false }
     requires left { lexer.old.rest ≢ [] }
-    ensures is { spec.Meets (λ t. t) result (line_entries lexer.old.rest) }
-    ensures takes { spec.TakesItems (line_length lexer.old.rest) lexer.old result lexer.new }
-    ensures errors { Reports result (unreported_at lexer.old) (unreported_at lexer.new) }
+    ensures reads { ReadsLine (λ t. t) line_entries lexer.old result lexer.new }
     ensures comments { IfOk result (λ tokens. lexer.new.had_comments
         ≡ comments_before_end lexer.old.rest) }
     ensures ordinary { IfOk result
@@ -313,9 +274,7 @@ fn function_after(
     lexer: &mut SourceLexer<'_>,
 ) -> Result<Define, Halt>
     requires { lexer.old.spent ≡ false }
-    ensures is { spec.Meets (λ d. d) result (function_at word lexer.old.rest) }
-    ensures takes { spec.TakesItems (line_length lexer.old.rest) lexer.old result lexer.new }
-    ensures errors { Reports result (unreported_at lexer.old) (unreported_at lexer.new) }
+    ensures { ReadsLine (λ d. d) (function_at word) lexer.old result lexer.new }
 {
     let names = parameters(alloc, word, lexer)?;
     let body = rest_of_line(alloc, lexer)?;
@@ -325,9 +284,7 @@ fn function_after(
 // The definition after a macro's name.
 fn definition(alloc: Global, word: Location, lexer: &mut SourceLexer<'_>) -> Result<Define, Halt>
     requires { lexer.old.spent ≡ false }
-    ensures is { spec.Meets (λ d. d) result (definition_at word lexer.old.rest) }
-    ensures takes { spec.TakesItems (line_length lexer.old.rest) lexer.old result lexer.new }
-    ensures errors { Reports result (unreported_at lexer.old) (unreported_at lexer.new) }
+    ensures { ReadsLine (λ d. d) (definition_at word) lexer.old result lexer.new }
 {
     let token = lexer.next_token()?;
     if opens_parameters(&token) {
@@ -346,9 +303,7 @@ pub fn define_line(
     lexer: &mut SourceLexer<'_>,
 ) -> Result<DefineLine, Halt>
     requires { lexer.old.spent ≡ false }
-    ensures is { spec.Meets as_named result (defined_on word lexer.old.rest) }
-    ensures takes { spec.TakesItems (line_length lexer.old.rest) lexer.old result lexer.new }
-    ensures errors { Reports result (unreported_at lexer.old) (unreported_at lexer.new) }
+    ensures { ReadsLine as_named (defined_on word) lexer.old result lexer.new }
 {
     let PlacedName { name, location } = first_name(word, lexer)?;
     let define = definition(alloc, word, lexer)?;

@@ -9,6 +9,7 @@ ghost use Rattle.pp_macros.specs.inner.ParameterReading.{GoesOnInLine};
 ghost use Rattle.pp_macros.specs.inner.SourceLexed.{unreported_at};
 ghost use Rattle.pp_macros.specs.inner.Unreported.{Reports};
 ghost use Rattle.pp_directives.specs.inner.ReadNames.{parameters_to};
+ghost use Rattle.pp_directives.specs.inner.ReadingLines.{ReadsNext};
 
 use crate::lines::first_token;
 use crate::source_lexer::SourceLexer;
@@ -26,11 +27,9 @@ fn one_parameter(
     lexer: &mut SourceLexer<'_>,
 ) -> Result<Text, Halt>
     requires { lexer.old.spent ≡ false }
-    ensures is { spec.Meets (λ name. names.now ++ name ∷ []) result
-        (one_parameter word names.now lexer.old.rest) }
+    ensures reads { ReadsNext (λ name. names.now ++ name ∷ []) (one_parameter word names.now)
+        lexer.old result lexer.new }
     ensures new { IfOk result (λ name. is_in name names.now ≡ false) }
-    ensures takes { spec.TakesItems 1 lexer.old result lexer.new }
-    ensures errors { Reports result (unreported_at lexer.old) (unreported_at lexer.new) }
 {
     let token = first_token(word, lexer)?;
     let location = token.location;
@@ -49,9 +48,7 @@ fn one_parameter(
 // The name of the first parameter, or `None` if there is none.
 fn first_parameter(word: Location, lexer: &mut SourceLexer<'_>) -> Result<Option<Text>, Halt>
     requires { lexer.old.spent ≡ false }
-    ensures is { spec.Meets alone result (first_parameter word lexer.old.rest) }
-    ensures takes { spec.TakesItems 1 lexer.old result lexer.new }
-    ensures errors { Reports result (unreported_at lexer.old) (unreported_at lexer.new) }
+    ensures { ReadsNext alone (first_parameter word) lexer.old result lexer.new }
 {
     let token = first_token(word, lexer)?;
     match token.value {
@@ -65,9 +62,7 @@ fn first_parameter(word: Location, lexer: &mut SourceLexer<'_>) -> Result<Option
 // whether they end.
 fn ends_parameters(word: Location, lexer: &mut SourceLexer<'_>) -> Result<bool, Halt>
     requires { lexer.old.spent ≡ false }
-    ensures is { spec.Meets (λ b. b) result (ends_parameters word lexer.old.rest) }
-    ensures takes { spec.TakesItems 1 lexer.old result lexer.new }
-    ensures errors { Reports result (unreported_at lexer.old) (unreported_at lexer.new) }
+    ensures { ReadsNext (λ b. b) (ends_parameters word) lexer.old result lexer.new }
 {
     let token = first_token(word, lexer)?;
     match token.value {

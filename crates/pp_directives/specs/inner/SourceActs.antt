@@ -1,6 +1,6 @@
 -- What a directive does once its word or its number sign has been read.
 use Rattle.std.specs.Prelude.{◌≡◌, ◌≤◌, ◌+◌, Bool, false, not, if◌then◌else◌, List, length, drop, Option, Some, None}
-use Rattle.std.specs.Prelude.{Result, Ok, Err, ⊤}
+use Rattle.std.specs.Prelude.{Result, Ok, Err, IfOk, ⊤}
 use Rattle.pp_lexer.specs.Lexed.{Seen}
 use Rattle.pp_lexer.specs.declared.lexer.item.Token.{Token as LexerToken}
 use Rattle.pp_lexer.specs.declared.token.PreprocessorError.TheVariants.{DefineRedefined}
@@ -15,8 +15,10 @@ use Rattle.pp_model.specs.Sights.{directive_of}
 use Rattle.pp_model.specs.inner.Sights.{directive_sight}
 use Rattle.pp_model.specs.declared.definition.Named.{Named}
 use Rattle.pp_macros.specs.inner.Defined.{Defined, meaning_of, names_in, body_tokens}
+use Rattle.pp_macros.specs.Held.{HoldsOrdinary}
 use Rattle.pp_macros.specs.Item.{Step}
-use Rattle.pp_macros.specs.inner.Source.{Source, Condition, LineNumber, Makes}
+use Rattle.pp_macros.specs.inner.Source.{Source, Condition, LineNumber, Makes, unreported_of}
+use Rattle.pp_macros.specs.inner.Unreported.{Reports}
 use Rattle.pp_model.specs.Moves.{Effect, fails, defines, decides, renumbers, Move, failing, directive_move}
 use Rattle.pp_model.specs.Moves.{BlockFacts, passing}
 use Rattle.pp_model.specs.inner.Moves.{taking_more}
@@ -51,12 +53,19 @@ FailsWith _ definitions fault = ⊥
 
 -- A directive does what the move says, if this becomes of the blocks: with a value, the step that shows it; with a
 -- fault, the fault of the move's effect. If memory runs out, this says nothing.
-abbrev pub ActsAs : {A : Type 0} → (A → Step Token) → Note → BlockChange → Move → Source → Result A Halt → Source
+abbrev pub DoesMove : {A : Type 0} → (A → Step Token) → Note → BlockChange → Move → Source → Result A Halt → Source
     → Type 0
-ActsAs shows note change move old (Ok value) new = Makes note change move old (shows value) new
-ActsAs shows note change move old (Err (halt.Fault fault)) new =
+DoesMove shows note change move old (Ok value) new = Makes note change move old (shows value) new
+DoesMove shows note change move old (Err (halt.Fault fault)) new =
     FailsWith move.effect old.definitions fault × HasKept old new
-ActsAs shows note change move old (Err halt.OutOfMemory) new = ⊤
+DoesMove shows note change move old (Err halt.OutOfMemory) new = ⊤
+
+-- A directive does so; what it gives holds ordinary tokens; and an error of the lexer that it reads is reported.
+pub record ActsAs {A : Type 0} (shows : A → Step Token) (note : Note) (change : BlockChange) (move : Move)
+    (old : Source) (result : Result A Halt) (new : Source) : Type 0 where
+  pub acts : DoesMove shows note change move old result new
+  pub holds : IfOk result (λ value. IfOk (shows value) (λ token. HoldsOrdinary token.value))
+  pub errors : Reports result (unreported_of old) (unreported_of new)
 
 -- a directive that gives nothing, as one that may give an item
 abbrev pub without_item : Result (Unit {0}) Halt → Result (Option Token) Halt

@@ -1,18 +1,15 @@
 //! What the lines of directives do, in live and in dead text.
 
-ghost use Rattle.std.specs.Prelude.{◌≡◌, ◌≢◌, [], drop, false, true, IfOk, IfSome, pos, ◌-ℤ◌};
+ghost use Rattle.std.specs.Prelude.{◌≡◌, ◌≢◌, [], drop, false, true, pos, ◌-ℤ◌};
 ghost use Rattle.pp_model.specs.Lines.{only_name, line_tokens, comments_before_end, first_token};
 ghost use Rattle.pp_model.specs.Blocks.{part_of};
 ghost use Rattle.pp_model.specs.declared.directive.Directive.TheVariants as d;
-ghost use Rattle.pp_macros.specs.Held.{HoldsOrdinary};
 ghost use Rattle.pp_directives.specs.inner.ReadNames.{as_named};
 ghost use Rattle.pp_macros.specs.inner.OpenBlocks.{facts_among, unchanged, block_change};
-ghost use Rattle.pp_macros.specs.inner.Source.{unreported_of};
 ghost use Rattle.pp_directives.specs.inner.LineEntries.{entries_move};
 ghost use Rattle.pp_directives.specs.inner.SourceActs.{Acts, GivesDirective, ActsAsItem, ActsNoted, Gives, GivesNoted};
 ghost use Rattle.pp_directives.specs.inner.SourceActs.{without_item, word_change, word_move, word_note, define_move};
 ghost use Rattle.pp_model.specs.Moves as moves;
-ghost use Rattle.pp_macros.specs.inner.Unreported.{Unreported, Reports};
 
 use crate::directives::DirectiveProcessor;
 use crate::line_value::line_number;
@@ -36,10 +33,7 @@ fn is_item(directive: Directive) -> bool {
 
 // The result of a directive that gives nothing, as that of one that may give an item.
 fn without_item(acted: Result<(), Halt>) -> Result<Option<Token>, Halt>
-    ensures is { result ≡ without_item acted }
-    ensures holds { IfOk result (λ given. IfSome given (λ token. HoldsOrdinary token.value)) }
-    ensures errors { (before after : Unreported) → Reports acted before after
-        → Reports result before after }
+    ensures { result ≡ without_item acted }
 {
     acted?;
     Ok(None)
@@ -49,8 +43,7 @@ impl<'a> DirectiveProcessor<'a> {
     // Defines a name as its line says. If the name has the same definition already, the old one stays.
     fn add(&mut self, line: DefineLine) -> Result<(), Halt>
         requires { self.old.spent ≡ false }
-        ensures acts { Acts unchanged (define_move (as_named line)) self.old result self.new }
-        ensures errors { Reports result (unreported_of self.old) (unreported_of self.new) }
+        ensures { Acts unchanged (define_move (as_named line)) self.old result self.new }
     {
         if let Some(before) = self.definitions.get(line.name.as_str()) {
             let is_same = before.is_same(&line.define);
@@ -68,9 +61,8 @@ impl<'a> DirectiveProcessor<'a> {
     // Acts on a `#define` line, after its word.
     fn define(&mut self, word: Location) -> Result<(), Halt>
         requires { self.old.spent ≡ false }
-        ensures acts { Acts unchanged (moves.directive_move true
+        ensures { Acts unchanged (moves.directive_move true
             (facts_among self.old.blocks) d.Define word self.old.rest) self.old result self.new }
-        ensures errors { Reports result (unreported_of self.old) (unreported_of self.new) }
     {
         let line = define_line(self.alloc, word, &mut self.lexer)?;
         self.add(line)
@@ -79,9 +71,8 @@ impl<'a> DirectiveProcessor<'a> {
     // Acts on an `#undef` line, after its word. A name that is followed by more tokens is undefined too.
     fn undef(&mut self, word: Location) -> Result<(), Halt>
         requires { self.old.spent ≡ false }
-        ensures acts { Acts unchanged (moves.line_move (only_name word self.old.rest)
+        ensures { Acts unchanged (moves.line_move (only_name word self.old.rest)
             moves.undefines self.old.rest) self.old result self.new }
-        ensures errors { Reports result (unreported_of self.old) (unreported_of self.new) }
     {
         let first = first_name(word, &mut self.lexer)?;
         self.definitions.remove(first.name.as_str());
@@ -100,9 +91,8 @@ impl<'a> DirectiveProcessor<'a> {
     // follows that number has a fault.
     fn number_lines(&mut self, word: Location) -> Result<(), Halt>
         requires { self.old.spent ≡ false }
-        ensures acts { Acts unchanged (moves.line_move (line_tokens self.old.rest)
+        ensures { Acts unchanged (moves.line_move (line_tokens self.old.rest)
             (moves.renumbers word) self.old.rest) self.old result self.new }
-        ensures errors { Reports result (unreported_of self.old) (unreported_of self.new) }
     {
         let tokens = line_reads(self.alloc, &mut self.lexer)?;
         match line_number(self.alloc, word, tokens, &self.definitions) {
@@ -123,8 +113,7 @@ impl<'a> DirectiveProcessor<'a> {
     // Skips the line.
     fn skip(&mut self) -> Result<(), Halt>
         requires { self.old.spent ≡ false }
-        ensures acts { Acts unchanged (moves.skip_move self.old.rest) self.old result self.new }
-        ensures errors { Reports result (unreported_of self.old) (unreported_of self.new) }
+        ensures { Acts unchanged (moves.skip_move self.old.rest) self.old result self.new }
     {
         skip_line(&mut self.lexer)
     }
@@ -133,11 +122,9 @@ impl<'a> DirectiveProcessor<'a> {
     fn version(&mut self, word: Location) -> Result<Token, Halt>
         requires unspent { self.old.spent ≡ false }
         requires left { self.old.rest ≢ [] }
-        ensures acts { ActsAsItem
+        ensures { ActsAsItem
             (entries_move (moves.version_item (comments_before_end self.old.rest)) word self.old.rest)
             self.old result self.new }
-        ensures holds { IfOk result (λ token. HoldsOrdinary token.value) }
-        ensures errors { Reports result (unreported_of self.old) (unreported_of self.new) }
     {
         let tokens = line_tokens(self.alloc, &mut self.lexer)?;
         let value = TokenValue::Version(Version {
@@ -155,10 +142,8 @@ impl<'a> DirectiveProcessor<'a> {
     fn extension(&mut self, word: Location) -> Result<Token, Halt>
         requires unspent { self.old.spent ≡ false }
         requires left { self.old.rest ≢ [] }
-        ensures acts { ActsAsItem
+        ensures { ActsAsItem
             (entries_move moves.extension_item word self.old.rest) self.old result self.new }
-        ensures holds { IfOk result (λ token. HoldsOrdinary token.value) }
-        ensures errors { Reports result (unreported_of self.old) (unreported_of self.new) }
     {
         let tokens = line_tokens(self.alloc, &mut self.lexer)?;
         let value = TokenValue::Extension(Extension {
@@ -175,10 +160,8 @@ impl<'a> DirectiveProcessor<'a> {
     fn pragma(&mut self, word: Location) -> Result<Token, Halt>
         requires unspent { self.old.spent ≡ false }
         requires left { self.old.rest ≢ [] }
-        ensures acts { ActsAsItem
+        ensures { ActsAsItem
             (entries_move moves.pragma_item word self.old.rest) self.old result self.new }
-        ensures holds { IfOk result (λ token. HoldsOrdinary token.value) }
-        ensures errors { Reports result (unreported_of self.old) (unreported_of self.new) }
     {
         let tokens = line_tokens(self.alloc, &mut self.lexer)?;
         Ok(Token {
@@ -191,10 +174,8 @@ impl<'a> DirectiveProcessor<'a> {
     fn act_live(&mut self, directive: Directive, word: Location) -> Result<Option<Token>, Halt>
         requires unspent { self.old.spent ≡ false }
         requires left { self.old.rest ≢ [] }
-        ensures gives { Gives (block_change (part_of directive) word) (moves.directive_move true
+        ensures { Gives (block_change (part_of directive) word) (moves.directive_move true
             (facts_among self.old.blocks) directive word self.old.rest) self.old result self.new }
-        ensures holds { IfOk result (λ given. IfSome given (λ token. HoldsOrdinary token.value)) }
-        ensures errors { Reports result (unreported_of self.old) (unreported_of self.new) }
     {
         match directive {
             Directive::Define => without_item(self.define(word)),
@@ -217,9 +198,8 @@ impl<'a> DirectiveProcessor<'a> {
     // Acts on a directive in dead text, after its word.
     fn act_dead(&mut self, directive: Directive, word: Location) -> Result<(), Halt>
         requires { self.old.spent ≡ false }
-        ensures acts { Acts (block_change (part_of directive) word) (moves.directive_move false
+        ensures { Acts (block_change (part_of directive) word) (moves.directive_move false
             (facts_among self.old.blocks) directive word self.old.rest) self.old result self.new }
-        ensures errors { Reports result (unreported_of self.old) (unreported_of self.new) }
     {
         match directive {
             Directive::If | Directive::Ifdef | Directive::Ifndef => self.open_unread(word),
@@ -241,12 +221,10 @@ impl<'a> DirectiveProcessor<'a> {
     // line gives nothing. A line that would be an item counts as a directive even if it has a fault.
     fn read_live(&mut self, hash: Location) -> Result<Option<Token>, Halt>
         requires { self.old.spent ≡ false }
-        ensures gives { GivesNoted (word_note true (first_token hash self.old.rest))
+        ensures { GivesNoted (word_note true (first_token hash self.old.rest))
             (word_change (first_token hash self.old.rest))
             (word_move true (facts_among self.old.blocks) (first_token hash self.old.rest)
             (drop 1 self.old.rest)) self.old result self.new }
-        ensures holds { IfOk result (λ given. IfSome given (λ token. HoldsOrdinary token.value)) }
-        ensures errors { Reports result (unreported_of self.old) (unreported_of self.new) }
     {
         let token = first_token(hash, &mut self.lexer)?;
         let word = token.location;
@@ -276,11 +254,10 @@ impl<'a> DirectiveProcessor<'a> {
     // Acts on a directive in dead text, after its number sign. Without a word after the number sign it does nothing.
     fn read_dead(&mut self, hash: Location) -> Result<(), Halt>
         requires { self.old.spent ≡ false }
-        ensures acts { ActsNoted (word_note false (first_token hash self.old.rest))
+        ensures { ActsNoted (word_note false (first_token hash self.old.rest))
             (word_change (first_token hash self.old.rest))
             (word_move false (facts_among self.old.blocks) (first_token hash self.old.rest)
             (drop 1 self.old.rest)) self.old result self.new }
-        ensures errors { Reports result (unreported_of self.old) (unreported_of self.new) }
     {
         let token = first_token(hash, &mut self.lexer)?;
         let word = token.location;
@@ -303,9 +280,7 @@ impl<'a> DirectiveProcessor<'a> {
     // The item that a directive gives, if it gives one, after its number sign.
     pub(crate) fn read_directive(&mut self, hash: Location) -> Result<Option<Token>, Halt>
         requires { self.old.spent ≡ false }
-        ensures gives { GivesDirective hash self.old result self.new }
-        ensures holds { IfOk result (λ given. IfSome given (λ token. HoldsOrdinary token.value)) }
-        ensures errors { Reports result (unreported_of self.old) (unreported_of self.new) }
+        ensures { GivesDirective hash self.old result self.new }
     {
         if self.is_live() {
             return self.read_live(hash);

@@ -4,10 +4,8 @@ ghost use Rattle.std.specs.Prelude.{◌≡◌, false, Some};
 ghost use Rattle.pp_model.specs.Lines.{only_name, line_tokens};
 ghost use Rattle.pp_model.specs.declared.block.Part.TheVariants as part;
 ghost use Rattle.pp_macros.specs.inner.OpenBlocks.{last_block, facts_among, elif_change, block_change};
-ghost use Rattle.pp_macros.specs.inner.Source.{unreported_of};
 ghost use Rattle.pp_directives.specs.inner.SourceActs.{Acts, is_as};
 ghost use Rattle.pp_model.specs.Moves as moves;
-ghost use Rattle.pp_macros.specs.inner.Unreported.{Reports};
 
 use crate::directives::DirectiveProcessor;
 use crate::line_value::condition;
@@ -20,10 +18,9 @@ impl<'a> DirectiveProcessor<'a> {
     // Opens a block whose condition is that the name on the line is defined, or (if not `wanted`) that it isn't.
     pub(crate) fn open_where(&mut self, wanted: bool, word: Location) -> Result<(), Halt>
         requires { self.old.spent ≡ false }
-        ensures acts { Acts (block_change (Some part.Opens) word)
+        ensures { Acts (block_change (Some part.Opens) word)
             (moves.line_move (only_name word self.old.rest) (moves.tests (is_as wanted))
             self.old.rest) self.old result self.new }
-        ensures errors { Reports result (unreported_of self.old) (unreported_of self.new) }
     {
         let name = only_name(word, &mut self.lexer)?;
         let is_defined = self.definitions.get(name.as_str()).is_some();
@@ -36,10 +33,9 @@ impl<'a> DirectiveProcessor<'a> {
     // Opens a block with the condition on the line.
     pub(crate) fn open_if(&mut self, word: Location) -> Result<(), Halt>
         requires { self.old.spent ≡ false }
-        ensures acts { Acts (block_change (Some part.Opens) word)
+        ensures { Acts (block_change (Some part.Opens) word)
             (moves.line_move (line_tokens self.old.rest) (moves.decides word) self.old.rest)
             self.old result self.new }
-        ensures errors { Reports result (unreported_of self.old) (unreported_of self.new) }
     {
         let tokens = line_reads(self.alloc, &mut self.lexer)?;
         let holds = condition(self.alloc, word, tokens, &self.definitions)?;
@@ -50,9 +46,8 @@ impl<'a> DirectiveProcessor<'a> {
     // Opens a block in dead text, without reading its line.
     pub(crate) fn open_unread(&mut self, word: Location) -> Result<(), Halt>
         requires { self.old.spent ≡ false }
-        ensures acts { Acts (block_change (Some part.Opens) word)
+        ensures { Acts (block_change (Some part.Opens) word)
             (moves.skip_move self.old.rest) self.old result self.new }
-        ensures errors { Reports result (unreported_of self.old) (unreported_of self.new) }
     {
         self.blocks.push(OpenBlock::unread(word))?;
         skip_line(&mut self.lexer)
@@ -62,8 +57,7 @@ impl<'a> DirectiveProcessor<'a> {
     fn skip_branch(&mut self, block: OpenBlock) -> Result<(), Halt>
         requires unspent { self.old.spent ≡ false }
         requires innermost { last_block self.old.blocks ≡ Some block }
-        ensures acts { Acts elif_change (moves.skip_move self.old.rest) self.old result self.new }
-        ensures errors { Reports result (unreported_of self.old) (unreported_of self.new) }
+        ensures { Acts elif_change (moves.skip_move self.old.rest) self.old result self.new }
     {
         self.blocks.replace_last(block.skipped());
         skip_line(&mut self.lexer)
@@ -73,10 +67,9 @@ impl<'a> DirectiveProcessor<'a> {
     fn part_if(&mut self, block: OpenBlock, word: Location) -> Result<(), Halt>
         requires unspent { self.old.spent ≡ false }
         requires innermost { last_block self.old.blocks ≡ Some block }
-        ensures acts { Acts elif_change
+        ensures { Acts elif_change
             (moves.line_move (line_tokens self.old.rest) (moves.decides word) self.old.rest)
             self.old result self.new }
-        ensures errors { Reports result (unreported_of self.old) (unreported_of self.new) }
     {
         self.blocks.replace_last(block.skipped());
         let tokens = line_reads(self.alloc, &mut self.lexer)?;
@@ -88,10 +81,9 @@ impl<'a> DirectiveProcessor<'a> {
     // Acts on an `#elif` line, after its word. After a fault the text that follows is dead.
     pub(crate) fn elif_line(&mut self, word: Location) -> Result<(), Halt>
         requires { self.old.spent ≡ false }
-        ensures acts { Acts elif_change
+        ensures { Acts elif_change
             (moves.elif_move (facts_among self.old.blocks) word self.old.rest)
             self.old result self.new }
-        ensures errors { Reports result (unreported_of self.old) (unreported_of self.new) }
     {
         let Some(block) = self.blocks.last() else {
             self.dead_for_good = true;
@@ -110,10 +102,9 @@ impl<'a> DirectiveProcessor<'a> {
     // Acts on an `#else` line, after its word.
     pub(crate) fn else_line(&mut self, word: Location) -> Result<(), Halt>
         requires { self.old.spent ≡ false }
-        ensures acts { Acts (block_change (Some part.Else) word)
+        ensures { Acts (block_change (Some part.Else) word)
             (moves.else_move (facts_among self.old.blocks) word self.old.rest)
             self.old result self.new }
-        ensures errors { Reports result (unreported_of self.old) (unreported_of self.new) }
     {
         ended_line(word, &mut self.lexer)?;
         let Some(block) = self.blocks.last() else {
@@ -129,10 +120,9 @@ impl<'a> DirectiveProcessor<'a> {
     // Acts on an `#endif` line, after its word: the block closes, also if more tokens follow on the line.
     pub(crate) fn endif_line(&mut self, word: Location) -> Result<(), Halt>
         requires { self.old.spent ≡ false }
-        ensures acts { Acts (block_change (Some part.Closes) word)
+        ensures { Acts (block_change (Some part.Closes) word)
             (moves.endif_move (facts_among self.old.blocks) word self.old.rest)
             self.old result self.new }
-        ensures errors { Reports result (unreported_of self.old) (unreported_of self.new) }
     {
         let Some(block) = self.blocks.pop() else {
             return Err(Halt::Fault((PreprocessorError::EndifOutsideOfBlock, word)));

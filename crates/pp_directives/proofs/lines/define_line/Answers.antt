@@ -1,10 +1,14 @@
-use Rattle.std.proofs.Common.{Ok}
+use Rattle.std.proofs.Common.{Ok, rules}
 use Rattle.pp_directives.proofs.LineReadingLemmas.{takes_after}
 use Rattle.pp_macros.proofs.work.ParameterLemmas.{name_place}
 use Rattle.pp_directives.proofs.lines.define_line.Goals as goal
 
-pub returns-clause-takes : goal.returns-clause-takes
-returns-clause-takes c =
-    let n = c.in_ok-name.ensures in
-    takes_after (Ok c.in_ok-define.define) 1 _ _ _ _ _ n.takes c.in_ok-define.ensures.takes
-    (name_place c.args.word c.args.lexer.now.rest c.first_name.new.lexer.rest _ n.is n.takes.rest)
+pub returns : goal.returns
+returns c =
+    let n = c.in_ok-name.ensures.reads in
+    record {
+      is = search rules;
+      takes = takes_after (Ok c.in_ok-define.define) 1 _ _ _ _ _ n.takes c.in_ok-define.ensures.takes
+          (name_place c.args.word c.args.lexer.now.rest c.first_name.new.lexer.rest _ n.is n.takes.rest);
+      errors = search rules;
+    }

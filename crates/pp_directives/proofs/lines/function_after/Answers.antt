@@ -1,9 +1,9 @@
-use Rattle.std.proofs.Common.{◌∙◌, sym}
+use Rattle.std.proofs.Common.{◌∙◌, sym, rules}
 use Rattle.pp_macros.proofs.work.ParameterLemmas.{parameters_on_line}
 use Rattle.pp_directives.proofs.lines.function_after.Goals as goal
 
-pub returns-clause-takes : goal.returns-clause-takes
-returns-clause-takes c =
+pub returns : goal.returns
+returns c =
     let p = parameters_on_line c.args.word c.args.lexer.now.rest _ c.in_ok-names.ensures.is in
-    let t = c.in_ok-body.ensures.takes in
-    record { rest = t.rest ∙ sym p.place; spent = t.spent }
+    let t = c.in_ok-body.ensures.reads.takes in
+    record { is = search rules; takes = record { rest = t.rest ∙ sym p.place; spent = t.spent }; errors = search rules }

@@ -1,10 +1,9 @@
-use Rattle.std.proofs.Common.{Ok, ap, drop, ◌∙◌, sym}
-use Rattle.pp_macros.specs.inner.LineReading.{length_after}
-use Rattle.pp_directives.proofs.LineReadingLemmas.{line_place-next, takes_after}
+use Rattle.std.proofs.Common.{Ok}
+use Rattle.pp_directives.proofs.LineReadingLemmas.{reads_line}
 use Rattle.pp_directives.proofs.lines.line_reads.Goals as goal
 
-pub returns-clause-takes : goal.returns-clause-takes
-returns-clause-takes c =
-    let n = c.in_ok-first.ensures in
-    takes_after (Ok c.in_ok-read_line.field-0) 1 _ _ _ _ _ n.takes c.in_ok-read_line.ensures.takes
-    (line_place-next c.args.lexer.now.rest c.in_ok-first.first n.is ∙ ap (λ r. drop (length_after c.in_ok-first.first r) r) (sym n.takes.rest))
+pub returns-clause-reads : goal.returns-clause-reads
+returns-clause-reads c =
+    let done = Ok c.in_ok-read_line.field-0 in
+    let r = reads_line _ c.in_ok-first.first done _ _ _ c.in_ok-first.ensures.reads c.in_ok-read_line.ensures.reads in
+    record { is = r.is; takes = r.takes; errors = r.errors }

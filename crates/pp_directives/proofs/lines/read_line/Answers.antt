@@ -1,4 +1,4 @@
-use Rattle.std.proofs.Common.{◌∙◌, IsTrue, arith}
+use Rattle.std.proofs.Common.{◌∙◌, IsTrue, arith, rules}
 use Rattle.std.proofs.lemmas.List.Elements.{All-push}
 use Rattle.pp_lexer.specs.TokenValue.{is_ordinary}
 use Rattle.pp_lexer.specs.declared.token.Token.{Token}
@@ -9,7 +9,7 @@ use Rattle.pp_directives.proofs.lines.read_line.Goals as goal
 pub loop-next-preserved : goal.loop-next-preserved
 loop-next-preserved g c =
     let before = c.loop-next.invariant in
-    let n = c.in_ok-next.ensures in
+    let n = c.in_ok-next.ensures.reads in
     let items = c.in_ok-put.ensures in
     record {
       whole = whole_more _ _ _ n.is n.takes.rest _ _ _ _ (rw c.in-Some.is at before.whole) items;
@@ -18,10 +18,11 @@ loop-next-preserved g c =
       unspent = n.takes.spent;
       errors = n.errors ∙ before.errors;
       read_ordinary = rw items (All-push (λ (t : Token). IsTrue (is_ordinary t.value)) _ _ before.read_ordinary (rw c.in-Some.is at before.next_ordinary));
-      next_ordinary = n.ordinary;
-      comments = comments_more _ _ _ _ _ (rw c.in-Some.is at before.left) n.is n.takes.rest n.comments ∙ (rw c.in-Some.is at before.comments);
-      left = n.left;
+      next_ordinary = c.in_ok-next.ensures.ordinary;
+      comments = comments_more _ _ _ _ _ (rw c.in-Some.is at before.left) n.is n.takes.rest c.in_ok-next.ensures.comments ∙ (rw c.in-Some.is at before.comments);
+      left = c.in_ok-next.ensures.left;
     }
 
-pub returns-clause-comments : goal.returns-clause-comments
-returns-clause-comments g c = rw c.in_default.is at c.loop-next.invariant.comments
+pub returns : goal.returns
+returns g c =
+    record { reads = search rules; comments = rw c.in_default.is at c.loop-next.invariant.comments; ordinary = search rules }

@@ -1,10 +1,7 @@
-use Rattle.std.proofs.Common.{ap, drop, ◌∙◌, sym}
-use Rattle.pp_macros.specs.inner.LineReading.{length_after}
-use Rattle.pp_directives.proofs.LineReadingLemmas.{line_place-next, takes_after}
+use Rattle.pp_directives.proofs.LineReadingLemmas.{reads_line}
 use Rattle.pp_directives.proofs.lines.rest_of_line.Goals as goal
 
-pub returns-clause-takes : goal.returns-clause-takes
-returns-clause-takes c =
-    let n = c.in_ok-first.ensures in
-    takes_after c.line_tokens_from.result 1 _ _ _ _ _ n.takes c.line_tokens_from.ensures.takes
-    (line_place-next c.args.lexer.now.rest c.in_ok-first.first n.is ∙ ap (λ r. drop (length_after c.in_ok-first.first r) r) (sym n.takes.rest))
+pub returns-clause-reads : goal.returns-clause-reads
+returns-clause-reads c =
+    let read = c.line_tokens_from.ensures.reads in
+    reads_line _ c.in_ok-first.first c.line_tokens_from.result _ _ _ c.in_ok-first.ensures.reads read

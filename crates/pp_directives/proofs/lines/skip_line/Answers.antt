@@ -5,7 +5,7 @@ use Rattle.pp_directives.proofs.lines.skip_line.Goals as goal
 pub line-preserved : goal.line-preserved
 line-preserved c =
     let before = c.line.invariant in
-    let p = c.in_ok-pass_token.ensures in
+    let p = c.in_ok-pass_token.ensures.reads in
     let rest = c.line.lexer.rest in
     let after = c.pass_token.new.lexer.rest in
     let on = p.is ∙ ap Ok c.if-branch.true in

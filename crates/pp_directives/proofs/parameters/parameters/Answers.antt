@@ -37,13 +37,13 @@ returns-in_err-name-clause-is c =
     let e = err_from_is_err_and c.from_residual-in_err-name.result c.from_residual-in_err-name.ensures.1 in
     let n = c.in_ok-ends_parameters.ensures in
     no_more _ _ c.in_err-name.field-0.0 _ _ _ _ _ _ _ (e.1 ∙ ap Err e.2) c.parameters.invariant.whole n.is c.if-not-branch.true n.takes.rest
-    refl c.in_err-name.ensures.is
+    refl c.in_err-name.ensures.reads.is
 
 pub parameters-preserved : goal.parameters-preserved
 parameters-preserved c =
     let before = c.parameters.invariant in
     let n = c.in_ok-ends_parameters.ensures in
-    let o = c.in_ok-name.ensures in
+    let o = c.in_ok-name.ensures.reads in
     record {
       whole = one_more _ _ _ _ _ _ _ _ _ _ before.whole n.is c.if-not-branch.true n.takes.rest refl o.is
           c.in_ok-names-2.ensures o.takes.rest;
