@@ -1,5 +1,5 @@
 -- The expressions of an `#if`, `#elif` or `#line` line (docs/RULES.md, Expressions 3 to 7).
-use Rattle.std.specs.Prelude.{◌≡◌, ℤ, List, Result, MatchResult}
+use Rattle.std.specs.Prelude.{◌≡◌, ℤ, List, Result}
 use Rattle.pp_lexer.specs.declared.token.Location.{Location}
 use Rattle.pp_lexer.specs.declared.token.Token.{Token}
 use Rattle.pp_model.specs.Calls.{Fault}

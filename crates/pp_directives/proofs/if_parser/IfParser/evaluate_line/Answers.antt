@@ -12,8 +12,8 @@ returns c =
     let alone = alone_then c.args.self.now.directive c.args.self.now.words c.evaluate_expression.new.self.words (Ok c.in_ok-value.value) takes.takes
     (λ value. value) c.in_ok-value.value refl in
     elim c.match-peek.branch [
-      in-Some+in_ok-unwanted_word-in-Some w ↦
+      | in-Some+in_ok-unwanted_word-in-Some w ↦
           rw (w.result-is, w.in_ok-unwanted_word-in-Some.ensures) (rw (sym c.peek.ensures ∙ ap option_copied w.in-Some.is) at alone)
-    | in-None w ↦
-        rw (w.result-is, to_z-of_z w64 c.in_ok-value.value fits) (rw (sym c.peek.ensures ∙ ap option_copied w.in-None.is) at alone)
+      | in-None w ↦
+          rw (w.result-is, to_z-of_z w64 c.in_ok-value.value fits) (rw (sym c.peek.ensures ∙ ap option_copied w.in-None.is) at alone)
     ]
