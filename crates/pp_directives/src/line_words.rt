@@ -19,7 +19,6 @@ use pp_macros::list_lexer::ListLexer;
 use pp_macros::list_step::{step_list, step_unnamed, take_list};
 use pp_macros::macro_processor::MacroProcessor;
 use pp_macros::names::Definitions;
-use pp_macros::open_around::OpenAround;
 use pp_macros::step::StepExit;
 use pp_model::outcome::Fault;
 use pp_model::parentheses::{is_left_paren, is_right_paren};
@@ -86,21 +85,6 @@ impl<'a> WordReader<'a> {
         ensures reads { GivesItem self.now line.old result line.new }
         ensures less { TakesOff self.now line.old result line.new }
     {
-        let nothing = OpenAround::nothing(self.alloc);
-        self.item_inside(line, &nothing)
-    }
-
-    // The next item of the line. No macro is open around the line.
-    fn item_inside(
-        &self,
-        line: &mut LineExpander<'_>,
-        around: &OpenAround<'_>,
-    ) -> Result<Option<Read>, Halt>
-        requires stands { IsReading self.now line.old }
-        requires alone { around.now ≡ [] }
-        ensures reads { GivesItem self.now line.old result line.new }
-        ensures less { TakesOff self.now line.old result line.new }
-    {
         'items: loop {
             match step_list(&mut line.expander, &mut line.lexer) {
                 Ok(Taken::Token(read)) => return Ok(Some(read)),
@@ -109,7 +93,6 @@ impl<'a> WordReader<'a> {
                     &mut line.expander,
                     call,
                     self.definitions,
-                    around,
                     self.levels,
                 )?,
                 Err(StepExit::Continue) => {}
@@ -240,22 +223,20 @@ impl<'a> WordReader<'a> {
         }
     }
 
-    // The words of a line. No macro is open around it.
+    // The words of a line.
     fn words_of_line(
         &self,
         tokens: LineReads,
         definitions: &Definitions,
-        around: &OpenAround<'_>,
     ) -> Result<Words, AllocError>
         requires holds { AllHoldOrdinary tokens }
         requires same { self.now.definitions.now ≡ definitions.now }
-        requires alone { around.now ≡ [] }
         ensures { IfOk result
             (AreWordsOfLine self.now.kind self.now.directive self.now.levels tokens
             definitions.now) }
     {
         let mut reads = tokens.into_reads();
-        let lexer = ListLexer::line(&mut reads, definitions, &*around);
+        let lexer = ListLexer::line(&mut reads, definitions);
         let mut line = LineExpander {
             expander: MacroProcessor::new(self.alloc),
             lexer,
@@ -285,6 +266,5 @@ pub fn line_words(
         definitions,
         levels,
     };
-    let around = OpenAround::nothing(alloc);
-    reader.words_of_line(tokens, definitions, &around)
+    reader.words_of_line(tokens, definitions)
 }

@@ -34,10 +34,6 @@ impl<'a> MeLexer for DirectiveProcessor<'a> {
         self.definitions().get_define(id)
     }
 
-    fn is_hidden(&self, _name: &str) -> bool {
-        false
-    }
-
     fn apply_line_offset(&self, line: u32, location: Location) -> Step<u32> {
         match self.shown_line(line) {
             Some(shown) => Ok(shown),

@@ -6,7 +6,7 @@ pub mod FrameLemmas
 pub mod OpenMacroLemmas
 pub mod OpenMarksLemmas
 pub mod OpenNamesLemmas
-pub mod OpenAroundLemmas
+pub mod BaseLemmas
 pub mod OpenSoundLemmas
 pub mod ReportedLemmas
 pub mod PaintLemmas

@@ -8,6 +8,8 @@ pub mod PlainLemmas
 pub mod Walk
 pub mod ExpanderLemmas
 pub mod RunLemmas
+pub mod NestingLemmas
+pub mod PaintedRunLemmas
 pub mod ApartLemmas
 pub mod SearchSimulates
 pub mod LineStaysLemmas

@@ -15,7 +15,7 @@ pub mod Marks
 pub mod Giving
 pub mod Parts
 pub mod OpenNames
-pub mod OpenAround
+pub mod Nesting
 pub mod Turns
 pub mod Apart
 pub mod Ahead

@@ -10,9 +10,10 @@ ghost use Rattle.pp_macros.specs.Held.{HoldsOrdinary};
 ghost use Rattle.pp_macros.specs.inner.Reading.{AllReadOrdinary};
 ghost use Rattle.pp_macros.specs.inner.Idle.{is_idle};
 ghost use Rattle.pp_macros.specs.inner.CallTurns.{TurnsOrRefuses, is_out_of_memory_step, paren_of, TakenHoldsOrdinary};
-ghost use Rattle.pp_macros.specs.inner.Expander.{StepsFetching, StepsTaking, TakesNext, TakesOnto, TakesRun};
+ghost use Rattle.pp_macros.specs.inner.Expander.{StepsFetching, StepsTaking, TakesNext, TakesOnto, TakesRun, TakesUpTo};
 ghost use Rattle.pp_macros.specs.inner.Expander.{GathersNext, Satisfies, place_after, gathered_to, taken_as, is_pause};
 ghost use Rattle.pp_macros.specs.inner.Defined.{AreNumbered, names_in, numbered_by};
+ghost use Rattle.pp_macros.specs.inner.Nesting.{MayWait, seen_by};
 ghost use Rattle.pp_macros.specs.inner.Reader.{definitions_of};
 ghost use Rattle.pp_macros.specs.inner.Turns.{macro_of, macro_of_value, Opens};
 ghost use Rattle.pp_lexer.specs.declared.token.TokenValue.TheVariants as value;
@@ -222,18 +223,25 @@ fn room_for(opened: &Macro) -> usize {
 impl MacroProcessor {
     // One step of taking. An identifier is painted if its name is open, here or around.
     fn take(&mut self, lexer: &mut dyn MeLexer) -> Step<Read>
-        ensures steps { StepsTaking self.old (reader lexer.old) result self.new (reader lexer.new) }
+        requires waits { MayWait self.old.below (reader lexer.old) }
+        ensures steps { StepsTaking self.old.here (seen_by self.old.below (reader lexer.old)) result
+            self.new.here (seen_by self.new.below (reader lexer.new)) }
+        ensures below { self.new.below ≡ self.old.below }
+        ensures waits { MayWait self.new.below (reader lexer.new) }
         ensures holds { IfOk result (λ read. HoldsOrdinary read.token.value) }
     {
         let mut read = self.fetch(lexer)?;
-        self.paint(&*lexer, &mut read);
+        self.paint(&mut read);
         Ok(read)
     }
 
     // The step that is held or, if none is, the next one of the frames or the reader.
     fn fetch(&mut self, lexer: &mut dyn MeLexer) -> Step<Read>
-        ensures steps { StepsFetching self.old (reader lexer.old) result self.new
-            (reader lexer.new) }
+        requires waits { MayWait self.old.below (reader lexer.old) }
+        ensures steps { StepsFetching self.old.here (seen_by self.old.below (reader lexer.old)) result
+            self.new.here (seen_by self.new.below (reader lexer.new)) }
+        ensures below { self.new.below ≡ self.old.below }
+        ensures waits { MayWait self.new.below (reader lexer.new) }
         ensures holds { IfOk result (λ read. HoldsOrdinary read.token.value) }
     {
         if self.is_holding() {
@@ -250,7 +258,7 @@ impl MacroProcessor {
     #[inline(never)]
     fn show_line(&self, lexer: &dyn MeLexer, step: Step<Read>) -> Step<Read>
         requires { IfOk step (λ read. HoldsOrdinary read.token.value) }
-        ensures shows { result ≡ taken_as step self.now.frames (reader lexer.now) }
+        ensures shows { result ≡ taken_as step self.now.here.frames (reader lexer.now) }
         ensures holds { IfOk result (λ read. HoldsOrdinary read.token.value) }
     {
         match step {
@@ -261,7 +269,11 @@ impl MacroProcessor {
 
     /// Takes the next step that isn't a pause.
     pub fn take_next(&mut self, lexer: &mut dyn MeLexer) -> Step<Read>
-        ensures takes { TakesNext self.old (reader lexer.old) result self.new (reader lexer.new) }
+        requires waits { MayWait self.old.below (reader lexer.old) }
+        ensures takes { TakesNext self.old.here (seen_by self.old.below (reader lexer.old)) result
+            self.new.here (seen_by self.new.below (reader lexer.new)) }
+        ensures below { self.new.below ≡ self.old.below }
+        ensures waits { MayWait self.new.below (reader lexer.new) }
         ensures holds { IfOk result (λ read. HoldsOrdinary read.token.value) }
     {
         loop {
@@ -275,8 +287,11 @@ impl MacroProcessor {
 
     // Takes the next step that isn't a pause, and puts its token after the tokens.
     fn push_next(&mut self, lexer: &mut dyn MeLexer, tokens: &mut Vec<Read>) -> Step<()>
-        ensures takes { TakesOnto self.old (reader lexer.old) tokens.old.items result self.new
-            (reader lexer.new) tokens.new.items }
+        requires waits { MayWait self.old.below (reader lexer.old) }
+        ensures takes { TakesOnto self.old.here (seen_by self.old.below (reader lexer.old)) tokens.old.items result
+            self.new.here (seen_by self.new.below (reader lexer.new)) tokens.new.items }
+        ensures below { self.new.below ≡ self.old.below }
+        ensures waits { MayWait self.new.below (reader lexer.new) }
         ensures kept { result ≡ Err Finished → tokens.new.items ≡ tokens.old.items }
     {
         let read = self.take_next(lexer)?;
@@ -286,16 +301,34 @@ impl MacroProcessor {
         }
     }
 
+    // Puts tokens that are no parentheses after the tokens, and then a parenthesis if one follows, while the reader has
+    // them at once. Returns whether it came to one.
+    fn push_flat(&self, lexer: &mut dyn MeLexer, tokens: &mut Vec<Read>) -> Result<bool, AllocError>
+        requires waits { MayWait self.now.below (reader lexer.old) }
+        requires idle { is_idle self.now.here ≡ true }
+        ensures takes { IfOk result (λ found. TakesUpTo self.now.here (seen_by self.now.below (reader lexer.old))
+            tokens.old.items found (seen_by self.now.below (reader lexer.new)) tokens.new.items) }
+        ensures waits { IfOk result (λ _. MayWait self.now.below (reader lexer.new)) }
+    {
+        let start = tokens.len();
+        let found = lexer.push_flat(tokens)?;
+        self.paint_from(tokens, start);
+        Ok(found)
+    }
+
     // Takes tokens that are no parentheses, and then one more, and puts them after the tokens. If no macro is open and
     // nothing is held, the reader puts them there at once.
     fn push_run(&mut self, lexer: &mut dyn MeLexer, tokens: &mut Vec<Read>) -> Step<()>
-        ensures takes { TakesRun self.old (reader lexer.old) tokens.old.items result self.new
-            (reader lexer.new) tokens.new.items }
+        requires waits { MayWait self.old.below (reader lexer.old) }
+        ensures takes { TakesRun self.old.here (seen_by self.old.below (reader lexer.old)) tokens.old.items result
+            self.new.here (seen_by self.new.below (reader lexer.new)) tokens.new.items }
+        ensures below { self.new.below ≡ self.old.below }
+        ensures waits { OnOk result (MayWait self.new.below (reader lexer.new)) }
     {
         if !self.is_idle() {
             return self.push_next(lexer, tokens);
         }
-        match lexer.push_flat(tokens) {
+        match self.push_flat(lexer, tokens) {
             Ok(true) => Ok(()),
             Ok(false) => self.push_next(lexer, tokens),
             Err(_) => Err(StepExit::Error(out_of_memory())),
@@ -309,8 +342,11 @@ impl MacroProcessor {
         room: usize,
         paren: Location,
     ) -> Result<Gathered, Halt>
-        ensures gathers { Satisfies result
-            (λ g. GathersNext 0 paren self.old (reader lexer.old) g self.new (reader lexer.new)) }
+        requires waits { MayWait self.old.below (reader lexer.old) }
+        ensures gathers { Satisfies result (λ g. GathersNext 0 paren
+            self.old.here (seen_by self.old.below (reader lexer.old)) g
+            self.new.here (seen_by self.new.below (reader lexer.new))) }
+        ensures below { self.new.below ≡ self.old.below }
     {
         let mut tokens = self.take_tokens(room)?;
         let closing = self.gather_tokens(lexer, paren, &mut tokens)?;
@@ -324,9 +360,12 @@ impl MacroProcessor {
         paren: Location,
         tokens: &mut Vec<Read>,
     ) -> Result<Location, Halt>
-        requires { tokens.old.items ≡ [] }
-        ensures gathers { Satisfies result (λ end. GathersNext 0 paren self.old (reader lexer.old)
-            (gathered_to tokens.new.items end) self.new (reader lexer.new)) }
+        requires empty { tokens.old.items ≡ [] }
+        requires waits { MayWait self.old.below (reader lexer.old) }
+        ensures gathers { Satisfies result (λ end. GathersNext 0 paren
+            self.old.here (seen_by self.old.below (reader lexer.old)) (gathered_to tokens.new.items end)
+            self.new.here (seen_by self.new.below (reader lexer.new))) }
+        ensures below { self.new.below ≡ self.old.below }
         ensures holds { OnOk result (AllReadOrdinary tokens.new.items) }
     {
         let mut depth: u32 = 0;
@@ -356,7 +395,10 @@ impl MacroProcessor {
 
     // Looks for a call after the name of a function-like macro. Anything else is held.
     fn seek(&mut self, lexer: &mut dyn MeLexer, room: usize) -> Result<AfterName, Halt>
-        ensures finds { FindsBy self.old (reader lexer.old) result self.new (reader lexer.new) }
+        requires waits { MayWait self.old.below (reader lexer.old) }
+        ensures finds { FindsBy self.old.here (seen_by self.old.below (reader lexer.old)) result
+            self.new.here (seen_by self.new.below (reader lexer.new)) }
+        ensures below { self.new.below ≡ self.old.below }
     {
         let next = self.take_next(lexer);
         if is_out_of_memory_step(&next) {
@@ -378,11 +420,12 @@ impl MacroProcessor {
 
     // Opens the frame of an object-like macro, as a step.
     fn open_plain(&mut self, opened: Rc<Macro>, line: u32) -> Step<Taken>
-        ensures opens { ((result ≡ Err Continue) × (self.new ≡ record self.old {
+        ensures opens { ((result ≡ Err Continue) × (self.new.here ≡ record self.old.here {
           frames = new_frame opened.value line []
-              ∷ self.old.frames;
+              ∷ self.old.here.frames;
         }))
             ⊎ (result ≡ Err (Error out_of_memory)) }
+        ensures below { self.new.below ≡ self.old.below }
         ensures holds { IfOk result TakenHoldsOrdinary }
     {
         match self.open_bare(opened, line) {
@@ -400,11 +443,15 @@ impl MacroProcessor {
         opened: Rc<Macro>,
     ) -> Step<Taken>
         requires function { opened.value.definition.function_like ≡ true }
+        requires waits { MayWait self.old.below (reader lexer.old) }
         ensures enters { Enters (unpainted (record {
           value = value.Ident name;
           location = location;
-        })) opened.value self.old (reader lexer.old) result self.new
-            (reader lexer.new) ⊎ (result ≡ Err (Error out_of_memory)) }
+        })) opened.value
+            self.old.here (seen_by self.old.below (reader lexer.old)) result
+            self.new.here (seen_by self.new.below (reader lexer.new))
+            ⊎ (result ≡ Err (Error out_of_memory)) }
+        ensures below { self.new.below ≡ self.old.below }
         ensures holds { IfOk result TakenHoldsOrdinary }
     {
         let room = room_for(&opened);
@@ -429,11 +476,14 @@ impl MacroProcessor {
     // Opens the macro of a name that is taken, or begins its call.
     #[inline(never)]
     fn enter(&mut self, lexer: &mut dyn MeLexer, read: Read, opened: Rc<Macro>) -> Step<Taken>
-        requires opens { Opens (reader lexer.old) read opened.value }
+        requires opens { Opens (seen_by self.old.below (reader lexer.old)) read opened.value }
+        requires waits { MayWait self.old.below (reader lexer.old) }
         requires holds { HoldsOrdinary read.token.value }
-        ensures follows { FollowsToken (macro_of (reader lexer.old) read) read
-            self.old (reader lexer.old) result self.new (reader lexer.new)
+        ensures follows { FollowsToken (macro_of (seen_by self.old.below (reader lexer.old)) read) read
+            self.old.here (seen_by self.old.below (reader lexer.old)) result
+            self.new.here (seen_by self.new.below (reader lexer.new))
             ⊎ (result ≡ Err (Error out_of_memory)) }
+        ensures below { self.new.below ≡ self.old.below }
         ensures holds { IfOk result TakenHoldsOrdinary }
     {
         let Token { value, location } = read.token;
@@ -453,10 +503,13 @@ impl MacroProcessor {
     // Follows a token that is taken: it opens its macro, begins its call, or is given.
     #[inline(always)]
     fn follow(&mut self, lexer: &mut dyn MeLexer, read: Read) -> Step<Taken>
-        requires { HoldsOrdinary read.token.value }
-        ensures follows { FollowsToken (macro_of (reader lexer.old) read) read
-            self.old (reader lexer.old) result self.new (reader lexer.new)
+        requires holds { HoldsOrdinary read.token.value }
+        requires waits { MayWait self.old.below (reader lexer.old) }
+        ensures follows { FollowsToken (macro_of (seen_by self.old.below (reader lexer.old)) read) read
+            self.old.here (seen_by self.old.below (reader lexer.old)) result
+            self.new.here (seen_by self.new.below (reader lexer.new))
             ⊎ (result ≡ Err (Error out_of_memory)) }
+        ensures below { self.new.below ≡ self.old.below }
         ensures holds { IfOk result TakenHoldsOrdinary }
     {
         match find_macro(&*lexer, &read.token.value, read.painted) {
@@ -468,8 +521,10 @@ impl MacroProcessor {
 
     /// One step: takes a token, which is given, opens its macro, or begins a call that is gathered.
     pub fn step(&mut self, lexer: &mut dyn MeLexer) -> Step<Taken>
-        ensures turns { TurnsOrRefuses self.old (reader lexer.old) result self.new
-            (reader lexer.new) }
+        requires { MayWait self.old.below (reader lexer.old) }
+        ensures turns { TurnsOrRefuses self.old.here (seen_by self.old.below (reader lexer.old)) result
+            self.new.here (seen_by self.new.below (reader lexer.new)) }
+        ensures below { self.new.below ≡ self.old.below }
         ensures holds { IfOk result TakenHoldsOrdinary }
     {
         match self.take(lexer) {

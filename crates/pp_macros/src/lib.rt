@@ -13,7 +13,6 @@ pub mod list_step;
 pub mod macro_processor;
 pub mod marks;
 pub mod names;
-pub mod open_around;
 pub mod open_names;
 pub mod parameter_names;
 pub mod reader;

@@ -1,9 +1,8 @@
 //! A list of tokens as a reader: an argument of a call, or the line of a directive.
 
-ghost use Rattle.std.specs.Prelude.{◌≡◌, ◌&&◌, ◌||◌, ◌∷◌, ◌<◌, [], not, false, true, length, IfOk, IsTrue, MatchOption};
+ghost use Rattle.std.specs.Prelude.{◌≡◌, ◌&&◌, ◌∷◌, ◌<◌, [], false, true, length, IfOk, IsTrue, MatchOption};
 ghost use Rattle.std.specs.Str.{chars};
-ghost use Rattle.pp_model.specs.Names.{is_identifier, is_same_name, defined_name, line_name};
-ghost use Rattle.pp_model.specs.Painting.{is_one_of};
+ghost use Rattle.pp_model.specs.Names.{is_same_name, defined_name};
 ghost use Rattle.pp_macros.specs.Held.{HoldsOrdinary};
 ghost use Rattle.pp_macros.specs.inner.Apart.{IsApart, IsUnnamed, opens_none};
 ghost use Rattle.pp_macros.specs.inner.Reading.{AllReadOrdinary};
@@ -11,7 +10,6 @@ ghost use Rattle.pp_macros.specs.inner.Reader.{ReadsOnto, ReadsRun, of_list};
 
 use crate::define::Macro;
 use crate::names::{Definitions, NameId};
-use crate::open_around::OpenAround;
 use crate::reader::{MeLexer, ends_at_parenthesis};
 use crate::step::{Step, StepExit};
 use pp_lexer::token::{Location, NOWHERE, Punct, Token, TokenValue};
@@ -41,15 +39,6 @@ pub fn take_out(place: &mut Read) -> Read
     mem::replace(place, Read::unpainted(nothing))
 }
 
-// Whether the token isn't `__LINE__`, nor a name that is painted when it is taken.
-#[inline(always)]
-fn is_taken_as_it_is(read: &Read, hidden: &OpenAround<'_>) -> bool
-    ensures { result ≡ (not (is_identifier line_name read.now.token.value)
-        && (read.now.painted || not (is_one_of hidden.now read.now.token.value))) }
-{
-    !is_line_name(&read.token.value) && (read.painted || !hidden.is_open_name(&read.token.value))
-}
-
 // Whether the token is no name, or is the operator `defined` of a directive's line: it opens no macro.
 #[inline(always)]
 fn opens_none(read: &Read, is_line: bool) -> bool
@@ -61,21 +50,19 @@ fn opens_none(read: &Read, is_line: bool) -> bool
     }
 }
 
-/// A list of tokens, with the definitions there and the names that are open around. Tokens that it
-/// has read are moved out of the list.
+/// A list of tokens, with the definitions there. Tokens that it has read are moved out of the list.
 #[derive(Drop)]
 pub struct ListLexer<'a> {
     tokens: &'a mut [Read],
     position: usize,
     definitions: &'a Definitions,
-    hidden: &'a OpenAround<'a>,
     is_line: bool,
     // on a line the number of `defined`, if that was ever defined
     reserved: Option<NameId>,
 }
 
 impl<'a> Model for ListLexer<'a> {
-    ghost use Rattle.std.specs.Prelude.{drop};
+    ghost use Rattle.std.specs.Prelude.{[], drop};
     ghost use Rattle.pp_macros.specs.inner.Apart.{IsReservedNumber};
     ghost use Rattle.pp_macros.specs.inner.Defined.{names_in};
     ghost use Rattle.pp_macros.specs.inner.Reading.{AllReadOrdinary};
@@ -86,7 +73,7 @@ impl<'a> Model for ListLexer<'a> {
     ghost view = { λ l. record {
       tokens = drop l.position l.tokens.now;
       definitions = l.definitions.now;
-      hidden = l.hidden.now;
+      hidden = [];
       is_line = l.is_line;
     } };
 
@@ -96,16 +83,12 @@ impl<'a> Model for ListLexer<'a> {
 
 impl<'a> ListLexer<'a> {
     /// An argument of a call.
-    pub fn argument(
-        tokens: &'a mut [Read],
-        definitions: &'a Definitions,
-        hidden: &'a OpenAround<'a>,
-    ) -> Self
+    pub fn argument(tokens: &'a mut [Read], definitions: &'a Definitions) -> Self
         requires { AllReadOrdinary tokens.old }
         ensures { result ≡ record {
           tokens = tokens.old;
           definitions = definitions.now;
-          hidden = hidden.now;
+          hidden = [];
           is_line = false;
         } }
     {
@@ -113,23 +96,18 @@ impl<'a> ListLexer<'a> {
             tokens,
             position: 0,
             definitions,
-            hidden,
             is_line: false,
             reserved: None,
         }
     }
 
     /// The line of an `#if`, `#elif` or `#line`, in which `defined` is reserved.
-    pub fn line(
-        tokens: &'a mut [Read],
-        definitions: &'a Definitions,
-        hidden: &'a OpenAround<'a>,
-    ) -> Self
+    pub fn line(tokens: &'a mut [Read], definitions: &'a Definitions) -> Self
         requires { AllReadOrdinary tokens.old }
         ensures { result ≡ record {
           tokens = tokens.old;
           definitions = definitions.now;
-          hidden = hidden.now;
+          hidden = [];
           is_line = true;
         } }
     {
@@ -137,7 +115,6 @@ impl<'a> ListLexer<'a> {
             tokens,
             position: 0,
             definitions,
-            hidden,
             is_line: true,
             reserved: definitions.find("defined"),
         }
@@ -166,15 +143,13 @@ impl<'a> ListLexer<'a> {
         self.tokens.len() <= self.position
     }
 
-    /// Takes the next token, if it is neither `__LINE__` nor the name of a macro that is open around. Otherwise nothing
-    /// changes.
+    /// Takes the next token, if it isn't `__LINE__`. Otherwise nothing changes.
     #[inline(always)]
     pub fn take_apart(&mut self) -> Option<Read>
         ensures { MatchOption result (self.new ≡ self.old) (λ read. IsApart self.old read self.new) }
     {
-        let hidden = self.hidden;
         if self.tokens.len() <= self.position
-            || !is_taken_as_it_is(&self.tokens[self.position], hidden)
+            || is_line_name(&self.tokens[self.position].token.value)
         {
             return None;
         }
@@ -194,16 +169,15 @@ impl<'a> ListLexer<'a> {
         self.take_apart()
     }
 
-    // Moves the next token to the end of the tokens, if it is neither `__LINE__` nor the name of a macro that is open
-    // around. Returns whether it did. Otherwise nothing changes.
+    // Moves the next token to the end of the tokens, if it isn't `__LINE__`. Returns whether it did. Otherwise nothing
+    // changes.
     #[inline(always)]
     fn push_apart(&mut self, tokens: &mut Vec<Read>) -> Result<bool, AllocError>
         ensures { IfOk result (λ pushed. ReadsOnto (of_list self.old) tokens.old.items pushed
             (of_list self.new) tokens.new.items) }
     {
-        let hidden = self.hidden;
         if self.tokens.len() <= self.position
-            || !is_taken_as_it_is(&self.tokens[self.position], hidden)
+            || is_line_name(&self.tokens[self.position].token.value)
         {
             return Ok(false);
         }
@@ -248,10 +222,6 @@ impl<'a> MeLexer for ListLexer<'a> {
             Some(reserved) if reserved.number() == id.number() => None,
             _ => self.definitions.get_define(id),
         }
-    }
-
-    fn is_hidden(&self, name: &str) -> bool {
-        self.hidden.is_open(name)
     }
 
     fn apply_line_offset(&self, line: u32, _location: Location) -> Step<u32> {

@@ -4,6 +4,7 @@ ghost use Rattle.std.specs.Prelude.{◌≡◌, Ok, IfOk, IfSome, MatchOption};
 ghost use Rattle.pp_macros.specs.inner.CallTurns.{TurnsTo, TurnsOrRefuses, TakenHoldsOrdinary};
 ghost use Rattle.pp_macros.specs.Held.{HoldsOrdinary};
 ghost use Rattle.pp_macros.specs.inner.Expander.{TakesNext};
+ghost use Rattle.pp_macros.specs.inner.Nesting.{seen_by};
 ghost use Rattle.pp_macros.specs.inner.Reader.{of_list};
 ghost use Rattle.pp_macros.specs.declared.calls.Taken.TheVariants as taken;
 
@@ -13,62 +14,72 @@ use crate::macro_processor::MacroProcessor;
 use crate::step::{Step, StepExit};
 use pp_model::read::Read;
 
-/// One step of the expander, with a list as what follows the frames, if nothing is open or held and the list's next
+/// One step of the processor, with a list as what follows the frames, if nothing is open or held and the list's next
 /// token is no name that may open a macro: the token. Otherwise nothing changes.
 #[inline(always)]
-pub fn step_unnamed(expander: &MacroProcessor, list: &mut ListLexer<'_>) -> Option<Read>
-    ensures turns { MatchOption result (list.new ≡ list.old) (λ read. TurnsTo expander.now (of_list list.old)
-        (Ok (taken.Token read)) expander.now (of_list list.new)) }
+pub fn step_unnamed(processor: &MacroProcessor, list: &mut ListLexer<'_>) -> Option<Read>
+    ensures turns { MatchOption result (list.new ≡ list.old) (λ read.
+        TurnsTo processor.now.here (seen_by processor.now.below (of_list list.old)) (Ok (taken.Token read))
+        processor.now.here (seen_by processor.now.below (of_list list.new))) }
     ensures holds { IfSome result (λ read. HoldsOrdinary read.token.value) }
 {
-    if !expander.is_idle() {
+    if !processor.is_idle() {
         return None;
     }
-    list.take_unnamed()
+    let mut read = list.take_unnamed()?;
+    processor.paint(&mut read);
+    Some(read)
 }
 
-/// One step of the expander, with a list as what follows the frames.
+/// One step of the processor, with a list as what follows the frames.
 #[inline(always)]
-pub fn step_list(expander: &mut MacroProcessor, list: &mut ListLexer<'_>) -> Step<Taken>
-    ensures turns { TurnsOrRefuses expander.old (of_list list.old) result expander.new
-        (of_list list.new) }
+pub fn step_list(processor: &mut MacroProcessor, list: &mut ListLexer<'_>) -> Step<Taken>
+    ensures turns { TurnsOrRefuses processor.old.here (seen_by processor.old.below (of_list list.old)) result
+        processor.new.here (seen_by processor.new.below (of_list list.new)) }
+    ensures below { processor.new.below ≡ processor.old.below }
     ensures holds { IfOk result TakenHoldsOrdinary }
 {
-    if let Some(read) = step_unnamed(&*expander, list) {
+    if let Some(read) = step_unnamed(&*processor, list) {
         return Ok(Taken::Token(read));
     }
-    if expander.is_idle() && list.is_spent() {
+    if processor.is_idle() && list.is_spent() {
         return Err(StepExit::Finished);
     }
-    step_any(expander, list)
+    step_any(processor, list)
 }
 
 // Does the same with any token.
-fn step_any(expander: &mut MacroProcessor, list: &mut ListLexer<'_>) -> Step<Taken>
-    ensures turns { TurnsOrRefuses expander.old (of_list list.old) result expander.new
-        (of_list list.new) }
+fn step_any(processor: &mut MacroProcessor, list: &mut ListLexer<'_>) -> Step<Taken>
+    ensures turns { TurnsOrRefuses processor.old.here (seen_by processor.old.below (of_list list.old)) result
+        processor.new.here (seen_by processor.new.below (of_list list.new)) }
+    ensures below { processor.new.below ≡ processor.old.below }
     ensures holds { IfOk result TakenHoldsOrdinary }
 {
-    expander.step(list)
+    processor.step(list)
 }
 
 /// Takes the next token without looking it up, with a list as what follows the frames.
-pub fn take_list(expander: &mut MacroProcessor, list: &mut ListLexer<'_>) -> Step<Read>
-    ensures takes { TakesNext expander.old (of_list list.old) result expander.new (of_list list.new) }
+pub fn take_list(processor: &mut MacroProcessor, list: &mut ListLexer<'_>) -> Step<Read>
+    ensures takes { TakesNext processor.old.here (seen_by processor.old.below (of_list list.old)) result
+        processor.new.here (seen_by processor.new.below (of_list list.new)) }
+    ensures below { processor.new.below ≡ processor.old.below }
     ensures holds { IfOk result (λ read. HoldsOrdinary read.token.value) }
 {
-    if expander.is_idle() {
-        if let Some(read) = list.take_apart() {
+    if processor.is_idle() {
+        if let Some(mut read) = list.take_apart() {
+            processor.paint(&mut read);
             return Ok(read);
         }
     }
-    take_any(expander, list)
+    take_any(processor, list)
 }
 
 // Does the same with any token.
-fn take_any(expander: &mut MacroProcessor, list: &mut ListLexer<'_>) -> Step<Read>
-    ensures takes { TakesNext expander.old (of_list list.old) result expander.new (of_list list.new) }
+fn take_any(processor: &mut MacroProcessor, list: &mut ListLexer<'_>) -> Step<Read>
+    ensures takes { TakesNext processor.old.here (seen_by processor.old.below (of_list list.old)) result
+        processor.new.here (seen_by processor.new.below (of_list list.new)) }
+    ensures below { processor.new.below ≡ processor.old.below }
     ensures holds { IfOk result (λ read. HoldsOrdinary read.token.value) }
 {
-    expander.take_next(list)
+    processor.take_next(list)
 }

@@ -1,8 +1,8 @@
 //! The macros that are open, over a reader.
 
-ghost use Rattle.std.specs.Prelude.{List, ◌≡◌, ◌≤◌, ◌<◌, ◌-◌, ◌∷◌, [], drop, take, IfOk, IfSome, OnErr, OnOk};
-ghost use Rattle.std.specs.Prelude.{MatchOption, MatchResult, Ok, Err, Some, None, IsSome, option_map, is_some, pos};
-ghost use Rattle.std.specs.Prelude.{false};
+ghost use Rattle.std.specs.Prelude.{List, ◌≡◌, ◌≤◌, ◌<◌, ◌-◌, ◌∷◌, ◌++◌, [], drop, length, take, IfOk, IfSome, OnErr};
+ghost use Rattle.std.specs.Prelude.{OnOk, MatchOption, MatchResult, Ok, Err, Some, None, IsSome, option_map, is_some};
+ghost use Rattle.std.specs.Prelude.{pos, false, true};
 ghost use Rattle.std.specs.List.{list_any};
 ghost use Rattle.std.specs.Str.{chars};
 ghost use Rattle.pp_lexer.specs.declared.token.PreprocessorError.TheVariants.{LineOverflow};
@@ -10,19 +10,21 @@ ghost use Rattle.pp_lexer.specs.declared.token.TokenValue.TheVariants as value;
 ghost use Rattle.pp_model.specs.Names.{Name, is_in, is_same_name};
 ghost use Rattle.pp_model.specs.Painting.{is_one_of, painted_among, unpainted};
 ghost use Rattle.pp_model.specs.declared.read.Taken.TheVariants as given;
-ghost use Rattle.pp_macros.specs.inner.Frames.{new_frame, names_of, outermost_frame_line};
+ghost use Rattle.pp_macros.specs.inner.Frames as spec;
+ghost use Rattle.pp_macros.specs.inner.Frames.{new_frame, outermost_frame_line};
 ghost use Rattle.pp_macros.specs.Held.{HoldsOrdinary};
 ghost use Rattle.pp_macros.specs.inner.Ahead.{given_next};
-ghost use Rattle.pp_macros.specs.inner.Giving.{passed};
 ghost use Rattle.pp_macros.specs.inner.Bodies.{noted_by};
 ghost use Rattle.pp_macros.specs.inner.Defined.{AreNumbered};
 ghost use Rattle.pp_macros.specs.inner.Left.{HaveNumbers};
 ghost use Rattle.pp_macros.specs.inner.Idle.{is_idle};
+ghost use Rattle.pp_macros.specs.inner.Nesting.{nothing_open, open_names, stepped, with_frames};
 ghost use Rattle.pp_macros.specs.inner.OpenNames.{after_closing, after_opening};
-ghost use Rattle.pp_macros.specs.inner.Turns.{Moves, taken_in, masks, gives_line_name, macro_of_value};
+ghost use Rattle.pp_macros.specs.inner.Reading.{painted_from};
+ghost use Rattle.pp_macros.specs.inner.Turns.{Moves, taken_in, gives_line_name};
 ghost use Rattle.pp_macros.specs.declared.step.StepExit.TheVariants.{Error, Continue};
 
-use crate::argument_lists::ArgumentLists;
+use crate::argument_lists::{ArgumentLists, Part};
 use crate::calls::MacroCall;
 use crate::define::Macro;
 use crate::frames::{Ahead, Frame, give};
@@ -45,10 +47,14 @@ const FEW: usize = 16;
 
 /// Macros that are open, the innermost last, over a reader, and a step that was taken in the search for a `(` and is
 /// held.
+///
+/// An argument of a call is expanded by the same processor. Before the frames of its expansion, those from `base` on,
+/// are the frames of the expansions that wait for it.
 #[derive(Drop)]
 pub struct MacroProcessor {
     alloc: Global,
     frames: Vec<Frame>,
+    base: usize,
     held: Option<Step<Read>>,
     // the names of the macros that are open inside the first `FEW`
     open_names: OpenNames,
@@ -58,20 +64,24 @@ pub struct MacroProcessor {
 }
 
 impl Model for MacroProcessor {
-    ghost use Rattle.std.specs.Prelude.{◌≡◌, IfOk, IfSome, reverse};
+    ghost use Rattle.std.specs.Prelude.{◌≡◌, ◌≤◌, IfOk, IfSome, drop, length, reverse, take};
     ghost use Rattle.pp_macros.specs.Held.{HoldsOrdinary};
-    ghost use Rattle.pp_macros.specs.inner.Expander as spec;
+    ghost use Rattle.pp_macros.specs.inner.Nesting as spec;
     ghost use Rattle.pp_macros.specs.inner.Frames.{names_of};
     ghost use Rattle.pp_macros.specs.inner.Marks.{AreMarked};
     ghost use Rattle.pp_macros.specs.inner.OpenNames.{deeper_names, outermost_positions};
 
-    ghost Value = { spec.Expander };
+    ghost Value = { spec.MacroProcessor };
 
-    ghost view = { λ p. record { held = p.held; frames = reverse p.frames.items } };
+    ghost view = { λ p. record {
+      here = record { held = p.held; frames = reverse (drop p.base p.frames.items) };
+      below = reverse (take p.base p.frames.items);
+    } };
 
     ghost invariant = { λ p. (p.open_names ≡ outermost_positions (deeper_names (names_of (reverse p.frames.items))))
         × AreMarked p.marks (names_of (reverse p.frames.items))
-        × IfSome p.held (λ step. IfOk step (λ read. HoldsOrdinary read.token.value)) };
+        × IfSome p.held (λ step. IfOk step (λ read. HoldsOrdinary read.token.value))
+        × (p.base ≤ length p.frames.items) };
 }
 
 // Whether the frame is of the macro with this name.
@@ -163,11 +173,12 @@ pub fn make_line_number(line: u32, location: Location) -> Token
 impl MacroProcessor {
     /// No macro is open, and nothing is held. It allocates nothing.
     pub fn new(alloc: Global) -> MacroProcessor
-        ensures { result ≡ record { held = None; frames = [] } }
+        ensures { result ≡ record { here = nothing_open; below = [] } }
     {
         MacroProcessor {
             alloc,
             frames: Vec::new(alloc),
+            base: 0,
             held: None,
             open_names: OpenNames::new(alloc),
             marks: Marks::none(),
@@ -175,40 +186,29 @@ impl MacroProcessor {
         }
     }
 
-    /// No macro is open, and nothing is held. It has these spare lists.
-    pub fn over(alloc: Global, mut spares: Spares) -> Result<MacroProcessor, AllocError>
-        ensures { IfOk result (λ processor. processor ≡ record { held = None; frames = [] }) }
+    /// Begins to expand an argument: no macro is open in it, and those that are open here are around it. `unnest` takes
+    /// what this returns.
+    pub fn nest(&mut self) -> usize
+        requires { self.old.here.held ≡ None }
+        ensures is { self.new ≡ record {
+          here = nothing_open;
+          below = self.old.here.frames ++ self.old.below;
+        } }
+        ensures around { result ≡ length self.old.below }
     {
-        let frames = spares.take_frames(alloc)?;
-        Ok(MacroProcessor {
-            alloc,
-            frames,
-            held: None,
-            open_names: OpenNames::new(alloc),
-            marks: Marks::none(),
-            spares,
-        })
+        mem::replace(&mut self.base, self.frames.len())
     }
 
-    /// Its spare lists.
-    pub(crate) fn into_spares(self) -> Spares {
-        let mut spares = self.spares;
-        spares.keep_frames(self.frames);
-        spares
-    }
-
-    /// Moves its spare lists out. `return_spares` takes them back.
-    pub fn lend_spares(&mut self) -> Spares
-        ensures { self.new ≡ self.old }
+    /// Ends the expansion of an argument, also after a fault: closes what is open in it, and drops what is held.
+    pub fn unnest(&mut self, around: usize)
+        requires { around ≤ length self.old.below }
+        ensures { (frames : List spec.Frame) (outer : List spec.Frame) → self.old.below ≡ frames ++ outer
+            → around ≡ length outer
+            → self.new ≡ record { here = record { held = None; frames = frames }; below = outer } }
     {
-        mem::replace(&mut self.spares, Spares::none(self.alloc))
-    }
-
-    /// Takes spare lists in place of those that it has.
-    pub fn return_spares(&mut self, spares: Spares)
-        ensures { self.new ≡ self.old }
-    {
-        self.spares = spares;
+        self.close_all();
+        drop(self.held.take());
+        self.base = around;
     }
 
     /// An empty list of tokens. A new one has this room.
@@ -219,16 +219,32 @@ impl MacroProcessor {
         self.spares.take_tokens(self.alloc, room)
     }
 
+    /// An empty list of parts. A new one has this room.
+    pub fn take_parts(&mut self, room: usize) -> Result<Vec<Part>, AllocError>
+        ensures same { self.new ≡ self.old }
+        ensures empty { IfOk result (λ parts. parts.items ≡ []) }
+    {
+        self.spares.take_parts(self.alloc, room)
+    }
+
+    /// Takes back a list of tokens and one of parts, and drops what is in them.
+    pub fn keep_lists(&mut self, tokens: Vec<Read>, parts: Vec<Part>)
+        ensures { self.new ≡ self.old }
+    {
+        self.spares.keep_tokens(tokens);
+        self.spares.keep_parts(parts);
+    }
+
     /// Where its lists are allocated.
     #[inline(always)]
     pub(crate) fn alloc(&self) -> Global {
         self.alloc
     }
 
-    /// Whether a macro is open.
+    /// Whether a macro is open here.
     #[inline(always)]
     pub fn has_frames(&self) -> bool
-        ensures { result ≡ is_some (outermost_frame_line self.now.frames) }
+        ensures { result ≡ is_some (outermost_frame_line self.now.here.frames) }
     {
         self.outermost_line().is_some()
     }
@@ -236,7 +252,7 @@ impl MacroProcessor {
     /// Whether nothing is open or held. The next token then comes from the reader.
     #[inline(always)]
     pub fn is_idle(&self) -> bool
-        ensures { result ≡ is_idle self.now }
+        ensures { result ≡ is_idle self.now.here }
     {
         self.held.is_none() && !self.has_frames()
     }
@@ -244,7 +260,7 @@ impl MacroProcessor {
     /// Whether a step is held, which was taken in the search for a `(`.
     #[inline(always)]
     pub fn is_holding(&self) -> bool
-        ensures { result ≡ is_some self.now.held }
+        ensures { result ≡ is_some self.now.here.held }
     {
         self.held.is_some()
     }
@@ -252,7 +268,9 @@ impl MacroProcessor {
     /// Holds a token that was taken. It is the next step.
     pub fn hold(&mut self, token: Token)
         requires { HoldsOrdinary token.value }
-        ensures { self.new ≡ record self.old { held = Some (Ok (unpainted token)) } }
+        ensures { self.new ≡ record self.old {
+          here = record self.old.here { held = Some (Ok (unpainted token)) };
+        } }
     {
         self.put_back(Ok(Read::unpainted(token)));
     }
@@ -261,7 +279,7 @@ impl MacroProcessor {
     #[inline(always)]
     pub fn put_back(&mut self, step: Step<Read>)
         requires { IfOk step (λ read. HoldsOrdinary read.token.value) }
-        ensures { self.new ≡ record self.old { held = Some step } }
+        ensures { self.new ≡ record self.old { here = record self.old.here { held = Some step } } }
     {
         drop(self.held.replace(step));
     }
@@ -269,9 +287,9 @@ impl MacroProcessor {
     /// Takes the step that is held. It is a function of its own, so that other tokens are moved less.
     #[inline(never)]
     pub fn take_held(&mut self) -> Step<Read>
-        requires { IsSome self.old.held }
-        ensures held { self.old.held ≡ Some result }
-        ensures left { self.new ≡ record self.old { held = None } }
+        requires { IsSome self.old.here.held }
+        ensures held { self.old.here.held ≡ Some result }
+        ensures left { self.new ≡ record self.old { here = record self.old.here { held = None } } }
         ensures holds { IfOk result (λ read. HoldsOrdinary read.token.value) }
     {
         match self.held.take() {
@@ -280,29 +298,28 @@ impl MacroProcessor {
         }
     }
 
-    /// Whether the macro of this name is open.
+    /// Whether the macro of this name is open, here or around.
     #[inline(always)]
     pub fn is_open(&self, name: &str) -> bool
-        ensures { result ≡ is_in (chars name.now) (names_of self.now.frames) }
+        ensures { result ≡ is_in (chars name.now) (open_names self.now) }
     {
         self.marks.has(name) && self.is_among(name)
     }
 
-    // Whether the macro of this name is open. It is a function of its own, since the mark of most names isn't there.
+    // Whether it is. It is a function of its own, since the mark of most names isn't there.
     #[inline(never)]
     fn is_among(&self, name: &str) -> bool
-        ensures { result ≡ is_in (chars name.now) (names_of self.now.frames) }
+        ensures { result ≡ is_in (chars name.now) (open_names self.now) }
     {
         is_name_of(&self.frames, name) || self.open_names.is_open(name)
     }
 
-    /// The line of the outermost macro that is open: the line of its name, or of the `)` of its
-    /// call.
+    /// The line of the outermost macro that is open here: the line of its name, or of the `)` of its call.
     #[inline(always)]
     pub fn outermost_line(&self) -> Option<u32>
-        ensures { result ≡ outermost_frame_line self.now.frames }
+        ensures { result ≡ outermost_frame_line self.now.here.frames }
     {
-        match self.frames.first() {
+        match self.frames.get(self.base) {
             Some(frame) => Some(frame.line()),
             None => None,
         }
@@ -311,7 +328,8 @@ impl MacroProcessor {
     // Closes the innermost frame. It is a function of its own, since most steps close none.
     #[inline(always)]
     fn close(&mut self)
-        ensures { self.new ≡ record self.old { frames = drop 1 self.old.frames } }
+        requires { is_some (outermost_frame_line self.old.here.frames) ≡ true }
+        ensures { self.new ≡ with_frames self.old (drop 1 self.old.here.frames) }
     {
         let closed = self.frames.pop();
         keep_lists(&mut self.spares, closed);
@@ -321,13 +339,25 @@ impl MacroProcessor {
         }
     }
 
+    // Closes each frame that is open here.
+    fn close_all(&mut self)
+        ensures { self.new ≡ with_frames self.old [] }
+    {
+        'frames: while self.has_frames() {
+            self.close();
+        }
+    }
+
     /// What the innermost frame gives next, or `None` if its next step is a pause.
     pub fn ahead(&self) -> Option<Ahead<'_>>
-        ensures ahead { option_map (λ ahead. ahead.read) result ≡ given_next self.now.frames }
-        ensures number { IfSome result (λ ahead. (names : List Name) → HaveNumbers names self.now.frames
+        ensures ahead { option_map (λ ahead. ahead.read) result ≡ given_next self.now.here.frames }
+        ensures number { IfSome result (λ ahead. (names : List Name) → HaveNumbers names self.now.here.frames
             → AreNumbered names (noted_by ahead.number ahead.read.token.value)) }
         ensures holds { IfSome result (λ ahead. HoldsOrdinary ahead.read.token.value) }
     {
+        if !self.has_frames() {
+            return None;
+        }
         match self.frames.last() {
             Some(frame) => frame.token(),
             None => None,
@@ -337,9 +367,12 @@ impl MacroProcessor {
     /// Passes the pause that the innermost frame has next. A frame at its end is closed.
     #[inline(always)]
     pub fn pass_pause(&mut self)
-        requires { given_next self.old.frames ≡ None }
-        ensures { self.new ≡ passed self.old }
+        requires { given_next self.old.here.frames ≡ None }
+        ensures { self.new ≡ stepped self.old }
     {
+        if !self.has_frames() {
+            return;
+        }
         let Some(frame) = self.frames.last_mut() else {
             return;
         };
@@ -352,7 +385,7 @@ impl MacroProcessor {
     // Advances the innermost frame by one step. A frame at its end is closed.
     #[inline(always)]
     fn pass(&mut self)
-        ensures { self.new ≡ passed self.old }
+        ensures { self.new ≡ stepped self.old }
     {
         if self.ahead().is_some() {
             self.pass_token();
@@ -374,10 +407,13 @@ impl MacroProcessor {
     /// Otherwise nothing changes.
     #[inline(always)]
     pub fn take_token(&mut self) -> Option<Read>
-        ensures takes { MatchOption result (self.new ≡ self.old) (λ read. (given_next self.old.frames ≡ Some read)
-            × (self.new ≡ passed self.old)) }
+        ensures takes { MatchOption result (self.new ≡ self.old) (λ read. (given_next self.old.here.frames ≡ Some read)
+            × (self.new ≡ stepped self.old)) }
         ensures holds { IfSome result (λ read. HoldsOrdinary read.token.value) }
     {
+        if !self.has_frames() {
+            return None;
+        }
         let Some(frame) = self.frames.last_mut() else {
             return None;
         };
@@ -387,9 +423,12 @@ impl MacroProcessor {
     /// Passes the token that the innermost frame gives next.
     #[inline(always)]
     pub fn pass_token(&mut self)
-        requires { IsSome (given_next self.old.frames) }
-        ensures { self.new ≡ passed self.old }
+        requires { IsSome (given_next self.old.here.frames) }
+        ensures { self.new ≡ stepped self.old }
     {
+        if !self.has_frames() {
+            return;
+        }
         let Some(frame) = self.frames.last_mut() else {
             return;
         };
@@ -399,8 +438,8 @@ impl MacroProcessor {
     /// One step of the innermost frame, or of the reader if no macro is open. A frame at its end is
     /// closed.
     pub fn step_frames(&mut self, lexer: &mut dyn MeLexer) -> Step<Read>
-        ensures moves { Moves self.old.frames (reader lexer.old) result self.new.frames (reader lexer.new) }
-        ensures held { self.new.held ≡ self.old.held }
+        ensures moves { Moves self.old.here.frames (reader lexer.old) result self.new.here.frames (reader lexer.new) }
+        ensures others { self.new ≡ with_frames self.old self.new.here.frames }
         ensures holds { IfOk result (λ read. HoldsOrdinary read.token.value) }
     {
         if !self.has_frames() {
@@ -423,9 +462,9 @@ impl MacroProcessor {
     pub fn take_in(&self, lexer: &dyn MeLexer, read: Read) -> Step<Read>
         requires { HoldsOrdinary read.token.value }
         ensures taken { MatchResult result
-            (λ taken. taken_in self.now.frames (reader lexer.now) read ≡ given.Token taken)
+            (λ taken. taken_in self.now.here.frames (reader lexer.now) read ≡ given.Token taken)
             (λ exit. (exit ≡ Error (LineOverflow, read.token.location))
-            × (taken_in self.now.frames (reader lexer.now) read
+            × (taken_in self.now.here.frames (reader lexer.now) read
             ≡ given.Fault (LineOverflow, read.token.location))) }
         ensures holds { IfOk result (λ read. HoldsOrdinary read.token.value) }
     {
@@ -439,31 +478,43 @@ impl MacroProcessor {
         Ok(Read::unpainted(make_line_number(shown, location)))
     }
 
-    // Whether the value is the name of a macro that is open here or around.
-    fn is_masked(&self, lexer: &dyn MeLexer, value: &TokenValue) -> bool
-        ensures { result ≡ is_one_of (masks self.now.frames (reader lexer.now)) value.now }
+    /// Whether the value is the name of a macro that is open, here or around.
+    #[inline(always)]
+    pub fn is_open_name(&self, value: &TokenValue) -> bool
+        ensures { result ≡ is_one_of (open_names self.now) value.now }
     {
         match value {
-            TokenValue::Ident(name) => {
-                self.is_open(name.as_str()) || lexer.is_hidden(name.as_str())
-            }
+            TokenValue::Ident(name) => self.is_open(name.as_str()),
             _ => false,
         }
     }
 
-    /// Paints a token that is taken, if it is the name of a macro that is open here or around.
-    pub fn paint(&self, lexer: &dyn MeLexer, read: &mut Read)
-        ensures { read.new ≡ painted_among (masks self.now.frames (reader lexer.now)) read.old }
+    /// Paints a token that is taken, if it is the name of a macro that is open, here or around.
+    pub fn paint(&self, read: &mut Read)
+        ensures { read.new ≡ painted_among (open_names self.now) read.old }
     {
         if !read.painted {
-            read.painted = self.is_masked(lexer, &read.token.value);
+            read.painted = self.is_open_name(&read.token.value);
+        }
+    }
+
+    /// Paints so each of the tokens from this position on.
+    pub fn paint_from(&self, tokens: &mut [Read], start: usize)
+        ensures { tokens.new ≡ painted_from (open_names self.now) start tokens.old }
+    {
+        if self.frames.is_empty() {
+            return;
+        }
+        for at in start..tokens.len() {
+            self.paint(&mut tokens[at]);
         }
     }
 
     // Puts the frame of a macro that opens inside the others.
     #[inline(always)]
     fn push(&mut self, frame: Frame) -> Result<(), AllocError>
-        ensures { OnOk result (self.new ≡ record self.old { frames = frame ∷ self.old.frames }) }
+        ensures ok { OnOk result (self.new ≡ with_frames self.old (frame ∷ self.old.here.frames)) }
+        ensures err { OnErr result (self.new ≡ self.old) }
     {
         self.frames.reserve(1)?;
         note_name(&mut self.open_names, frame.opened(), self.frames.len())?;
@@ -474,11 +525,9 @@ impl MacroProcessor {
 
     /// Opens the frame of a call with these arguments.
     pub fn open_call(&mut self, call: MacroCall, arguments: ArgumentLists) -> Result<(), AllocError>
-        ensures { OnOk result (self.new
-            ≡ record self.old {
-              frames = new_frame call.opened call.closing.line arguments
-                  ∷ self.old.frames;
-            }) }
+        ensures ok { OnOk result (self.new ≡ with_frames self.old
+            (new_frame call.opened call.closing.line arguments ∷ self.old.here.frames)) }
+        ensures err { OnErr result (self.new ≡ self.old) }
     {
         let (opened, line) = call.into_macro();
         self.push(Frame::new(opened, line, arguments))
@@ -487,10 +536,9 @@ impl MacroProcessor {
     /// Opens the frame of a macro without parentheses. `line` is the line that `__LINE__` shows in it.
     #[inline(always)]
     pub fn open_bare(&mut self, opened: Rc<Macro>, line: u32) -> Result<(), AllocError>
-        ensures { OnOk result (self.new ≡ record self.old {
-          frames = new_frame opened.value line []
-              ∷ self.old.frames;
-        }) }
+        ensures ok { OnOk result (self.new ≡ with_frames self.old
+            (new_frame opened.value line [] ∷ self.old.here.frames)) }
+        ensures err { OnErr result (self.new ≡ self.old) }
     {
         self.frames.reserve(1)?;
         note_name(&mut self.open_names, &opened, self.frames.len())?;

@@ -3,13 +3,12 @@
 ghost use Rattle.std.specs.Prelude.{◌≡◌, ◌++◌, ◌∷◌, [], List, IfOk, IfSome, Some, option_map, ok_or, position};
 ghost use Rattle.std.specs.Str.{chars};
 ghost use Rattle.pp_lexer.specs.declared.token.PreprocessorError.TheVariants.{LineOverflow};
-ghost use Rattle.pp_model.specs.Names.{Name, is_in, is_same_name};
+ghost use Rattle.pp_model.specs.Names.{Name, is_same_name};
 ghost use Rattle.pp_model.specs.declared.read.Read.{Read};
 ghost use Rattle.pp_macros.specs.Held.{HoldsOrdinary};
 ghost use Rattle.pp_macros.specs.Item.{as_step};
 ghost use Rattle.pp_macros.specs.inner.Defined.{AreNumbered, names_in, numbered_by, opened_by};
-ghost use Rattle.pp_macros.specs.inner.Reader.{Reader, Reads, ReadsRun, nests, visible, hidden_of, shown_line};
-ghost use Rattle.pp_macros.specs.inner.Reader.{definitions_of};
+ghost use Rattle.pp_macros.specs.inner.Reader.{Reader, Reads, ReadsRun, nests, visible, shown_line, definitions_of};
 
 use crate::define::Macro;
 use crate::names::NameId;
@@ -29,8 +28,8 @@ pub trait MeLexer {
         ensures reads { Reads (reader self.old) result (reader self.new) }
         ensures holds { IfOk result (λ read. HoldsOrdinary read.token.value) };
 
-    /// Reads tokens onto the end of these, up to a parenthesis, which is read too. Stops before a pause, `__LINE__` and
-    /// the name of a macro that is open around. Returns whether it came to a parenthesis.
+    /// Reads tokens onto the end of these, up to a parenthesis, which is read too. Stops before a pause and `__LINE__`.
+    /// Returns whether it came to a parenthesis.
     fn push_flat(&mut self, tokens: &mut Vec<Read>) -> Result<bool, AllocError>
         ensures { IfOk result (λ found. ReadsRun (reader self.old) tokens.old.items found
             (reader self.new) tokens.new.items) };
@@ -47,10 +46,6 @@ pub trait MeLexer {
             ≡ opened_by name (visible (reader self.now) name) }
         ensures numbered { IfSome result (λ m.
             AreNumbered (names_in (definitions_of (reader self.now))) (numbered_by m.now.value)) };
-
-    /// Whether a macro of this name is open around it.
-    fn is_hidden(&self, name: &str) -> bool
-        ensures { result ≡ is_in (chars name.now) (hidden_of (reader self.now)) };
 
     /// The number that `__LINE__` shows for a line, or `LineOverflow` at the place.
     fn apply_line_offset(&self, line: u32, location: Location) -> Step<u32>

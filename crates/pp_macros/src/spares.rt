@@ -3,7 +3,6 @@
 ghost use Rattle.std.specs.Prelude.{◌≡◌, [], IfOk};
 
 use crate::argument_lists::Part;
-use crate::frames::Frame;
 use pp_lexer::token::TokenValue;
 use pp_model::read::Read;
 use std::alloc::{AllocError, Global};
@@ -57,13 +56,12 @@ impl<T: Drop> SpareLists<T> {
     }
 }
 
-/// Lists of tokens, of parts and of frames that were used and are empty now. Whoever needs a list takes one of these,
+/// Lists of tokens and of parts that were used and are empty now. Whoever needs a list takes one of these,
 /// and gives it back after use, so that calls of macros one after another need no more memory than one of them.
 #[derive(Drop)]
 pub struct Spares {
     tokens: SpareLists<Read>,
     parts: SpareLists<Part>,
-    frames: SpareLists<Frame>,
 }
 
 // Drops the tokens. Most own nothing, which is seen here without a call.
@@ -84,7 +82,6 @@ impl Spares {
         Spares {
             tokens: SpareLists::none(alloc),
             parts: SpareLists::none(alloc),
-            frames: SpareLists::none(alloc),
         }
     }
 
@@ -102,13 +99,6 @@ impl Spares {
         self.parts.take(alloc, room)
     }
 
-    /// An empty list of frames. A new one has no room.
-    pub fn take_frames(&mut self, alloc: Global) -> Result<Vec<Frame>, AllocError>
-        ensures { IfOk result (λ frames. frames.items ≡ []) }
-    {
-        self.frames.take(alloc, 0)
-    }
-
     /// Takes back a list of tokens, and drops these.
     pub(crate) fn keep_tokens(&mut self, mut tokens: Vec<Read>) {
         drop_tokens(&mut tokens);
@@ -118,10 +108,5 @@ impl Spares {
     /// Takes back a list of parts.
     pub(crate) fn keep_parts(&mut self, parts: Vec<Part>) {
         self.parts.keep(parts);
-    }
-
-    /// Takes back a list of frames, and drops these.
-    pub(crate) fn keep_frames(&mut self, frames: Vec<Frame>) {
-        self.frames.keep(frames);
     }
 }

@@ -13,28 +13,37 @@ use Rattle.pp_model.specs.declared.word.LineKind.{LineKind}
 use Rattle.pp_macros.specs.inner.Defined.{Defined, meaning_of}
 use Rattle.pp_directives.specs.inner.LineItems.{IsOnLine, IsWorkLess, ReadsItem, ReadsTaken, ReadsOperand}
 use Rattle.pp_directives.specs.inner.LineItems.{ReadsInParentheses, ReadsClosed, expander_of, taken_of_read}
+use Rattle.pp_macros.specs.inner.Nesting.{listed_in}
+use Rattle.pp_macros.specs.inner.Reader.{Listing}
 use Rattle.pp_macros.specs.declared.halt.Halt.{Halt}
 use Rattle.pp_directives.specs.declared.line_words.WordReader.{WordReader}
 use Rattle.pp_directives.specs.declared.line_words.LineExpander.{LineExpander}
 
+-- the rest of the line, as the line's processor has it
+abbrev pub rest_of : LineExpander → Listing
+rest_of line = listed_in line.expander.below line.lexer
+
 -- the line is being read, with the reader's definitions
 abbrev pub IsReading : WordReader → LineExpander → Type 0
-IsReading reader line = IsOnLine reader.definitions.now line.expander line.lexer
+IsReading reader line = IsOnLine reader.definitions.now line.expander.here (rest_of line)
 
 -- the next item
 abbrev pub GivesItem : WordReader → LineExpander → Result (Option Read) Halt → LineExpander → Type 0
 GivesItem reader old result new =
-    ReadsItem reader.levels reader.definitions.now old.expander old.lexer result new.expander new.lexer
+    ReadsItem reader.levels reader.definitions.now old.expander.here (rest_of old)
+    result new.expander.here (rest_of new)
 
 -- if a token is given, less of the line is left after it
 abbrev pub TakesOff : WordReader → LineExpander → Result (Option Read) Halt → LineExpander → Type 0
 TakesOff reader old result new =
-    IfOk result (λ found. IfSome found (λ read. IsWorkLess reader.levels old.expander old.lexer new.expander new.lexer))
+    IfOk result (λ found. IfSome found (λ read.
+    IsWorkLess reader.levels old.expander.here (rest_of old) new.expander.here (rest_of new)))
 
 -- what is taken next
 abbrev pub GivesTaken : WordReader → LineExpander → Result (Option Read) Halt → LineExpander → Type 0
 GivesTaken reader old result new =
-    ReadsTaken reader.levels reader.definitions.now old.expander old.lexer result new.expander new.lexer
+    ReadsTaken reader.levels reader.definitions.now old.expander.here (rest_of old)
+    result new.expander.here (rest_of new)
 
 -- the name of an identifier, or the fault of anything else, if a part of `defined` is needed here
 abbrev pub IsNameOrFault : Location → Option Read → Result Name Fault → Type 0
@@ -45,23 +54,24 @@ IsNameOrFault directive found result =
 -- what the operand of a `defined` gives; the same after its `(`; and after the `(` and the name
 abbrev pub GivesOperand : WordReader → LineExpander → Result Bool Halt → LineExpander → Type 0
 GivesOperand reader old result new =
-    ReadsOperand reader.kind reader.directive reader.levels reader.definitions.now old.expander old.lexer
-    result new.expander new.lexer
+    ReadsOperand reader.kind reader.directive reader.levels reader.definitions.now old.expander.here (rest_of old)
+    result new.expander.here (rest_of new)
 
 abbrev pub GivesInParentheses : WordReader → LineExpander → Result Bool Halt → LineExpander → Type 0
 GivesInParentheses reader old result new =
-    ReadsInParentheses reader.kind reader.directive reader.levels reader.definitions.now old.expander
-    old.lexer result new.expander new.lexer
+    ReadsInParentheses reader.kind reader.directive reader.levels reader.definitions.now
+    old.expander.here (rest_of old) result new.expander.here (rest_of new)
 
 abbrev pub GivesClosed : WordReader → Name → LineExpander → Result Bool Halt → LineExpander → Type 0
 GivesClosed reader name old result new =
-    ReadsClosed reader.kind reader.directive reader.levels reader.definitions.now name old.expander
-    old.lexer result new.expander new.lexer
+    ReadsClosed reader.kind reader.directive reader.levels reader.definitions.now name
+    old.expander.here (rest_of old) result new.expander.here (rest_of new)
 
 -- the words that the rest of the line gives
 abbrev pub AreWordsOf : WordReader → LineExpander → Words → Type 0
 AreWordsOf reader line words =
-    LineWords reader.kind reader.directive (answers_at reader.levels) (expander_of line.expander line.lexer) words
+    LineWords reader.kind reader.directive (answers_at reader.levels)
+    (expander_of line.expander.here (rest_of line)) words
 
 -- the words that the whole line gives
 abbrev pub AreWordsOfLine : LineKind → Location → ℕ → List Token → List Defined → Words → Type 0

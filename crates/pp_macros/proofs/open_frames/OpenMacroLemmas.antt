@@ -13,9 +13,6 @@ use Rattle.pp_macros.specs.inner.Ahead.{Ahead, given_by, given_next, frame_after
 use Rattle.pp_macros.specs.inner.Bodies.{noted_by}
 use Rattle.pp_macros.specs.inner.Defined.{AreNumbered}
 use Rattle.pp_macros.specs.inner.Left.{HaveNumbers}
-use Rattle.pp_macros.specs.inner.Expander.{Expander}
-use Rattle.pp_macros.specs.inner.Giving.{passed}
-use Rattle.pp_macros.specs.Item.{Step}
 use Rattle.pp_macros.specs.inner.Turns.{frame_move}
 use Rattle.pp_macros.specs.inner.OpenNames.{Position, is_open, after_opening, after_closing, deeper_names, outermost_positions}
 use Rattle.pp_macros.proofs.open_frames.FrameLemmas.{gives_something}
@@ -38,7 +35,7 @@ is_in-names name [] = refl
 is_in-names name (f ∷ fs) =
     rw (reverse-append (f ∷ []) fs, names_at_end name (reverse fs) f) (ap (λ rest. is_same_name name f.name || rest) (is_in-names name fs))
 
-names_of-append : (fs gs : List Frame) → names_of (fs ++ gs) ≡ names_of fs ++ names_of gs
+pub names_of-append : (fs gs : List Frame) → names_of (fs ++ gs) ≡ names_of fs ++ names_of gs
 names_of-append [] gs = refl
 names_of-append (f ∷ fs) gs = ap (λ names. f.name ∷ names) (names_of-append fs gs)
 
@@ -64,7 +61,7 @@ outermost_first (g ∷ gs) f e =
 pub reverse_last : {X : Type 0} (xs : List X) (d : X) → 0 < length xs → reverse xs ≡ get_or xs (length xs - 1) d ∷ reverse (take (length xs - 1) xs)
 reverse_last xs d some = ap reverse (with_last xs d some) ∙ reverse-append (take (length xs - 1) xs) (get_or xs (length xs - 1) d ∷ [])
 
-reverse_set_last : {X : Type 0} (xs : List X) (v : X) → 0 < length xs → reverse (set xs (length xs - 1) v) ≡ v ∷ reverse (take (length xs - 1) xs)
+pub reverse_set_last : {X : Type 0} (xs : List X) (v : X) → 0 < length xs → reverse (set xs (length xs - 1) v) ≡ v ∷ reverse (take (length xs - 1) xs)
 reverse_set_last xs v some =
     let e : length (set xs (length xs - 1) v) ≡ length xs = length-set xs (length xs - 1) v in
     let within : length xs - 1 < length xs = omega arith in
@@ -116,7 +113,7 @@ last_passes fs f v n e some last goes passes =
     rw (e, reverse_last fs f more, ← is, reverse_set_last fs v more) (frame_passes (advance f) f v (reverse (take (length fs - 1) fs)) goes passes)
 
 -- nor is what gives this token
-has_given : (advanced : Option Advance) (read : Read) → given_by advanced ≡ Some read → is_none advanced ≡ false
+pub has_given : (advanced : Option Advance) (read : Read) → given_by advanced ≡ Some read → is_none advanced ≡ false
 has_given (Some a) read gives = refl
 has_given None read gives = cc
 
@@ -273,16 +270,3 @@ pub open_inside : (name : Name) (fs : List Frame) (positions : List Position) (f
     → inside ≡ is_open positions name → inside ≡ is_in name (names_of (reverse fs))
 open_inside name fs positions first inside are is same among =
     among ∙ sym (ap (λ b. b || is_open positions name) (sym is ∙ same)) ∙ open_among name fs positions are
-
--- a processor with other frames
-pub with_frames : (held : Option (Step Read)) (fs gs : List Frame) → fs ≡ gs
-    → ◌≡◌ {A = Expander} (record { held = held; frames = fs }) (record { held = held; frames = gs })
-with_frames held fs gs same = ap (λ (hs : List Frame). let m : Expander = record { held = held; frames = hs } in m) same
-
--- what its frames give
-pub takes_frames : (held : Option (Step Read)) (fs gs : List Frame) (taken : Option Read)
-    → MatchOption taken (gs ≡ fs) (λ read. (given_next fs ≡ Some read) × (gs ≡ frames_after fs))
-    → MatchOption taken (◌≡◌ {A = Expander} (record { held = held; frames = gs }) (record { held = held; frames = fs }))
-    (λ read. (given_next fs ≡ Some read) × (◌≡◌ {A = Expander} (record { held = held; frames = gs }) (passed (record { held = held; frames = fs }))))
-takes_frames held fs gs None same = with_frames held gs fs same
-takes_frames held fs gs (Some read) takes = (takes.0, with_frames held gs (frames_after fs) takes.1)

@@ -12,12 +12,12 @@ use Rattle.pp_model.specs.Calls.{Fault, Gathered, before, nesting, closes, withi
 use Rattle.pp_model.specs.declared.read.Taken.TheVariants as given
 use Rattle.pp_macros.specs.Item.{Step, is_out_of_memory}
 use Rattle.pp_macros.specs.inner.Frames.{Frame}
-use Rattle.pp_macros.specs.inner.Expander.{Expander, is_pause, step_of_outcome, taken_as, StepsFetching, StepsTaking, held, moved, IsTakenOnto, TakesNext, now, later, GathersNext, closed, inside, overfull, ended, failed}
+use Rattle.pp_macros.specs.inner.Expander.{Expander, is_pause, step_of_outcome, taken_as, StepsFetching, StepsTaking, held, moved, TakesNext, now, later, GathersNext, closed, inside, overfull, ended, failed}
 use Rattle.pp_macros.specs.inner.Left.{regions, regions_of, holding_step, reads_left}
 use Rattle.pp_model.proofs.GatherLemmas.{after_tokens, after_tokens-before, after_tokens-closed}
 use Rattle.pp_macros.specs.inner.Reach.{total}
 use Rattle.pp_macros.specs.inner.Idle.{is_idle}
-use Rattle.pp_macros.specs.inner.Reader.{Reader, Reads, IsReadOnto, hidden_of}
+use Rattle.pp_macros.specs.inner.Reader.{Reader, Reads, hidden_of}
 use Rattle.pp_model.specs.Names.{is_identifier, line_name}
 use Rattle.pp_model.specs.Painting.{painted_among}
 use Rattle.pp_macros.specs.inner.Reading.{painted_step}
@@ -73,10 +73,10 @@ idle_at (Some step) fs e = cc
 pub is_idle-idle : (m : Expander) → is_idle m ≡ true → m ≡ idle
 is_idle-idle m e = idle_at m.held m.frames e
 
--- if nothing is held and no macro is open, a token of the reader is taken as it is, unless it is `__LINE__` or is painted then
-pub idle_steps : (m : Expander) (r s : Reader) (read : Read) → is_idle m ≡ true → Reads r (Ok read) s → is_identifier line_name read.token.value ≡ false
-    → painted_among (hidden_of s) read ≡ read → StepsTaking m r (Ok read) m s
-idle_steps m r s read waits reads apart unmasked =
+-- if nothing is held and no macro is open, a token of the reader is taken with its paint, unless it is `__LINE__`
+pub idle_paints : (m : Expander) (r s : Reader) (read : Read) → is_idle m ≡ true → Reads r (Ok read) s → is_identifier line_name read.token.value ≡ false
+    → StepsTaking m r (Ok (painted_among (hidden_of s) read)) m s
+idle_paints m r s read waits reads apart =
     let none = is_idle-idle m waits in
     let held = ap (λ (k : Expander). k.held) none in
     let frames = ap (λ (k : Expander). k.frames) none in
@@ -84,18 +84,8 @@ idle_steps m r s read waits reads apart unmasked =
       first = Ok read;
       fetches = fetches_step m m.held m.held m.frames m.frames (Ok read) r s refl held held
           (subst (λ (fs : List Frame). Moves fs r (Ok read) fs s) (sym frames) (refl, reads)) apart;
-      paints = subst (λ (fs : List Frame). Ok read ≡ painted_step (masks fs s) (Ok read)) (sym frames) (ap (λ (t : Read). Ok t) (sym unmasked));
+      paints = subst (λ (fs : List Frame). Ok (painted_among (hidden_of s) read) ≡ painted_step (masks fs s) (Ok read)) (sym frames) refl;
     }
-
--- so is the token that a reader puts after the tokens
-pub idle_takes : (m : Expander) (r s : Reader) (tokens more : List Read) → is_idle m ≡ true → IsReadOnto r tokens s more
-    → IsTakenOnto m r tokens m s more
-idle_takes m r s tokens more idle onto = record {
-  read = onto.read;
-  takes = now (Ok onto.read) m m r s (idle_steps m r s onto.read idle onto.reads onto.apart onto.unmasked) refl;
-  holds = onto.holds;
-  is = onto.is;
-}
 
 -- what is taken next from here on is taken next from the beginning on
 abbrev pub LeadsToNext : Expander → Reader → Expander → Reader → Type 0

@@ -6,19 +6,19 @@ use Rattle.std.proofs.lemmas.Option.{slice_get_within, get_or_from_slice_get}
 use Rattle.pp_macros.proofs.open_frames.OpenNamesLemmas.{with_last}
 use Rattle.pp_lexer.specs.declared.token.Location.{Location}
 use Rattle.pp_lexer.specs.declared.token.TokenValue.{TokenValue}
+use Rattle.pp_model.specs.Painting.{painted_among}
 use Rattle.pp_model.specs.declared.read.Read.{Read}
 use Rattle.pp_model.specs.Calls.{nesting, within, too_many, closes, most_parentheses, is_left_paren, is_right_paren}
 use Rattle.pp_macros.specs.Held.{HoldsOrdinary}
 use Rattle.pp_macros.specs.inner.Reading.{AllReadOrdinary}
-use Rattle.pp_macros.specs.inner.Reader.{Reader, IsReadOnto, ReadsFlat, none_read, read_more, nests}
+use Rattle.pp_macros.specs.inner.Reader.{Reader, IsReadOnto, ReadsFlat, none_read, read_more, hidden_of, nests}
 use Rattle.pp_macros.specs.Item.{Step}
 use Rattle.pp_macros.specs.declared.step.StepExit.TheVariants.{Error, Finished}
 use Rattle.pp_lexer.specs.PreprocessorError.{out_of_memory}
 use Rattle.pp_macros.specs.inner.Expander.{Expander, TakesFlat, none_taken, taken_more, now, TakesOnto, TakesRun, place_after}
-use Rattle.pp_macros.specs.inner.Idle.{is_idle}
 use Rattle.pp_macros.specs.inner.Left.{regions}
 use Rattle.pp_macros.specs.inner.Reach.{total}
-use Rattle.pp_macros.proofs.taking.ExpanderLemmas.{idle, idle_steps, idle_takes, next_falls, Gathering, gathers_more}
+use Rattle.pp_macros.proofs.taking.ExpanderLemmas.{idle, idle_paints, next_falls, Gathering, gathers_more}
 
 -- the place of the last of the tokens
 pub place_put : (paren : Location) (tokens more : List Read) (read : Read) → more ≡ tokens ++ read ∷ [] → place_after paren more ≡ read.token.location
@@ -47,31 +47,18 @@ nests_within k value apart = go (is_left_paren value) (is_right_paren value) apa
     go false true e = cc
     go false false e = refl
 
--- tokens that a reader reads in a row are taken so, if nothing is held and no macro is open
-pub idle_takes_flat : (m : Expander) (r : Reader) (tokens : List Read) (s : Reader) (more : List Read) → is_idle m ≡ true → ReadsFlat r tokens s more → TakesFlat m r tokens s more
-idle_takes_flat m r tokens s more waits (none_read s1 more1 same is) = none_taken s more same is
-idle_takes_flat m r tokens s more waits (read_more between s1 some more1 flat onto apart) =
-    taken_more between s some more (idle_takes_flat m r tokens between some waits flat)
-    (record {
-      read = onto.read;
-      takes = now (Ok onto.read) m m between s (idle_steps m between s onto.read waits onto.reads onto.apart onto.unmasked) refl;
-      holds = onto.holds;
-      is = onto.is;
-    })
-    apart
-
 -- one token that is taken
 pub run_now : (m n : Expander) (r s : Reader) (tokens more : List Read) (step : Step (Unit {0})) → TakesOnto m r tokens step n s more
     → (step ≡ Err Finished → more ≡ tokens) → TakesRun m r tokens step n s more
 run_now m n r s tokens more step onto kept =
     record { between = r; some = tokens; flat = none_taken r tokens refl refl; last = onto; kept = kept }
 
--- one that is taken after others that the reader reads
-pub run_after : (m n : Expander) (r between s : Reader) (tokens some more : List Read) (step : Step (Unit {0})) → is_idle m ≡ true
-    → ReadsFlat r tokens between some → TakesOnto m between some step n s more → (step ≡ Err Finished → more ≡ some)
+-- one that is taken after others
+pub run_after : (m n : Expander) (r between s : Reader) (tokens some more : List Read) (step : Step (Unit {0}))
+    → TakesFlat m r tokens between some → TakesOnto m between some step n s more → (step ≡ Err Finished → more ≡ some)
     → TakesRun m r tokens step n s more
-run_after m n r between s tokens some more step waits flat onto kept =
-    record { between = between; some = some; flat = idle_takes_flat m r tokens between some waits flat; last = onto; kept = kept }
+run_after m n r between s tokens some more step flat onto kept =
+    record { between = between; some = some; flat = flat; last = onto; kept = kept }
 
 -- memory ran out
 pub run_refused : (m n : Expander) (r s : Reader) (tokens more : List Read) → TakesRun m r tokens (Err (Error out_of_memory)) n s more
@@ -86,12 +73,13 @@ flat_more r between s tokens some more ends flat onto tells apart = read_more be
 -- a token that is read lowers what is left
 pub read_falls : (r s : Reader) (tokens more : List Read) → IsReadOnto r tokens s more → total (regions idle s) < total (regions idle r)
 read_falls r s tokens more onto =
-    let taken = idle_takes idle r s tokens more refl onto in
-    next_falls idle idle r s taken.read taken.takes
+    let taken : Read = painted_among (hidden_of s) onto.read in
+    next_falls idle idle r s taken (now (Ok taken) idle idle r s (idle_paints idle r s onto.read refl onto.reads onto.apart) refl)
 
--- the tokens that end at one that is read
-pub read_run : (r between s : Reader) (tokens some more : List Read) → ReadsFlat r tokens between some → s ≡ between → more ≡ some → ReadsFlat r tokens s more
-read_run r between s tokens some more flat same is = rw (same, is) flat
+-- the tokens that end at one that is taken
+pub flat_run : (m : Expander) (r between s : Reader) (tokens some more : List Read) → TakesFlat m r tokens between some → s ≡ between → more ≡ some
+    → TakesFlat m r tokens s more
+flat_run m r between s tokens some more flat same is = rw (same, is) flat
 
 -- tokens that are taken in a row raise nothing that is left
 pub flat_falls : (m : Expander) (r : Reader) (tokens : List Read) (s : Reader) (more : List Read) → TakesFlat m r tokens s more → total (regions m s) ≤ total (regions m r)

@@ -1,6 +1,6 @@
 -- Each turn of an expander with calls lowers what is left to do, and so does the frame that opens after a call.
-use Rattle.std.proofs.Common.{◌≡◌, ℕ, suc, ◌+◌, ◌<◌, ◌≤◌, Bool, true, false, if◌then◌else◌, List, [], ◌∷◌, length, arith, ap, subst, refl, le_trans, Option, Some, None, All, Ok, Err}
-use Rattle.std.specs.Prelude.{Result}
+use Rattle.std.proofs.Common.{◌≡◌, ℕ, suc, ◌+◌, ◌<◌, ◌≤◌, Bool, true, false, if◌then◌else◌, List, [], ◌∷◌, length, arith, ap, subst, refl, le_trans, Option, Some, None, All, Ok, Err, inl, inr, ◌∙◌}
+use Rattle.std.specs.Prelude.{IfOk, Result}
 use Rattle.pp_model.specs.declared.read.Read.{Read}
 use Rattle.pp_lexer.specs.declared.token.TokenValue.{TokenValue}
 use Rattle.pp_lexer.specs.declared.token.TokenValue.TheVariants.{Ident}
@@ -8,7 +8,7 @@ use Rattle.pp_model.specs.Calls.{Fault, Gathered}
 use Rattle.pp_model.specs.Definitions.{Definition}
 use Rattle.pp_model.specs.Names.{Name, is_in}
 use Rattle.pp_macros.specs.inner.Calling.{MacroCall}
-use Rattle.pp_macros.specs.inner.CallTurns.{Sought, no_call, sought_by, Seeks, alone, called, Finds, TurnsTo, passes, gives, object, seeks, paren_of}
+use Rattle.pp_macros.specs.inner.CallTurns.{Sought, no_call, sought_by, Seeks, alone, called, Finds, TurnsTo, TurnsOrRefuses, passes, gives, object, seeks, paren_of}
 use Rattle.pp_macros.specs.inner.Defined.{Macro, AreNumbered, meaning_of, names_in, numbered_by, body_tokens, opened_by}
 use Rattle.pp_macros.specs.inner.Frames.{new_frame, names_of}
 use Rattle.pp_macros.specs.Item.{Step, wants_memory}
@@ -243,3 +243,26 @@ pending_opens levels m r c n s arguments pending all =
       tight = pending.tight;
       sound = record { names = pending.sound.names; numbers = pending.sound.numbers };
     }
+
+-- nothing is held after a call
+sought_free : (n p q : Expander) (s t : Reader) (read : Read) (opened : Macro) (c : Sought) (step : Step Taken) (call : MacroCall)
+    → step ≡ Ok (taken.Call call) → Seeks n s c p t → Finds read opened c step p q → q.held ≡ None
+sought_free n p q s t read opened c step call is (alone next n1 p1 s1 t1 c1 next_taken none reported at) found =
+    let found' : Finds read opened (no_call next) step p q = subst (λ (x : Sought). Finds read opened x step p q) at found in
+    let other = found'.0 in cc
+sought_free n p q s t read opened c step call is (called next paren n1 between p1 s1 u t1 g c1 next_taken opens gathers at) found =
+    go g (gather_leaves (λ c. c) 0 (λ a b low. low) 0 paren between p u t g gathers) (subst (λ (x : Sought). Finds read opened x step p q) at found)
+  where
+    go : (g : Result Gathered Fault) → IfOk g (λ h. IsGathered (λ c. c) 0 (λ a b low. low) h between p u t)
+        → Finds read opened (sought_by paren g) step p q → q.held ≡ None
+    go (Err fault) left found = let other = found.0 in cc
+    go (Ok h) left found = ap (λ (e : Expander). e.held) found.1 ∙ left.free
+
+pub call_free : (m n : Expander) (r s : Reader) (step : Step Taken) (call : MacroCall) → step ≡ Ok (taken.Call call) → TurnsOrRefuses m r step n s
+    → n.held ≡ None
+call_free m n r s step call is (inr refused) = let other = refused.fault in cc
+call_free m n r s step call is (inl (passes exit step1 m1 n1 r1 s1 steps other)) = cc
+call_free m n r s step call is (inl (gives read step1 m1 n1 r1 s1 steps none other)) = cc
+call_free m p r s step call is (inl (object read opened step1 m1 n p1 r1 s1 steps some plain other at)) = cc
+call_free m q r t step call is (inl (seeks read opened c step1 m1 n p q1 r1 s t1 steps some function sought found)) =
+    sought_free n p q s t read opened c step call is sought found

@@ -3,7 +3,6 @@ use Rattle.std.specs.Prelude.{◌≡◌, ◌&&◌, ℕ, Bool, true, false, if◌
 use Rattle.pp_lexer.specs.declared.token.TokenValue.{TokenValue}
 use Rattle.pp_lexer.specs.declared.token.TokenValue.TheVariants.{Ident}
 use Rattle.pp_model.specs.Names.{Name, is_identifier, is_same_name, defined_name, line_name}
-use Rattle.pp_model.specs.Painting.{painted_among}
 use Rattle.pp_model.specs.declared.read.Read.{Read}
 use Rattle.pp_macros.specs.Held.{HoldsOrdinary}
 use Rattle.pp_macros.specs.inner.Reader.{Listing, Reads, of_list}
@@ -18,11 +17,10 @@ abbrev pub IsReservedNumber : Bool → List Name → Option ℕ → Type 0
 IsReservedNumber is_line names reserved =
     reserved ≡ (if is_line then position (is_same_name defined_name) names else None)
 
--- the next token was taken, which is neither `__LINE__` nor the name of a macro that is open around
+-- the next token was taken, which isn't `__LINE__`
 pub record IsApart (old : Listing) (read : Read) (new : Listing) : Type 0 where
   pub reads : Reads (of_list old) (Ok read) (of_list new)
   pub apart : is_identifier line_name read.token.value ≡ false
-  pub unmasked : painted_among new.hidden read ≡ read
   pub holds : HoldsOrdinary read.token.value
 
 -- such a token was taken, which opens no macro

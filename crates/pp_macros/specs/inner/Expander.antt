@@ -100,6 +100,19 @@ pub data TakesFlat (m : Expander) (r : Reader) (tokens : List Read) : Reader →
       → nests onto.read.token.value ≡ false
       → TakesFlat m r tokens t more
 
+-- one more token was taken so, if it was found; else nothing changed
+abbrev pub TakesIfFound : Expander → Reader → List Read → Bool → Reader → List Read → Type 0
+TakesIfFound m r tokens true s more = IsTakenOnto m r tokens m s more
+TakesIfFound m r tokens false s more = (s ≡ r) × (more ≡ tokens)
+
+-- such tokens were, and then a token if one was found
+pub record TakesUpTo (m : Expander) (r : Reader) (tokens : List Read) (found : Bool) (s : Reader) (more : List Read)
+    : Type 0 where
+  pub between : Reader
+  pub some : List Read
+  pub flat : TakesFlat m r tokens between some
+  pub last : TakesIfFound m between some found s more
+
 -- such tokens were, and then one more token, or there was none
 pub record TakesRun (m : Expander) (r : Reader) (tokens : List Read) (step : Step (Unit {0}))
     (n : Expander) (s : Reader) (more : List Read) : Type 0 where

@@ -8,7 +8,6 @@ use Rattle.pp_model.specs.Calls.{is_left_paren, is_right_paren}
 use Rattle.pp_model.specs.Definitions.{Definitions}
 use Rattle.pp_model.specs.LineValues.{as_line_number}
 use Rattle.pp_model.specs.Names.{Name, is_identifier, is_same_name, defined_name, line_name}
-use Rattle.pp_model.specs.Painting.{painted_among}
 use Rattle.pp_model.specs.declared.read.Read.{Read}
 use Rattle.pp_model.specs.inner.Reading.{after_listed}
 use Rattle.pp_macros.specs.Held.{HoldsOrdinary}
@@ -63,12 +62,11 @@ abbrev pub hidden_of : Reader → List Name
 hidden_of (of_source source) = []
 hidden_of (of_list list) = list.hidden
 
--- The next token was read and put after the tokens. It isn't `__LINE__`, nor the name of a macro that is open around.
+-- the next token was read and put after the tokens, which isn't `__LINE__`
 pub record IsReadOnto (old : Reader) (tokens : List Read) (new : Reader) (more : List Read) : Type 0 where
   pub read : Read
   pub reads : Reads old (Ok read) new
   pub apart : is_identifier line_name read.token.value ≡ false
-  pub unmasked : painted_among (hidden_of new) read ≡ read
   pub holds : HoldsOrdinary read.token.value
   pub is : more ≡ tokens ++ read ∷ []
 

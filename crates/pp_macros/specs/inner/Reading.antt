@@ -1,5 +1,5 @@
 -- Tokens with their paint, as the code keeps them.
-use Rattle.std.specs.Prelude.{List, All, Ok, Err}
+use Rattle.std.specs.Prelude.{ℕ, zero, suc, List, [], ◌∷◌, All, Ok, Err}
 use Rattle.pp_lexer.specs.declared.token.Token.{Token}
 use Rattle.pp_model.specs.Names.{Name}
 use Rattle.pp_model.specs.Painting.{unpainted, painted_among}
@@ -19,3 +19,9 @@ unpainted_step (Err exit) = Err exit
 abbrev pub painted_step : List Name → Step Read → Step Read
 painted_step names (Ok read) = Ok (painted_among names read)
 painted_step names (Err exit) = Err exit
+
+-- the tokens, of which those from this position on are taken while these names are open
+abbrev pub painted_from : List Name → ℕ → List Read → List Read
+painted_from names k [] = []
+painted_from names zero (read ∷ reads) = painted_among names read ∷ painted_from names zero reads
+painted_from names (suc k) (read ∷ reads) = read ∷ painted_from names k reads

@@ -6,14 +6,15 @@ ghost use Rattle.pp_model.specs.Painting.{painted_among};
 ghost use Rattle.pp_macros.specs.Held.{HoldsOrdinary};
 ghost use Rattle.pp_macros.specs.inner.Reading.{AllReadOrdinary};
 ghost use Rattle.pp_macros.specs.inner.Giving.{AdvancesTo, GivesEach, GivesNext, RefusesWithin};
-ghost use Rattle.pp_macros.specs.inner.Giving.{TurnsFrames, passed, token_ahead};
+ghost use Rattle.pp_macros.specs.inner.Giving.{TurnsFrames, token_ahead};
 ghost use Rattle.pp_macros.specs.inner.Idle.{is_idle};
 ghost use Rattle.pp_macros.specs.inner.CallTurns.{TakesSomething};
 ghost use Rattle.pp_macros.specs.inner.Left.{IsSound};
 ghost use Rattle.pp_macros.specs.inner.Bodies.{noted_by};
 ghost use Rattle.pp_macros.specs.inner.Defined.{AreNumbered, names_in, numbered_by};
+ghost use Rattle.pp_macros.specs.inner.Nesting.{MayWait, open_names, seen_by, stepped};
 ghost use Rattle.pp_macros.specs.inner.Reader.{of_list, definitions_of};
-ghost use Rattle.pp_macros.specs.inner.Turns.{macro_of, masks};
+ghost use Rattle.pp_macros.specs.inner.Turns.{macro_of};
 
 use crate::define::Macro;
 use crate::frames::Ahead;
@@ -69,24 +70,21 @@ enum Turn {
 impl MacroProcessor {
     // Whether a token that a frame gives is painted when it is taken.
     #[inline(always)]
-    fn paints<L: MeLexer>(&self, lexer: &L, ahead: &Ahead<'_>) -> bool
-        ensures { result
-            ≡ (painted_among (masks self.now.frames (L.reader lexer.now)) ahead.now.read).painted }
+    fn paints(&self, ahead: &Ahead<'_>) -> bool
+        ensures { result ≡ (painted_among (open_names self.now) ahead.now.read).painted }
     {
-        match ahead.value() {
-            TokenValue::Ident(name) => {
-                ahead.is_painted() || self.is_open(name.as_str()) || lexer.is_hidden(name.as_str())
-            }
-            _ => ahead.is_painted(),
-        }
+        ahead.is_painted() || self.is_open_name(ahead.value())
     }
 
     // One step of the open macros, if it is a pause or opens a macro without parentheses; otherwise nothing changes.
     #[inline(always)]
     fn turn<L: MeLexer>(&mut self, lexer: &L) -> Result<Turn, AllocError>
-        requires { IsSound self.old (L.reader lexer.now) }
-        ensures turns { IfOk result (λ turn. TurnsFrames (L.reader lexer.now) self.old turn self.new) }
-        ensures refused { OnErr result (TakesSomething self.old (L.reader lexer.now)) }
+        requires sound { IsSound self.old.here (seen_by self.old.below (L.reader lexer.now)) }
+        requires waits { MayWait self.old.below (L.reader lexer.now) }
+        ensures turns { IfOk result (λ turn. TurnsFrames (seen_by self.old.below (L.reader lexer.now))
+            self.old.here turn self.new.here) }
+        ensures below { self.new.below ≡ self.old.below }
+        ensures refused { OnErr result (TakesSomething self.old.here (seen_by self.old.below (L.reader lexer.now))) }
     {
         if self.is_holding() || !self.has_frames() {
             return Ok(Turn::Other);
@@ -98,7 +96,7 @@ impl MacroProcessor {
         if is_line_name(ahead.value()) {
             return Ok(Turn::Other);
         }
-        let painted = self.paints(lexer, &ahead);
+        let painted = self.paints(&ahead);
         let Some(found) = opened_by(lexer, &ahead, painted) else {
             return Ok(Turn::Token { painted });
         };
@@ -117,9 +115,12 @@ impl MacroProcessor {
     /// it, and `pass_token` passes it. Stops at `__LINE__` and at the name of a macro with parentheses.
     #[inline(always)]
     pub fn advance<L: MeLexer>(&mut self, lexer: &L) -> Result<Option<bool>, AllocError>
-        requires { IsSound self.old (L.reader lexer.now) }
-        ensures advances { IfOk result (λ found. AdvancesTo (L.reader lexer.now) self.old found self.new) }
-        ensures refused { OnErr result (RefusesWithin (L.reader lexer.now) self.old) }
+        requires sound { IsSound self.old.here (seen_by self.old.below (L.reader lexer.now)) }
+        requires waits { MayWait self.old.below (L.reader lexer.now) }
+        ensures advances { IfOk result (λ found. AdvancesTo (seen_by self.old.below (L.reader lexer.now))
+            self.old.here found self.new.here) }
+        ensures below { self.new.below ≡ self.old.below }
+        ensures refused { OnErr result (RefusesWithin (seen_by self.old.below (L.reader lexer.now)) self.old.here) }
     {
         'turns: loop {
             match self.turn(lexer)? {
@@ -133,7 +134,7 @@ impl MacroProcessor {
     /// The token that the innermost open macro has next in its list. There is none if its next step is a pause.
     #[inline(always)]
     pub fn token(&self) -> Option<&Token>
-        ensures token { option_map (λ token. token.now) result ≡ token_ahead self.now }
+        ensures token { option_map (λ token. token.now) result ≡ token_ahead self.now.here }
     {
         match self.ahead() {
             Some(ahead) => Some(ahead.token()),
@@ -144,10 +145,13 @@ impl MacroProcessor {
     /// Goes on as `advance` does, and gives a copy of the token that it finds, and passes it.
     #[inline(always)]
     pub fn give_next<L: MeLexer>(&mut self, lexer: &L) -> Result<Option<Token>, AllocError>
-        requires { IsSound self.old (L.reader lexer.now) }
-        ensures gives { IfOk result (λ given. GivesNext (L.reader lexer.now) self.old given self.new) }
+        requires sound { IsSound self.old.here (seen_by self.old.below (L.reader lexer.now)) }
+        requires waits { MayWait self.old.below (L.reader lexer.now) }
+        ensures gives { IfOk result (λ given. GivesNext (seen_by self.old.below (L.reader lexer.now))
+            self.old.here given self.new.here) }
+        ensures below { self.new.below ≡ self.old.below }
         ensures holds { IfOk result (λ given. IfSome given (λ token. HoldsOrdinary token.value)) }
-        ensures refused { OnErr result (RefusesWithin (L.reader lexer.now) self.old) }
+        ensures refused { OnErr result (RefusesWithin (seen_by self.old.below (L.reader lexer.now)) self.old.here) }
     {
         if self.is_idle() {
             return Ok(None);
@@ -158,10 +162,13 @@ impl MacroProcessor {
     // Does the same if something is open or held.
     #[inline(always)]
     fn give_ahead<L: MeLexer>(&mut self, lexer: &L) -> Result<Option<Token>, AllocError>
-        requires { IsSound self.old (L.reader lexer.now) }
-        ensures gives { IfOk result (λ given. GivesNext (L.reader lexer.now) self.old given self.new) }
+        requires sound { IsSound self.old.here (seen_by self.old.below (L.reader lexer.now)) }
+        requires waits { MayWait self.old.below (L.reader lexer.now) }
+        ensures gives { IfOk result (λ given. GivesNext (seen_by self.old.below (L.reader lexer.now))
+            self.old.here given self.new.here) }
+        ensures below { self.new.below ≡ self.old.below }
         ensures holds { IfOk result (λ given. IfSome given (λ token. HoldsOrdinary token.value)) }
-        ensures refused { OnErr result (RefusesWithin (L.reader lexer.now) self.old) }
+        ensures refused { OnErr result (RefusesWithin (seen_by self.old.below (L.reader lexer.now)) self.old.here) }
     {
         let Some(_) = self.advance(lexer)? else {
             return Ok(None);
@@ -183,8 +190,8 @@ impl MacroProcessor {
     // changes. It is a function of its own, so that the room for the token is cleared only if there may be one.
     #[inline(always)]
     fn take_last(&mut self) -> Option<Token>
-        ensures takes { MatchOption result (self.new ≡ self.old) (λ token. (token_ahead self.old ≡ Some token)
-            × (self.new ≡ passed self.old)) }
+        ensures takes { MatchOption result (self.new ≡ self.old) (λ token. (token_ahead self.old.here ≡ Some token)
+            × (self.new ≡ stepped self.old)) }
         ensures holds { IfSome result (λ token. HoldsOrdinary token.value) }
     {
         match self.take_token() {
@@ -197,8 +204,9 @@ impl MacroProcessor {
     // Returns whether it did. Otherwise nothing changes. It is a function of its own for the same reason.
     #[inline(never)]
     fn put_last(&mut self, painted: bool, items: &mut Vec<Read>) -> Result<bool, AllocError>
-        ensures passes { IfOk result (λ put. put ≡ true → self.new ≡ passed self.old) }
-        ensures puts { IfOk result (λ put. put ≡ true → (token : Token) → token_ahead self.old ≡ Some token
+        ensures passes { IfOk result (λ put. put ≡ true → self.new ≡ stepped self.old) }
+        ensures below { self.new.below ≡ self.old.below }
+        ensures puts { IfOk result (λ put. put ≡ true → (token : Token) → token_ahead self.old.here ≡ Some token
             → items.new.items ≡ items.old.items ++ record { token = token; painted = painted } ∷ []) }
         ensures stays { IfOk result (λ put. put ≡ false → (self.new ≡ self.old)
             × (items.new.items ≡ items.old.items)) }
@@ -231,9 +239,10 @@ impl MacroProcessor {
     // gives it for the last time and a copy would take memory.
     #[inline(always)]
     fn put_token(&mut self, painted: bool, items: &mut Vec<Read>) -> Result<(), AllocError>
-        requires { IsSome (token_ahead self.old) }
-        ensures passes { OnOk result (self.new ≡ passed self.old) }
-        ensures puts { OnOk result ((token : Token) → token_ahead self.old ≡ Some token
+        requires { IsSome (token_ahead self.old.here) }
+        ensures passes { OnOk result (self.new ≡ stepped self.old) }
+        ensures below { self.new.below ≡ self.old.below }
+        ensures puts { OnOk result ((token : Token) → token_ahead self.old.here ≡ Some token
             → items.new.items ≡ items.old.items ++ record { token = token; painted = painted } ∷ []) }
     {
         if self.moves_next() && self.put_last(painted, items)? {
@@ -255,9 +264,10 @@ impl MacroProcessor {
         items: &mut Vec<Read>,
     ) -> Result<(), AllocError>
         requires ordinary { AllReadOrdinary items.old.items }
-        requires sound { IsSound self.old (of_list list.now) }
-        ensures gives { OnOk result (GivesEach (of_list list.now) self.old items.old.items self.new
-            items.new.items) }
+        requires sound { IsSound self.old.here (seen_by self.old.below (of_list list.now)) }
+        ensures gives { OnOk result (GivesEach (seen_by self.old.below (of_list list.now))
+            self.old.here items.old.items self.new.here items.new.items) }
+        ensures below { self.new.below ≡ self.old.below }
         ensures holds { OnOk result (AllReadOrdinary items.new.items) }
     {
         'tokens: while let Some(painted) = self.advance(list)? {

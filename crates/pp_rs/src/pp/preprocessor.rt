@@ -53,7 +53,7 @@ pub struct Preprocessor<'a> {
 }
 
 impl<'a> Model for Preprocessor<'a> {
-    ghost use Rattle.std.specs.Prelude.{◌≡◌, false};
+    ghost use Rattle.std.specs.Prelude.{◌≡◌, [], false};
     ghost use Rattle.std.specs.Prelude.{true};
     ghost use Rattle.pp_rs.specs.inner.Fit.{IsFit, IsReported, ReadsText};
     ghost use Rattle.pp_rs.specs.Kept.{Preprocessing};
@@ -61,15 +61,15 @@ impl<'a> Model for Preprocessor<'a> {
     ghost Value = { Preprocessing };
 
     ghost view = { λ p. record {
-      expander = p.expander;
+      expander = p.expander.here;
       source = p.source;
       spent = p.spent;
       place = p.place;
       name_line = p.name_line;
     } };
 
-    ghost invariant = { λ p. (p.spent ≡ false → IsFit p.expander p.source × IsReported p.expander p.source)
-        × (p.in_text ≡ true → ReadsText p.expander p.source p.spent) };
+    ghost invariant = { λ p. (p.spent ≡ false → IsFit p.expander.here p.source × IsReported p.expander.here p.source)
+        × (p.in_text ≡ true → ReadsText p.expander.here p.source p.spent) × (p.expander.below ≡ []) };
 }
 
 // The error. `OutOfMemory` always gets the same place.
@@ -110,9 +110,10 @@ fn open_shared(
     found: &Rc<Macro>,
     line: u32,
 ) -> Result<(), AllocError>
-    ensures { OnOk result (expander.new ≡ record expander.old {
-      frames = new_frame found.now.value line [] ∷ expander.old.frames;
+    ensures opens { OnOk result (expander.new.here ≡ record expander.old.here {
+      frames = new_frame found.now.value line [] ∷ expander.old.here.frames;
     }) }
+    ensures below { expander.new.below ≡ expander.old.below }
 {
     let opened = found.clone()?;
     expander.open_bare(opened, line)

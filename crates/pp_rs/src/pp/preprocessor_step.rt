@@ -1,6 +1,6 @@
 //! One step over the reader of a source.
 
-ghost use Rattle.std.specs.Prelude.{IfOk};
+ghost use Rattle.std.specs.Prelude.{◌≡◌, [], IfOk};
 ghost use Rattle.pp_macros.specs.inner.CallTurns.{TurnsOrRefuses, TakenHoldsOrdinary};
 ghost use Rattle.pp_macros.specs.inner.Reader.{of_source};
 
@@ -14,8 +14,10 @@ pub fn step_source(
     expander: &mut MacroProcessor,
     source: &mut DirectiveProcessor<'_>,
 ) -> Step<Taken>
-    ensures turns { TurnsOrRefuses expander.old (of_source source.old) result expander.new
+    requires { expander.old.below ≡ [] }
+    ensures turns { TurnsOrRefuses expander.old.here (of_source source.old) result expander.new.here
         (of_source source.new) }
+    ensures below { expander.new.below ≡ expander.old.below }
     ensures holds { IfOk result TakenHoldsOrdinary }
 {
     expander.step(source)

@@ -1,6 +1,6 @@
 //! One turn over the reader of a source.
 
-ghost use Rattle.std.specs.Prelude.{◌≡◌, ◌⊎◌, [], Err, IfOk, MatchResult};
+ghost use Rattle.std.specs.Prelude.{◌≡◌, ◌⊎◌, [], Err, IfOk, MatchResult, None};
 ghost use Rattle.pp_lexer.specs.PreprocessorError.{out_of_memory};
 ghost use Rattle.pp_lexer.specs.declared.token.PreprocessorError.TheVariants.{LineOverflow};
 ghost use Rattle.pp_model.specs.Emitting.{expansion_limit};
@@ -21,7 +21,6 @@ use pp_macros::arguments::finish_call;
 use pp_macros::calls::{MacroCall, Taken};
 use pp_macros::macro_processor::{MacroProcessor, make_line_number};
 use pp_macros::names::gives_itself;
-use pp_macros::open_around::OpenAround;
 use pp_macros::reader::MeLexer;
 use pp_macros::step::{Step, StepExit};
 use pp_model::names::is_line_name;
@@ -36,17 +35,18 @@ fn follow_call(
     source: &DirectiveProcessor<'_>,
     call: MacroCall,
 ) -> Step<Token>
-    ensures follows { FollowsCall expansion_limit source.now.definitions call expander.old result
-        expander.new ⊎ (result ≡ Err (Error out_of_memory)) }
+    requires alone { expander.old.below ≡ [] }
+    requires free { expander.old.here.held ≡ None }
+    ensures follows { FollowsCall expansion_limit source.now.definitions call expander.old.here result
+        expander.new.here ⊎ (result ≡ Err (Error out_of_memory)) }
+    ensures below { expander.new.below ≡ expander.old.below }
     ensures holds { IfOk result (λ token. HoldsOrdinary token.value) }
 {
-    let around = OpenAround::nothing(alloc);
     finish_call(
         alloc,
         expander,
         call,
         source.definitions(),
-        &around,
         expansion_limit(),
     )?;
     Err(StepExit::Continue)
@@ -59,7 +59,9 @@ fn turn_expander(
     expander: &mut MacroProcessor,
     source: &mut DirectiveProcessor<'_>,
 ) -> Step<Token>
-    ensures turns { StepsOver expansion_limit expander.old source.old result expander.new source.new }
+    requires { expander.old.below ≡ [] }
+    ensures turns { StepsOver expansion_limit expander.old.here source.old result expander.new.here source.new }
+    ensures below { expander.new.below ≡ expander.old.below }
     ensures holds { IfOk result (λ token. HoldsOrdinary token.value) }
 {
     match step_source(expander, source)? {
@@ -97,7 +99,8 @@ fn hold_word(
     word: Token,
 ) -> Step<()>
     requires { HoldsOrdinary word.value }
-    ensures { HoldsWord word source.now expander.old result expander.new }
+    ensures holds { HoldsWord word source.now expander.old.here result expander.new.here }
+    ensures below { expander.new.below ≡ expander.old.below }
 {
     let token = take_in(source, word)?;
     expander.hold(token);
@@ -113,7 +116,9 @@ pub fn turn_source(
     expander: &mut MacroProcessor,
     source: &mut DirectiveProcessor<'_>,
 ) -> Step<Token>
-    ensures turns { StepsOver expansion_limit expander.old source.old result expander.new source.new }
+    requires { expander.old.below ≡ [] }
+    ensures turns { StepsOver expansion_limit expander.old.here source.old result expander.new.here source.new }
+    ensures below { expander.new.below ≡ expander.old.below }
     ensures holds { IfOk result (λ token. HoldsOrdinary token.value) }
 {
     if expander.is_idle() {

@@ -1,8 +1,15 @@
-use Rattle.std.proofs.Common.{◌≡◌, ◌≢◌, ◌+◌, ◌-◌, ◌≤◌, get_or, drop, refl, arith, ◌∙◌, sym, ap, rules, List, [], length-append, ◌∷◌, ◌++◌, length}
+use Rattle.std.proofs.Common.{◌≡◌, ◌≢◌, ◌+◌, ◌-◌, ◌≤◌, get_or, drop, refl, arith, ◌∙◌, sym, ap, subst, rules, List, [], length-append, ◌∷◌, ◌++◌, length}
 use Rattle.std.specs.Prelude.{Ok, Err, None}
 use Rattle.pp_model.specs.Calls.{arguments_of, misfit}
 use Rattle.pp_macros.specs.declared.argument_lists.Part.{Part}
+use Rattle.pp_model.specs.Emitting.{Alone, answers_at}
+use Rattle.pp_model.specs.Names.{Name}
+use Rattle.pp_macros.specs.inner.Expander.{Satisfies}
+use Rattle.pp_macros.specs.inner.Defined.{meaning_of}
+use Rattle.pp_macros.specs.inner.Finishing.{Finishes, read_to_end, site_at}
+use Rattle.pp_macros.specs.inner.Reader.{Listing}
 use Rattle.pp_macros.specs.inner.Frames.{names_of}
+use Rattle.pp_macros.specs.inner.Nesting.{MacroProcessor, open_names}
 use Rattle.pp_macros.specs.inner.Parts.{addition, list_of, lists_of}
 use Rattle.std.proofs.lemmas.Result.{err_from_is_err_and, IfOk-weaker}
 use Rattle.pp_model.specs.Emitting.{first_failed, more, none}
@@ -21,6 +28,8 @@ use Rattle.pp_macros.proofs.taking.GivingLemmas.{reached_added}
 use Rattle.pp_macros.proofs.taking.ListedLeadsLemmas.{turned}
 use Rattle.pp_macros.proofs.taking.PartLemmas.{AreLeft, added_is, added_push, left_within, left_first, left_rest, lists_more, in_order_push, part_has, part_all}
 use Rattle.pp_macros.proofs.taking.PlainLemmas.{plain_alone, plain_short, plain_each, plain_are_short}
+use Rattle.pp_macros.proofs.open_frames.BaseLemmas.{around_argument, unnested}
+use Rattle.pp_macros.proofs.work.CallFallsLemmas.{call_free}
 use Rattle.pp_macros.proofs.arguments.+answers.Goals as goal
 
 pub expand_list-items-init : goal.expand_list-items-init
@@ -30,6 +39,7 @@ expand_list-items-init t c =
       keeps = sym (append-nil c.args.items.now.items) ∙ ap (λ (out : List Read). c.args.items.now.items ++ out) (sym none_added);
       reached = reached_start _ _ _ _ _ _ _ c.requires.start.idle c.requires.start.argument none_added;
       holds = c.requires.before;
+      below = refl;
     }
 
 pub expand_list-items-smaller-in-Continue-branch-2 : goal.expand_list-items-smaller-in-Continue-branch-2
@@ -39,7 +49,7 @@ expand_list-items-smaller-in-Continue-branch-2 t c =
       arith,
       on.least,
       token_less _ _ _ _ _ _ _ on.reached _ _ c.in-Ok-Token.read (turned _ _ _ _ _
-          (rw c.in-Ok-Token.field-0-is at c.in-Ok-Token.ensures.turns) refl),
+          (rw (c.in-Ok-Token.field-0-is, c.in_ok-give_frames.ensures.below) at c.in-Ok-Token.ensures.turns) refl),
     )
 
 pub expand_list-items-preserved-in-Continue-branch-2 : goal.expand_list-items-preserved-in-Continue-branch-2
@@ -53,10 +63,11 @@ expand_list-items-preserved-in-Continue-branch-2 t c =
       keeps = put ∙ ap (λ (out : List Read). c.args.items.now.items ++ out) (sym one_more);
       reached =
           reached_token _ _ _ _ _ _ _ on.reached _ _ c.in-Ok-Token.read _
-          (turned _ _ _ _ _ (rw c.in-Ok-Token.field-0-is at c.in-Ok-Token.ensures.turns) refl) one_more;
+          (turned _ _ _ _ _ (rw (c.in-Ok-Token.field-0-is, c.in_ok-give_frames.ensures.below) at c.in-Ok-Token.ensures.turns) refl) one_more;
       holds =
           rw c.in_ok-push-in-Ok-Token.ensures.items (All-push (λ (read : Read). HoldsOrdinary read.token.value) _ _ c.in_ok-give_frames.ensures.holds
           (rw c.in-Ok-Token.field-0-is at c.in-Ok-Token.ensures.holds));
+      below = c.step_list.ensures.below ∙ c.in_ok-give_frames.ensures.below ∙ c.items.invariant.below;
     }
 
 pub expand_list-items-smaller-in-Continue-branch-3 : goal.expand_list-items-smaller-in-Continue-branch-3
@@ -66,7 +77,7 @@ expand_list-items-smaller-in-Continue-branch-3 t c =
       arith,
       on.least,
       call_less _ _ _ _ _ _ _ on.reached _ _ c.in-Ok-Call.call (turned _ _ _ _ _
-          (rw c.in-Ok-Call.field-0-is at c.in-Ok-Call.ensures.turns) refl) _ c.in_ok-finish_call-in-Ok-Call.ensures,
+          (rw (c.in-Ok-Call.field-0-is, c.in_ok-give_frames.ensures.below) at c.in-Ok-Call.ensures.turns) refl) _ (rw (c.step_list.ensures.below ∙ c.in_ok-give_frames.ensures.below ∙ c.items.invariant.below) at c.in_ok-finish_call-in-Ok-Call.ensures.finishes),
     )
 
 pub expand_list-items-preserved-in-Continue-branch-3 : goal.expand_list-items-preserved-in-Continue-branch-3
@@ -75,9 +86,10 @@ expand_list-items-preserved-in-Continue-branch-3 t c =
     record {
       keeps = on.keeps;
       reached =
-          reached_call _ _ _ _ _ _ _ on.reached _ _ c.in-Ok-Call.call
-          (turned _ _ _ _ _ (rw c.in-Ok-Call.field-0-is at c.in-Ok-Call.ensures.turns) refl) _ c.in_ok-finish_call-in-Ok-Call.ensures;
+          rw c.in_ok-finish_call-in-Ok-Call.ensures.below (reached_call _ _ _ _ _ _ _ on.reached _ _ c.in-Ok-Call.call
+          (turned _ _ _ _ _ (rw (c.in-Ok-Call.field-0-is, c.in_ok-give_frames.ensures.below) at c.in-Ok-Call.ensures.turns) refl) _ (rw (c.step_list.ensures.below ∙ c.in_ok-give_frames.ensures.below ∙ c.items.invariant.below) at c.in_ok-finish_call-in-Ok-Call.ensures.finishes));
       holds = c.in_ok-give_frames.ensures.holds;
+      below = c.in_ok-finish_call-in-Ok-Call.ensures.below ∙ c.step_list.ensures.below ∙ c.in_ok-give_frames.ensures.below ∙ c.items.invariant.below;
     }
 
 pub expand_list-items-smaller : goal.expand_list-items-smaller
@@ -87,7 +99,7 @@ expand_list-items-smaller t c =
       arith,
       on.least,
       pause_less _ _ _ _ _ _ _ on.reached _ _ (turned _ _ _ _ _
-          (rw c.in-Err-Continue.field-0-is at c.in-Err-Continue.ensures.turns) refl),
+          (rw (c.in-Err-Continue.field-0-is, c.in_ok-give_frames.ensures.below) at c.in-Err-Continue.ensures.turns) refl),
     )
 
 pub expand_list-items-preserved : goal.expand_list-items-preserved
@@ -96,15 +108,16 @@ expand_list-items-preserved t c =
     record {
       keeps = on.keeps;
       reached = reached_pause _ _ _ _ _ _ _ on.reached _ _
-          (turned _ _ _ _ _ (rw c.in-Err-Continue.field-0-is at c.in-Err-Continue.ensures.turns) refl);
+          (turned _ _ _ _ _ (rw (c.in-Err-Continue.field-0-is, c.in_ok-give_frames.ensures.below) at c.in-Err-Continue.ensures.turns) refl);
       holds = c.in_ok-give_frames.ensures.holds;
+      below = c.step_list.ensures.below ∙ c.in_ok-give_frames.ensures.below ∙ c.items.invariant.below;
     }
 
 pub expand_list-returns-in-Err-Finished-clause-alone : goal.expand_list-returns-in-Err-Finished-clause-alone
 expand_list-returns-in-Err-Finished-clause-alone t c =
     let on = reached_added _ _ _ _ _ _ c.args.items.now.items _ _ _ c.items.invariant.keeps c.items.invariant.reached c.in_ok-give_frames.ensures.gives in
     reached_end _ _ _ _ _ _ _ on.reached _ _
-    (turned _ _ _ _ _ (rw c.in-Err-Finished.field-0-is at c.in-Err-Finished.ensures.turns) refl)
+    (turned _ _ _ _ _ (rw (c.in-Err-Finished.field-0-is, c.in_ok-give_frames.ensures.below) at c.in-Err-Finished.ensures.turns) refl)
 
 pub expand_list-returns-in-Err-Finished-clause-keeps : goal.expand_list-returns-in-Err-Finished-clause-keeps
 expand_list-returns-in-Err-Finished-clause-keeps t c =
@@ -121,7 +134,7 @@ expand_list-returns-in-Err-Error-clause-alone t c =
     let on = reached_added _ _ _ _ _ _ c.args.items.now.items _ _ _ c.items.invariant.keeps c.items.invariant.reached c.in_ok-give_frames.ensures.gives in
     satisfies_fault c.halt_of.result c.in-Err-Error.fault _ c.halt_of.ensures
     (λ reported. reached_fault _ _ _ _ _ _ _ on.reached _ _ c.in-Err-Error.fault
-    (turned _ _ _ _ (Err (Error c.in-Err-Error.fault)) (rw c.in-Err-Error.field-0-is at c.in-Err-Error.ensures.turns) reported) reported)
+    (turned _ _ _ _ (Err (Error c.in-Err-Error.fault)) (rw (c.in-Err-Error.field-0-is, c.in_ok-give_frames.ensures.below) at c.in-Err-Error.ensures.turns) reported) reported)
 
 pub expand_list-returns-in_err-finish_call-in-Ok-Call-clause-alone : goal.expand_list-returns-in_err-finish_call-in-Ok-Call-clause-alone
 expand_list-returns-in_err-finish_call-in-Ok-Call-clause-alone t c =
@@ -129,14 +142,17 @@ expand_list-returns-in_err-finish_call-in-Ok-Call-clause-alone t c =
     let on = reached_added _ _ _ _ _ _ c.args.items.now.items _ _ _ c.items.invariant.keeps c.items.invariant.reached c.in_ok-give_frames.ensures.gives in
     satisfies_exit _ c.in_err-finish_call-in-Ok-Call.field-0.0 _ (e.1 ∙ ap Err e.2)
     (λ fault is. reached_call_fault _ _ _ _ _ _ _ on.reached _ _ c.in-Ok-Call.call fault
-    (turned _ _ _ _ _ (rw c.in-Ok-Call.field-0-is at c.in-Ok-Call.ensures.turns) refl)
-    (finish_fault c.args.levels c.args.definitions.now c.args.hidden.now c.in-Ok-Call.call c.step_list.new.expander c.finish_call.new.expander
-    c.in_err-finish_call-in-Ok-Call.field-0.0 fault is c.in_err-finish_call-in-Ok-Call.ensures))
+    (turned _ _ _ _ _ (rw (c.in-Ok-Call.field-0-is, c.in_ok-give_frames.ensures.below) at c.in-Ok-Call.ensures.turns) refl)
+    (finish_fault c.args.levels c.args.definitions.now (names_of c.args.processor.now.below) c.in-Ok-Call.call c.step_list.new.processor.here c.finish_call.new.processor.here
+    c.in_err-finish_call-in-Ok-Call.field-0.0 fault is
+    (subst (λ (hidden : List Name). Finishes c.args.levels c.args.definitions.now hidden c.in-Ok-Call.call c.step_list.new.processor.here
+    (Err c.in_err-finish_call-in-Ok-Call.field-0.0) c.finish_call.new.processor.here)
+    (ap names_of (c.step_list.ensures.below ∙ c.in_ok-give_frames.ensures.below ∙ c.items.invariant.below)) c.in_err-finish_call-in-Ok-Call.ensures.finishes)))
 
 pub expand_argument-returns-then-are_plain-clause-alone : goal.expand_argument-returns-then-are_plain-clause-alone
 expand_argument-returns-then-are_plain-clause-alone t c =
     rw (added_is c.args.items.now.items c.append.new.items.items c.args.tokens.now c.in_ok-append.ensures)
-    (plain_alone c.args.levels c.args.definitions.now c.args.hidden.now c.args.tokens.now (sym c.are_plain.ensures ∙ c.if-are_plain.true))
+    (plain_alone c.args.levels c.args.definitions.now (open_names c.args.processor.now) c.args.tokens.now (sym c.are_plain.ensures ∙ c.if-are_plain.true))
 
 pub expand_argument-returns-then-are_plain-clause-least : goal.expand_argument-returns-then-are_plain-clause-least
 expand_argument-returns-then-are_plain-clause-least t c =
@@ -165,7 +181,7 @@ expand_parts-expand_argument-requires t c =
       omega arith,
       (
         rw same (part_all (λ (read : Read). HoldsOrdinary read.token.value) c.args.tokens.now part c.requires.holds),
-        c.loop-part.invariant.holds,
+        (c.loop-part.invariant.holds, rw c.loop-part.invariant.same c.requires.free),
       ),
     )
 
@@ -180,7 +196,7 @@ expand_parts-returns-in_err-expand_argument-clause-each t c =
     satisfies_exit _ c.in_err-expand_argument.field-0.0 _ (e.1 ∙ ap Err e.2)
     (λ fault is. c.loop-part.invariant.goes_on (Err fault)
     (rw here (first_failed (list_of c.args.tokens.now part) _ fault (Err fault)
-    (rw same at (fault_of c.in_err-expand_argument.field-0.0 fault _ is c.in_err-expand_argument.ensures.alone)) refl)))
+    (rw (same, c.loop-part.invariant.same) at (fault_of c.in_err-expand_argument.field-0.0 fault _ is c.in_err-expand_argument.ensures.alone)) refl)))
 
 pub expand_parts-loop-part-preserved : goal.expand_parts-loop-part-preserved
 expand_parts-loop-part-preserved t c =
@@ -202,7 +218,7 @@ expand_parts-loop-part-preserved t c =
     record {
       goes_on = λ next h. rw (lists, ← after_lists-before (lists_of c.loop-part.items.items c.loop-part.expanded.items) out next)
           (c.loop-part.invariant.goes_on (list_before out next)
-          (rw here (more (list_of c.args.tokens.now part) out _ next (list_before out next) (rw same at c.in_ok-expand_argument.ensures.alone) h refl)));
+          (rw here (more (list_of c.args.tokens.now part) out _ next (list_before out next) (rw same at (rw c.loop-part.invariant.same at c.in_ok-expand_argument.ensures.alone)) h refl)));
       short = λ n all. short_more _ (lists_of c.loop-part.items.items c.loop-part.expanded.items) _ out (c.loop-part.invariant.short n all)
           (short_list c.args.levels c.args.definitions.now n (list_of c.args.tokens.now part) out
           (part_has (λ (list : List Read). length list ≤ n) c.args.tokens.now c.args.parts.now c.loop-part.part-index (record { start = 0; end = 0 }) (omega arith) all)
@@ -214,6 +230,7 @@ expand_parts-loop-part-preserved t c =
           (omega (arith, within.0)) (omega (arith, within.0, within.1, c.loop-part.auto.tokens))
           (c.expand_argument.auto.tokens ∙ length-between c.loop-part.tokens part.start part.end (omega (arith, within.1, c.loop-part.auto.tokens))));
       holds = c.in_ok-expand_argument.ensures.holds;
+      same = c.expand_argument.ensures.same ∙ c.loop-part.invariant.same;
     }
 
 pub expand_parts-returns-clause-each : goal.expand_parts-returns-clause-each
@@ -227,7 +244,7 @@ expand_parts-returns-clause-least t c = λ n all. rw c.new.ensures (c.loop-part.
 pub expand_arguments-returns-then-are_plain-clause-each : goal.expand_arguments-returns-then-are_plain-clause-each
 expand_arguments-returns-then-are_plain-clause-each t c =
     rw (c.new.ensures, ← c.into_parts-tokens.ensures.is)
-    (plain_each c.args.levels c.args.definitions.now c.args.hidden.now _ _ (rw c.deref.ensures.value at (sym c.are_plain.ensures ∙ c.if-are_plain.true)))
+    (plain_each c.args.levels c.args.definitions.now (open_names c.args.processor.now) _ _ (rw c.deref.ensures.value at (sym c.are_plain.ensures ∙ c.if-are_plain.true)))
 
 pub expand_arguments-returns-then-are_plain-clause-least : goal.expand_arguments-returns-then-are_plain-clause-least
 expand_arguments-returns-then-are_plain-clause-least t c =
@@ -237,33 +254,56 @@ pub expand_call-returns : goal.expand_call-returns
 expand_call-returns t c =
     let left : c.take_tokens.new.self ≡ record c.args.call.now { tokens = [] } = c.take_tokens.ensures.left in
     let cut : c.in_ok-arguments.arguments ≡ arguments_of c.args.call.now.tokens =
-    c.in_ok-arguments.ensures ∙ ap arguments_of c.take_tokens.ensures.taken in
+    c.in_ok-arguments.ensures.cut ∙ ap arguments_of c.take_tokens.ensures.taken in
     let fits : misfit c.args.call.now.opened.definition.parameters (arguments_of c.args.call.now.tokens) ≡ None =
     let known : misfit c.parameters.result.now c.in_ok-arguments.arguments ≡ None = sym c.misfit.ensures ∙ c.in-None.is in
     rw (c.parameters.ensures, left, cut) at known in
     let some : c.args.levels ≢ 0 = λ e. omega (arith, e, c.if-levels-eq0.false) in
-    let around = names_of c.args.expander.now.frames ++ c.args.hidden.now in
+    let around = open_names c.arguments_of.new.processor in
     record {
-      answers = satisfies_more c.expand_within.result _ _ (answers_each c.args.levels c.args.definitions.now around c.args.call.now some fits)
-          (rw cut at c.expand_within.ensures.each);
-      least = IfOk-weaker c.expand_within.result _ _ (of_call c.args.levels c.args.definitions.now c.args.call.now)
-          (rw cut at c.expand_within.ensures.least);
+      answers = subst (λ (p : MacroProcessor). Satisfies c.expand_arguments.result
+          (λ out. answers_at c.args.levels c.args.call.now.opened.definition (site_at c.args.call.now c.args.definitions.now (open_names p)) out))
+          c.arguments_of.ensures.same
+          (satisfies_more c.expand_arguments.result _ _ (answers_each c.args.levels c.args.definitions.now around c.args.call.now some fits)
+          (rw cut at c.expand_arguments.ensures.each));
+      least = IfOk-weaker c.expand_arguments.result _ _ (of_call c.args.levels c.args.definitions.now c.args.call.now)
+          (rw cut at c.expand_arguments.ensures.least);
+      same = c.expand_arguments.ensures.same ∙ c.arguments_of.ensures.same;
       left = left;
     }
 
-pub finish_call-returns-in_err-expanded : goal.finish_call-returns-in_err-expanded
-finish_call-returns-in_err-expanded t c =
-    let e = err_from_is_err_and c.from_residual.result c.from_residual.ensures.1 in
-    let lent = c.lend_spares-spares.ensures in
-    finishes_without c.args.levels c.args.definitions.now c.args.hidden.now c.args.call c.args.expander.now c.return_spares.new.self _
-    c.in_err-expanded.field-0.0 (e.1 ∙ ap Err e.2) (rw lent at c.in_err-expanded.ensures.answers) (c.return_spares.ensures ∙ lent)
+-- after a call nothing is held
+pub expand_list-finish_call-requires : goal.expand_list-finish_call-requires
+expand_list-finish_call-requires t c = (omega arith, call_free _ _ _ _ _ c.in-Ok-Call.call refl
+    (rw c.in-Ok-Call.field-0-is at c.in-Ok-Call.ensures.turns))
 
-pub finish_call-returns : goal.finish_call-returns
-finish_call-returns t c =
-    let lent = c.lend_spares-spares.ensures in
-    record {
-      arguments = c.in_ok-expanded.expanded;
-      answers = rw lent at c.in_ok-expanded.ensures.answers;
-      least = c.in_ok-expanded.ensures.least;
-      opens = rw (c.return_spares.ensures, lent, c.in_ok-expanded.ensures.left) at c.in_ok-open_call.ensures;
-    }
+-- an argument with a token that doesn't give itself
+pub expand_argument-expand_list-ended-requires : goal.expand_argument-expand_list-ended-requires
+expand_argument-expand_list-ended-requires t c = (omega arith, (record { idle = ap (λ (m : MacroProcessor). m.here) c.nest-around.ensures.is; argument = rw c.argument-lexer.ensures refl }, c.requires.before))
+
+pub expand_argument-returns-clause-alone : goal.expand_argument-returns-clause-alone
+expand_argument-returns-clause-alone t c =
+    subst (λ (tokens : List Read). Satisfies c.expand_list-ended.result (λ end. Alone c.args.levels tokens (meaning_of c.args.definitions.now)
+    (open_names c.args.processor.now) (read_to_end (addition c.args.items.now.items c.expand_list-ended.new.items.items) end)))
+    (ap (λ (l : Listing). l.tokens) c.argument-lexer.ensures)
+    (rw (around_argument c.args.processor.now c.nest-around.new.self c.nest-around.ensures.is) at c.expand_list-ended.ensures.alone)
+
+pub expand_argument-returns-clause-same : goal.expand_argument-returns-clause-same
+expand_argument-returns-clause-same t c =
+    unnested c.args.processor.now c.nest-around.new.self c.expand_list-ended.new.processor c.unnest.new.self c.nest-around.result
+    c.requires.free c.nest-around.ensures.is c.expand_list-ended.ensures.below c.nest-around.ensures.around c.unnest.ensures
+
+pub finish_call-returns-in_err-expanded-clause-finishes : goal.finish_call-returns-in_err-expanded-clause-finishes
+finish_call-returns-in_err-expanded-clause-finishes t c =
+    let e = err_from_is_err_and c.from_residual.result c.from_residual.ensures.1 in
+    finishes_without c.args.levels c.args.definitions.now (names_of c.args.processor.now.below) c.args.call c.args.processor.now.here
+    c.expand_call.new.processor.here _ c.in_err-expanded.field-0.0 (e.1 ∙ ap Err e.2) c.in_err-expanded.ensures.answers
+    (ap (λ (m : MacroProcessor). m.here) c.in_err-expanded.ensures.same)
+
+pub finish_call-returns-clause-finishes : goal.finish_call-returns-clause-finishes
+finish_call-returns-clause-finishes t c = record {
+  arguments = c.in_ok-expanded.expanded;
+  answers = c.in_ok-expanded.ensures.answers;
+  least = c.in_ok-expanded.ensures.least;
+  opens = ap (λ (m : MacroProcessor). m.here) (rw (c.in_ok-expanded.ensures.same, c.in_ok-expanded.ensures.left) at c.in_ok-open_call.ensures.ok);
+}

@@ -5,6 +5,8 @@ use Rattle.pp_model.specs.Calls.{Fault}
 use Rattle.pp_model.specs.Emitting.{Each, Alone}
 use Rattle.pp_model.proofs.CollectLemmas.{after_items}
 use Rattle.pp_macros.specs.inner.Defined.{meaning_of}
+use Rattle.pp_macros.specs.inner.Frames.{names_of}
+use Rattle.pp_macros.specs.inner.Nesting.{listed_in, open_names, seen_by}
 use Rattle.pp_macros.specs.inner.Parts.{addition, lists_of, AreInOrder}
 use Rattle.pp_macros.specs.inner.Reading.{AllReadOrdinary}
 use Rattle.pp_macros.specs.inner.Left.{work_of, most_alone}
@@ -22,9 +24,6 @@ decreases-expand_call l = 8 * l.levels
 abbrev pub decreases-expand_list : goal.decreases-expand_list
 decreases-expand_list l = 8 * l.levels + 2
 
-abbrev pub decreases-expand_tokens : goal.decreases-expand_tokens
-decreases-expand_tokens l = 8 * l.levels + 3
-
 abbrev pub decreases-expand_argument : goal.decreases-expand_argument
 decreases-expand_argument l = 8 * l.levels + 4
 
@@ -34,29 +33,29 @@ decreases-expand_parts l = 8 * l.levels + 5
 abbrev pub decreases-expand_arguments : goal.decreases-expand_arguments
 decreases-expand_arguments l = 8 * l.levels + 6
 
-abbrev pub decreases-expand_within : goal.decreases-expand_within
-decreases-expand_within l = 8 * l.levels + 7
-
 -- what was added so far, and the state from which the rest comes
 abbrev pub invariant-expand_list-items : goal.invariant-expand_list-items
 invariant-expand_list-items l = record {
   keeps : l.items.items ≡ l.fn.items.items ++ addition l.fn.items.items l.items.items;
-  reached : Reached l.levels l.definitions l.hidden l.fn.lexer.tokens l.expander l.lexer (addition l.fn.items.items l.items.items);
+  reached : Reached l.levels l.definitions (names_of l.fn.processor.below) l.fn.lexer.tokens l.processor.here (listed_in l.processor.below l.lexer)
+      (addition l.fn.items.items l.items.items);
   holds : AllReadOrdinary l.items.items;
+  below : l.processor.below ≡ l.fn.processor.below;
 }
 
 abbrev pub decreases-expand_list-items : goal.decreases-expand_list-items
-decreases-expand_list-items l = work_of l.levels l.expander (of_list l.lexer)
+decreases-expand_list-items l = work_of l.levels l.processor.here (seen_by l.processor.below (of_list l.lexer))
 
 -- the lists so far, and the parts that are left
 abbrev pub invariant-expand_parts-loop-part : goal.invariant-expand_parts-loop-part
 invariant-expand_parts-loop-part l = record {
   goes_on : (out : Result (List (List Read)) Fault)
-      → Each (Alone l.levels) (meaning_of l.definitions) l.hidden (lists_of l.fn.tokens (drop l.part-index l.parts)) out
-      → Each (Alone l.levels) (meaning_of l.definitions) l.hidden (lists_of l.fn.tokens l.parts) (after_items (lists_of l.items.items l.expanded.items) out);
+      → Each (Alone l.levels) (meaning_of l.definitions) (open_names l.fn.processor) (lists_of l.fn.tokens (drop l.part-index l.parts)) out
+      → Each (Alone l.levels) (meaning_of l.definitions) (open_names l.fn.processor) (lists_of l.fn.tokens l.parts) (after_items (lists_of l.items.items l.expanded.items) out);
   short : (n : ℕ) → All (λ (a : List Read). length a ≤ n) (lists_of l.fn.tokens l.parts)
       → All (λ (a : List Read). length a ≤ most_alone l.levels l.definitions n) (lists_of l.items.items l.expanded.items);
   order : AreInOrder 0 l.expanded.items (length l.items.items);
   left : AreLeft l.fn.tokens l.tokens (drop l.part-index l.parts);
   holds : AllReadOrdinary l.items.items;
+  same : l.processor ≡ l.fn.processor;
 }

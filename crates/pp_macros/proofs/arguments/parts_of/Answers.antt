@@ -23,4 +23,4 @@ returns c =
     let ended : c.loop-at.at ≡ length c.args.tokens.now = omega arith in
     let done = cut_end c.args.tokens.now c.loop-at.parts.items c.loop-at.start c.loop-at.at c.loop-at.depth c.loop-at.invariant c.push-2.new.self.items
     (sym ended) (rw ended c.in_ok-push-2.ensures.items) in
-    record { cut = done.0; order = done.1 }
+    record { same = c.take_parts.ensures.same; cut = done.0; order = done.1 }

@@ -1,5 +1,6 @@
-use Rattle.std.specs.Prelude.{IfOk}
+use Rattle.std.specs.Prelude.{◌≡◌, IfOk}
 use Rattle.pp_macros.proofs.taking.Walk.{[], ◌∷◌, ◌++◌, ℕ, refl, MutBor, proved, full_share, common, id⊢, emp, wand, sep, apply∗, Lft, Incl, ftrue, flft, fdead, named, mut, ty_ref, ty_unit, vptr, fact, fact_i, tables, ⊑_meet, ⊑_refl, meet_⊑_left, meet_⊑_right, ‵, raw, ◌⊛◌, some, later, ◌$◌, ◌∵◌, !, qed, done, move, keep, use0, use1, use2, use3, split, join, fsplit, pick, await, suffices, frame, group, lft_new, lft_end, lft-common, agg, enter, addr, stop, no_more, and_then, returns, alloc_all, pass_all, free_all, look_at, get, through, sets, lands_as, vt_lit, lends_again, comes_back, LentAgain, MutRef, mut_vals, mut_Tells, mut_hides, MutAny, Includes-none, wide_val, table_at, plain, named_lft, nothing, heard, peeks, calls_at, lasts, triple_of, Stays, stay_ref, Goes-ref, ends_at, framed, hide_mut, Is, shows}
+use Rattle.pp_macros.specs.inner.Nesting.{MayWait, seen_by}
 use Rattle.pp_macros.specs.inner.Reader.{of_list}
 use Rattle.pp_macros.specs.inner.Expander.{TakesNext}
 use Rattle.pp_macros.specs.Held.{HoldsOrdinary}
@@ -78,13 +79,14 @@ take_any_spec 𝓤 𝓛 𝓜 𝓡 wired =
     ) in
     move ! (2 ∷ []) $ nothing ! $ move ! (1 ∷ 0 ∷ []) $ join ! $ move ! (4 ∷ 0 ∷ []) $ join ! $
     nothing ! $ move ! (2 ∷ 0 ∷ []) $ join ! $ move ! (5 ∷ 0 ∷ []) $ join ! $ join ! $
-    nothing ! $ move ! (1 ∷ 0 ∷ []) $ use2 𝓛 (raw (G.pre z)) (id⊢ 𝓤 _) $
+    use0 𝓛 (raw (fact 𝓤 (MayWait p.now.below (of_list r.now)))) (fact_i 𝓤 (MayWait p.now.below (of_list r.now)) (emp 𝓤) tt) $
+    move ! (1 ∷ 0 ∷ []) $ use2 𝓛 (raw (G.pre z)) (id⊢ 𝓤 _) $
     calls_at ! (framed 𝓤 𝓛.H 𝓜 (tables 𝓤 𝓛.H 𝓜 𝓡 𝓡.env)) G
     (met 𝓤 𝓛 𝓜 𝓡 (code.calls-pp_macros::macro_processor::MacroProcessor::take_next 𝓡.env wired) T (Includes-none lists.own-1) (hidden.met-1 𝓤 𝓛 𝓜 𝓡 wired)) z
     (and_then ! (get ! refl) (and_then ! (get ! refl) (no_more !))) (λ v.
     use1 𝓛 (later (some (λ (u : O.Denot). ((‵ (flft (β ∷ []) full_share) ⊛ ‵ (flft κ' share) ⊛ ‵ ftrue) ⊛ ‵ (O.own_val u (v ∷ []))) ⊛
     some (λ (ws : P.Denot × (R.Denot × Unit {0})). ‵ (lasts (g.ended T) z.0.0 z.0.3 ws) ⊛
-    (raw (fact 𝓤 (TakesNext p.now (of_list r.now) u ws.0 (of_list ws.1.0))) ⊛ raw (fact 𝓤 (IfOk u (λ (t : Read). HoldsOrdinary t.token.value)))))))) (id⊢ 𝓤 _) $
+    (raw (fact 𝓤 (TakesNext p.now.here (seen_by p.now.below (of_list r.now)) u ws.0.here (seen_by ws.0.below (of_list ws.1.0)))) ⊛ raw (fact 𝓤 (ws.0.below ≡ p.now.below)) ⊛ raw (fact 𝓤 (MayWait ws.0.below (of_list ws.1.0))) ⊛ raw (fact 𝓤 (IfOk u (λ (t : Read). HoldsOrdinary t.token.value)))))))) (id⊢ 𝓤 _) $
     await ! tt $ pick ! (λ u. split ! $ split ! $ split ! $ move ! (1 ∷ []) $ split ! $
     -- [the token of κ'; nothing; the token of β; the result; the ensures; the way back; the source's lender; the processor's]
     move ! (0 ∷ 5 ∷ []) $ use2 𝓛 (‵ (flft κ₁ q₁) ⊛ ‵ (flft (α ∷ []) full_share)) (apply∗ 𝓤 (𝓛.A.lft κ' share) Both) $ split ! $
@@ -93,7 +95,7 @@ take_any_spec 𝓤 𝓛 𝓜 𝓡 wired =
     -- [β is over; κ' is over; the token of the borrow; nothing; the result; the ensures; the source's lender; the processor's]
     move ! (4 ∷ []) $ peeks ! O (Is O) (shows 𝓛 O) u (v ∷ []) (λ is. lands_as ! refl refl
     (((result_laws read_row exit_row read_laws exit_laws).lawful 𝓛).typed u _ is).0 $
-    move ! (5 ∷ []) $ pick ! (λ ws. split ! $ move ! (1 ∷ []) $ split ! $ heard ! _ (λ turns. heard ! _ (λ holds. fsplit ! $ fsplit ! $
+    move ! (5 ∷ []) $ pick ! (λ ws. split ! $ move ! (1 ∷ []) $ split ! $ heard ! _ (λ turns. split ! $ heard ! _ (λ below. split ! $ heard ! _ (λ waits. heard ! _ (λ holds. fsplit ! $ fsplit ! $
     -- [the processor's last value; its loan; the source's; the result; β is over; κ' is over; the token of the borrow; nothing; the source's
     -- lender; the processor's]
     move ! (4 ∷ 9 ∷ 0 ∷ []) $ use3 𝓛 (later (‵ (RefP κp (record p { now = ws.0 })) ⊛ ‵ (flft κp qp)))
@@ -106,7 +108,8 @@ take_any_spec 𝓤 𝓛 𝓜 𝓡 wired =
     suffices ! _ (ends_at 𝓛 f.ended row c ((κs, qs, bounds, a, (mut_vals p, (mut_vals r, tt))), tt) v u (ws.0, (ws.1.0, tt)) (tt, (tt, tt))) $
     nothing ! $ move ! (1 ∷ 0 ∷ []) $ join ! $ move ! (2 ∷ 0 ∷ []) $ join ! $
     nothing ! $ move ! (5 ∷ 0 ∷ []) $ join ! $ move ! (2 ∷ 0 ∷ []) $ join ! $ move ! (2 ∷ 0 ∷ []) $ join ! $
-    group ! 3 $ frame ! $ use0 𝓛 (raw (fact 𝓤 (TakesNext p.now (of_list r.now) u ws.0 (of_list ws.1.0))))
-    (fact_i 𝓤 (TakesNext p.now (of_list r.now) u ws.0 (of_list ws.1.0)) (emp 𝓤) turns) $ frame ! $
+    group ! 3 $ frame ! $ use0 𝓛 (raw (fact 𝓤 (TakesNext p.now.here (seen_by p.now.below (of_list r.now)) u ws.0.here (seen_by ws.0.below (of_list ws.1.0)))))
+    (fact_i 𝓤 (TakesNext p.now.here (seen_by p.now.below (of_list r.now)) u ws.0.here (seen_by ws.0.below (of_list ws.1.0))) (emp 𝓤) turns) $ frame ! $
+    use0 𝓛 (raw (fact 𝓤 (ws.0.below ≡ p.now.below))) (fact_i 𝓤 (ws.0.below ≡ p.now.below) (emp 𝓤) below) $ frame ! $
     use0 𝓛 (raw (fact 𝓤 (IfOk u (λ (t : Read). HoldsOrdinary t.token.value))))
-    (fact_i 𝓤 (IfOk u (λ (t : Read). HoldsOrdinary t.token.value)) (emp 𝓤) holds) $ done !))))))))))))
+    (fact_i 𝓤 (IfOk u (λ (t : Read). HoldsOrdinary t.token.value)) (emp 𝓤) holds) $ done !))))))))))))))

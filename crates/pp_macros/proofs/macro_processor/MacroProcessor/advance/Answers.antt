@@ -1,21 +1,29 @@
-use Rattle.std.proofs.Common.{refl, Err}
+use Rattle.std.proofs.Common.{◌∙◌, refl, subst, sym, Err}
 use Rattle.pp_macros.specs.inner.Giving.{at_once, after}
+use Rattle.pp_macros.specs.inner.Nesting.{MayWait, seen_by}
 use Rattle.pp_macros.specs.declared.step.StepExit.TheVariants.{Continue}
 use Rattle.pp_macros.proofs.work.CallFallsLemmas.{turn_falls}
 use Rattle.pp_macros.proofs.macro_processor.MacroProcessor.advance.Goals as goal
 
 pub turns-init : goal.turns-init
-turns-init g c = record { pauses = at_once _ refl; sound = c.requires }
+turns-init g c = record { pauses = at_once _ refl; sound = c.requires.sound; below = refl }
+
+pub turn-requires : goal.turn-requires
+turn-requires g c = rw c.turns.invariant.below (record { sound = c.turns.invariant.sound; waits = c.requires.waits })
 
 pub turns-preserved : goal.turns-preserved
 turns-preserved g c =
-    let paused = rw c.in-Passed.is at (c.in_ok-turn.ensures {u = tt}).turns in
-    let less = turn_falls 0 c.turns.self (g.L.MeLexer.reader c.args.lexer.now) c.turns.invariant.sound (Err Continue) c.turn.new.self
-    (g.L.MeLexer.reader c.args.lexer.now) paused refl in
-    record { pauses = after c.turns.self _ c.turns.invariant.pauses paused; sound = less.sound }
+    let paused = rw (c.in-Passed.is, c.turns.invariant.below) at (c.in_ok-turn.ensures {u = tt}).turns in
+    let less = turn_falls 0 c.turns.self.here (seen_by c.args.self.now.below (g.L.MeLexer.reader c.args.lexer.now)) c.turns.invariant.sound (Err Continue) c.turn.new.self.here
+    (seen_by c.args.self.now.below (g.L.MeLexer.reader c.args.lexer.now)) paused refl in
+    record {
+      pauses = after c.turns.self.here _ c.turns.invariant.pauses paused;
+      sound = less.sound;
+      below = (c.in_ok-turn.ensures {u = tt}).below ∙ c.turns.invariant.below;
+    }
 
 pub turns-smaller : goal.turns-smaller
 turns-smaller g c =
-    let paused = rw c.in-Passed.is at (c.in_ok-turn.ensures {u = tt}).turns in
-    (turn_falls 0 c.turns.self (g.L.MeLexer.reader c.args.lexer.now) c.turns.invariant.sound (Err Continue) c.turn.new.self
-    (g.L.MeLexer.reader c.args.lexer.now) paused refl).falls
+    let paused = rw (c.in-Passed.is, c.turns.invariant.below) at (c.in_ok-turn.ensures {u = tt}).turns in
+    (turn_falls 0 c.turns.self.here (seen_by c.args.self.now.below (g.L.MeLexer.reader c.args.lexer.now)) c.turns.invariant.sound (Err Continue) c.turn.new.self.here
+    (seen_by c.args.self.now.below (g.L.MeLexer.reader c.args.lexer.now)) paused refl).falls

@@ -1,17 +1,19 @@
-use Rattle.std.proofs.Common.{List, IfSome, length, refl, subst}
-use Rattle.pp_model.specs.Names.{Name}
-use Rattle.pp_macros.specs.inner.Ahead.{Ahead}
-use Rattle.pp_macros.specs.inner.Bodies.{noted_by}
-use Rattle.pp_macros.specs.inner.Defined.{AreNumbered}
-use Rattle.pp_macros.specs.inner.Expander.{Expander}
-use Rattle.pp_macros.specs.inner.Left.{HaveNumbers}
-use Rattle.pp_macros.proofs.open_frames.OpenMacroLemmas.{ahead_numbered}
+use Rattle.std.proofs.Common.{◌∙◌, ap, length, refl, sym, Some, None}
+use Rattle.pp_macros.proofs.open_frames.BaseLemmas.{none_given, gives_here, numbered_here}
 use Rattle.pp_macros.proofs.macro_processor.MacroProcessor.ahead.Goals as goal
+
+-- nothing is open here
+pub returns-then-not-has_frames-clause-ahead : goal.returns-then-not-has_frames-clause-ahead
+returns-then-not-has_frames-clause-ahead c = sym (none_given c.args.self.now.here.frames (sym c.has_frames.ensures ∙ c.if-not-has_frames.true))
+
+pub returns-in-Some-clause-ahead : goal.returns-in-Some-clause-ahead
+returns-in-Some-clause-ahead c =
+    let item = rw c.deref.ensures.value at c.in-Some.ensures.item in
+    c.token.ensures.token ∙ sym (gives_here c.self.inside.held c.self.inside.base c.self.inside.frames.items c.args.self.now c.self.view_is
+    (sym c.has_frames.ensures ∙ c.if-not-has_frames.false) c.in-Some.frame.now (length c.self.inside.frames.items) refl item.1)
 
 pub returns-in-Some-clause-number : goal.returns-in-Some-clause-number
 returns-in-Some-clause-number c =
-    let items = c.self.inside.frames.items in
     let item = rw c.deref.ensures.value at c.in-Some.ensures.item in
-    subst (λ (m : Expander). IfSome c.token.result (λ (a : Ahead). (names : List Name) → HaveNumbers names m.frames
-    → AreNumbered names (noted_by a.number a.read.token.value))) c.self.view_is
-    (ahead_numbered c.token.result items c.in-Some.frame.now (length items) refl item.3.0 item.1 c.token.ensures.number)
+    numbered_here c.self.inside.held c.self.inside.base c.self.inside.frames.items c.args.self.now c.self.view_is
+    (sym c.has_frames.ensures ∙ c.if-not-has_frames.false) c.in-Some.frame.now (length c.self.inside.frames.items) refl item.1 c.token.result c.token.ensures.number

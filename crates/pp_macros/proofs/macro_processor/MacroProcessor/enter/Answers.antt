@@ -10,6 +10,6 @@ returns-then-is_function_like-clause-follows g c =
 
 pub returns-else-is_function_like-clause-follows : goal.returns-else-is_function_like-clause-follows
 returns-else-is_function_like-clause-follows g c =
-    follows_plain c.args.read _ _ _ _ _ c.requires.opens
+    rw c.open_plain.ensures.below (follows_plain c.args.read _ _ _ _ _ c.requires.opens
     (ap (λ (m : Macro). m.definition.function_like) (sym c.deref.ensures) ∙ sym c.is_function_like.ensures ∙ c.if-is_function_like.false)
-    c.open_plain.ensures.opens
+    c.open_plain.ensures.opens)

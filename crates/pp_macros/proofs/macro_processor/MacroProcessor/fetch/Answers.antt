@@ -1,18 +1,31 @@
-use Rattle.std.proofs.Common.{◌≡◌, ◌∙◌, sym, refl, None}
-use Rattle.pp_macros.proofs.taking.ExpanderLemmas.{fetches_held, fetches_step, fetches_shown, none_held}
+use Rattle.std.proofs.Common.{◌≡◌, ◌∙◌, List, ap, refl, subst, sym, None}
+use Rattle.pp_macros.specs.inner.Expander.{StepsFetching}
+use Rattle.pp_macros.specs.inner.Frames.{Frame}
+use Rattle.pp_macros.specs.inner.Nesting.{MacroProcessor, MayWait, seen_by}
+use Rattle.pp_macros.proofs.taking.ExpanderLemmas.{none_held}
+use Rattle.pp_macros.proofs.taking.NestingLemmas.{held_fetched, step_fetched, shown_fetched, moves_wait}
 use Rattle.pp_macros.proofs.macro_processor.MacroProcessor.fetch.Goals as goal
 
 pub returns-then-is_holding-clause-steps : goal.returns-then-is_holding-clause-steps
-returns-then-is_holding-clause-steps g c = fetches_held _ _ _ _ c.take_held.ensures.held c.take_held.ensures.left
+returns-then-is_holding-clause-steps g c = held_fetched c.args.self.now _ _ _ c.take_held.ensures.held c.take_held.ensures.left
+
+pub returns-then-is_holding-clause-waits : goal.returns-then-is_holding-clause-waits
+returns-then-is_holding-clause-waits g c = rw c.take_held.ensures.left c.requires.waits
 
 pub returns-then-gives_line_name-clause-steps : goal.returns-then-gives_line_name-clause-steps
 returns-then-gives_line_name-clause-steps g c =
-    let free : c.args.self.now.held ≡ None = none_held c.args.self.now.held (sym c.is_holding.ensures ∙ c.if-is_holding.false) in
-    fetches_shown c.args.self.now _ _ _ _ c.step_frames-step.result _ _ _
-    refl free (c.step_frames-step.ensures.held ∙ free) c.step_frames-step.ensures.moves c.show_line.ensures.shows
+    shown_fetched c.args.self.now _ _ _ _ _ (none_held c.args.self.now.here.held (sym c.is_holding.ensures ∙ c.if-is_holding.false))
+    c.step_frames-step.ensures.moves c.step_frames-step.ensures.others c.show_line.ensures.shows
+
+pub returns-then-gives_line_name-clause-waits : goal.returns-then-gives_line_name-clause-waits
+returns-then-gives_line_name-clause-waits g c =
+    rw c.step_frames-step.ensures.others (moves_wait _ _ _ _ _ _ c.step_frames-step.ensures.moves c.requires.waits)
 
 pub returns-clause-steps : goal.returns-clause-steps
 returns-clause-steps g c =
-    let free : c.args.self.now.held ≡ None = none_held c.args.self.now.held (sym c.is_holding.ensures ∙ c.if-is_holding.false) in
-    fetches_step c.args.self.now _ _ _ _ c.step_frames-step.result _ _ refl free (c.step_frames-step.ensures.held ∙ free) c.step_frames-step.ensures.moves
-    (sym c.gives_line_name.ensures ∙ c.if-gives_line_name.false)
+    step_fetched c.args.self.now _ _ _ _ (none_held c.args.self.now.here.held (sym c.is_holding.ensures ∙ c.if-is_holding.false))
+    c.step_frames-step.ensures.moves c.step_frames-step.ensures.others (sym c.gives_line_name.ensures ∙ c.if-gives_line_name.false)
+
+pub returns-clause-waits : goal.returns-clause-waits
+returns-clause-waits g c =
+    rw c.step_frames-step.ensures.others (moves_wait _ _ _ _ _ _ c.step_frames-step.ensures.moves c.requires.waits)

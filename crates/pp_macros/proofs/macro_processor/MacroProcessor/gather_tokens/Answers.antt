@@ -15,6 +15,7 @@ returns-in-Err-Error g c =
       gathers = satisfies_fault c.halt_of.result c.in-Err-Error.fault _ c.halt_of.ensures
           (λ reported. gathers_fault _ _ _ run.some _ _ _ _ (flat_gathers _ _ _ _ _ _ _ _ _ c.tokens.invariant.goes_on run.flat) _ _ c.in-Err-Error.fault
           (run.last reported) reported);
+      below = c.push_run.ensures.below ∙ c.tokens.invariant.below;
       holds = tt;
     }
 
@@ -71,4 +72,6 @@ tokens-preserved g c =
           (gathers_more _ _ _ run.some _ _ _ _ (flat_gathers _ _ _ _ _ _ _ _ _ c.tokens.invariant.goes_on run.flat) _ _ t.read _ _ t.takes
           (ap (λ (r : Read). nesting c.tokens.depth r.token.value) (sym same) ∙ c.in-Within.ensures {u = tt}) t.is);
       holds = rw t.is (All-push (λ (read : Read). HoldsOrdinary read.token.value) _ _ (flat_holds _ _ _ _ _ run.flat c.tokens.invariant.holds) t.holds);
+      below = c.push_run.ensures.below ∙ c.tokens.invariant.below;
+      waits = (c.in-Ok.ensures {u = tt}).waits;
     }

@@ -1,5 +1,7 @@
+use Rattle.std.proofs.Common.{◌≡◌}
 use Rattle.pp_macros.specs.inner.Giving.{GivesEach}
 use Rattle.pp_macros.specs.inner.Left.{work_of, IsSound}
+use Rattle.pp_macros.specs.inner.Nesting.{seen_by}
 use Rattle.pp_macros.specs.inner.Reader.{of_list}
 use Rattle.pp_macros.specs.inner.Reading.{AllReadOrdinary}
 use Rattle.pp_macros.proofs.macro_processor.MacroProcessor.give_frames.Given as goal
@@ -7,10 +9,11 @@ use Rattle.pp_macros.proofs.macro_processor.MacroProcessor.give_frames.Given as 
 -- what was given so far
 abbrev pub invariant-tokens : goal.invariant-tokens
 invariant-tokens l = record {
-  gives : GivesEach (of_list l.fn.list) l.fn.self l.fn.items.items l.self l.items.items;
-  sound : IsSound l.self (of_list l.fn.list);
+  gives : GivesEach (seen_by l.fn.self.below (of_list l.fn.list)) l.fn.self.here l.fn.items.items l.self.here l.items.items;
+  sound : IsSound l.self.here (seen_by l.fn.self.below (of_list l.fn.list));
   holds : AllReadOrdinary l.items.items;
+  below : l.self.below ≡ l.fn.self.below;
 }
 
 abbrev pub decreases-tokens : goal.decreases-tokens
-decreases-tokens l = work_of 0 l.self (of_list l.fn.list)
+decreases-tokens l = work_of 0 l.self.here (seen_by l.fn.self.below (of_list l.fn.list))

@@ -1,8 +1,13 @@
-use Rattle.std.proofs.Common.{◌≡◌, Some, slice_get, ap, sym}
-use Rattle.pp_macros.proofs.open_frames.OpenMacroLemmas.{outermost_first}
+use Rattle.std.proofs.Common.{ap, refl, Some}
+use Rattle.pp_macros.proofs.open_frames.BaseLemmas.{line_here, no_line_here}
 use Rattle.pp_macros.proofs.macro_processor.MacroProcessor.outermost_line.Goals as goal
 
 pub returns-in-Some : goal.returns-in-Some
 returns-in-Some c =
-    let first : slice_get c.self.inside.frames.items 0 ≡ Some c.in-Some.frame.now = rw c.deref.ensures.value at (sym c.in-Some.ensures.value) in
-    rw (← c.self.view_is, outermost_first c.self.inside.frames.items c.in-Some.frame.now first) (ap Some c.line.ensures)
+    let found = rw c.deref.ensures.value at c.in-Some.ensures.lookup in
+    rw (← c.self.view_is, line_here c.self.inside.base c.self.inside.frames.items c.in-Some.frame.now found.3.0 found.1) (ap Some c.line.ensures)
+
+pub returns-in-None : goal.returns-in-None
+returns-in-None c =
+    let past = rw c.deref.ensures.value at c.in-None.ensures.lookup in
+    rw (← c.self.view_is, no_line_here c.self.inside.base c.self.inside.frames.items past.3) refl

@@ -1,4 +1,6 @@
-use Rattle.std.proofs.Common.{◌∙◌, length, ap}
+use Rattle.std.proofs.Common.{◌∙◌, length, ap, refl, List, [], ◌∷◌, ◌++◌}
+use Rattle.pp_macros.specs.inner.Frames.{Frame}
+use Rattle.pp_macros.proofs.open_frames.BaseLemmas.{pushed_here, pushed_within}
 use Rattle.pp_macros.proofs.open_frames.OpenMacroLemmas.{names_noted}
 use Rattle.pp_macros.proofs.open_frames.OpenMarksLemmas.{marked_opened}
 use Rattle.pp_macros.proofs.macro_processor.MacroProcessor.push.Goals as goal
@@ -11,8 +13,15 @@ invariant_of-self-2 c =
           c.in_ok-note_name.ensures.few (c.in_ok-note_name.ensures.many) c.self.invariant.0,
       rw (c.add.ensures, c.mark.ensures, c.deref.ensures, c.opened-2.ensures) (marked_opened c.self.inside.marks c.self.inside.frames.items _ c.self.invariant.1),
       c.self.invariant.2,
+      pushed_within c.self.inside.base c.self.inside.frames.items _ _ c.self.invariant.3 refl,
     )
 
 pub invariant_of-self-in_err-note_name : goal.invariant_of-self-in_err-note_name
 invariant_of-self-in_err-note_name c =
-    rw c.reserve.ensures.items (c.in_err-note_name.ensures.err ∙ c.self.invariant.0, c.self.invariant.1, c.self.invariant.2)
+    rw c.reserve.ensures.items (c.in_err-note_name.ensures.err ∙ c.self.invariant.0, c.self.invariant.1, c.self.invariant.2, c.self.invariant.3)
+
+-- the frame is the innermost
+pub returns-clause-ok : goal.returns-clause-ok
+returns-clause-ok c =
+    pushed_here c.self.inside.held c.self.inside.base c.self.inside.frames.items _ c.args.self.now _ c.self.view_is c.self.invariant.3
+    (c.push_reserved.ensures.items ∙ ap (λ (fs : List Frame). fs ++ c.args.frame ∷ []) c.reserve.ensures.items)

@@ -1,25 +1,23 @@
-use Rattle.std.proofs.Common.{◌∙◌, sym}
-use Rattle.pp_macros.proofs.taking.ExpanderLemmas.{idle_takes}
-use Rattle.pp_macros.proofs.taking.RunLemmas.{run_now, run_after, run_refused, read_run}
+use Rattle.std.proofs.Common.{◌∙◌, refl, sym}
+use Rattle.pp_macros.proofs.taking.RunLemmas.{run_now, run_after, run_refused, flat_run}
 use Rattle.pp_macros.proofs.macro_processor.MacroProcessor.push_run.Goals as goal
 
-pub returns-then-not-is_idle : goal.returns-then-not-is_idle
-returns-then-not-is_idle g c = record { takes = run_now _ _ _ _ _ _ _ c.push_next.ensures.takes c.push_next.ensures.kept }
+pub push_flat-requires : goal.push_flat-requires
+push_flat-requires g c = record { waits = c.requires.waits; idle = sym c.is_idle.ensures ∙ c.if-not-is_idle.false }
 
-pub returns-in-Ok-true : goal.returns-in-Ok-true
-returns-in-Ok-true g c =
-    let run = rw c.in-Ok-true.field-0-test at (c.in-Ok-true.ensures {u = tt}) in
-    let waits = sym c.is_idle.ensures ∙ c.if-not-is_idle.false in
-    record { takes = run_after _ _ _ _ _ _ _ _ _ waits run.flat (idle_takes c.args.self.now _ _ _ _ waits run.last) (λ e. cc) }
+pub returns-then-not-is_idle-clause-takes : goal.returns-then-not-is_idle-clause-takes
+returns-then-not-is_idle-clause-takes g c = run_now _ _ _ _ _ _ _ c.push_next.ensures.takes c.push_next.ensures.kept
 
-pub returns-in-Ok-false : goal.returns-in-Ok-false
-returns-in-Ok-false g c =
-    let run = rw c.in-Ok-false.field-0-test at (c.in-Ok-false.ensures {u = tt}) in
-    let waits = sym c.is_idle.ensures ∙ c.if-not-is_idle.false in
-    record {
-      takes = run_after _ _ _ _ _ _ _ _ _ waits (read_run _ _ _ _ _ _ run.flat run.last.0 run.last.1) c.push_next-in-Ok-false.ensures.takes
-          c.push_next-in-Ok-false.ensures.kept;
-    }
+pub returns-in-Ok-true-clause-takes : goal.returns-in-Ok-true-clause-takes
+returns-in-Ok-true-clause-takes g c =
+    let run = rw c.in-Ok-true.field-0-test at c.in-Ok-true.ensures.takes in
+    run_after _ _ _ _ _ _ _ _ _ run.flat run.last (λ e. cc)
 
-pub returns-in-Err : goal.returns-in-Err
-returns-in-Err g c = record { takes = rw c.out_of_memory.ensures (run_refused _ _ _ _ _ _) }
+pub returns-in-Ok-false-clause-takes : goal.returns-in-Ok-false-clause-takes
+returns-in-Ok-false-clause-takes g c =
+    let run = rw c.in-Ok-false.field-0-test at c.in-Ok-false.ensures.takes in
+    run_after _ _ _ _ _ _ _ _ _ (flat_run _ _ _ _ _ _ _ run.flat run.last.0 run.last.1) c.push_next-in-Ok-false.ensures.takes
+    c.push_next-in-Ok-false.ensures.kept
+
+pub returns-in-Err-clause-takes : goal.returns-in-Err-clause-takes
+returns-in-Err-clause-takes g c = rw c.out_of_memory.ensures (run_refused _ _ _ _ _ _)

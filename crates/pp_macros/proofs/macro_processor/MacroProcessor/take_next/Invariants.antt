@@ -1,4 +1,6 @@
+use Rattle.std.proofs.Common.{◌≡◌}
 use Rattle.pp_macros.specs.inner.Left.{regions}
+use Rattle.pp_macros.specs.inner.Nesting.{MayWait, seen_by}
 use Rattle.pp_macros.specs.inner.Reach.{total}
 use Rattle.pp_macros.proofs.taking.ExpanderLemmas.{LeadsToNext}
 use Rattle.pp_macros.proofs.macro_processor.MacroProcessor.take_next.Given as goal
@@ -6,8 +8,10 @@ use Rattle.pp_macros.proofs.macro_processor.MacroProcessor.take_next.Given as go
 -- a pause keeps what is taken next
 abbrev pub invariant-loop-step : goal.invariant-loop-step
 invariant-loop-step o l = record {
-  leads : LeadsToNext l.fn.self ((goal.MeLexer-dyn o l.fn.lexer.now).reader l.fn.lexer.now.1) l.self ((goal.MeLexer-dyn o l.lexer.now).reader l.lexer.now.1);
+  leads : LeadsToNext l.fn.self.here (seen_by l.fn.self.below ((goal.MeLexer-dyn o l.fn.lexer.now).reader l.fn.lexer.now.1)) l.self.here (seen_by l.self.below ((goal.MeLexer-dyn o l.lexer.now).reader l.lexer.now.1));
+  below : l.self.below ≡ l.fn.self.below;
+  waits : MayWait l.self.below ((goal.MeLexer-dyn o l.lexer.now).reader l.lexer.now.1);
 }
 
 abbrev pub decreases-loop-step : goal.decreases-loop-step
-decreases-loop-step o l = total (regions l.self ((goal.MeLexer-dyn o l.lexer.now).reader l.lexer.now.1))
+decreases-loop-step o l = total (regions l.self.here (seen_by l.self.below ((goal.MeLexer-dyn o l.lexer.now).reader l.lexer.now.1)))

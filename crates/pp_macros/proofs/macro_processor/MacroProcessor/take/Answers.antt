@@ -1,0 +1,7 @@
+use Rattle.pp_macros.proofs.taking.NestingLemmas.{taken_painted}
+use Rattle.pp_macros.proofs.macro_processor.MacroProcessor.take.Goals as goal
+
+pub returns-clause-steps : goal.returns-clause-steps
+returns-clause-steps g c =
+    taken_painted c.args.self.now.here _ c.fetch.new.self _ c.in_ok-read.read c.paint.new.read (c.in_ok-read.ensures {u = tt}).steps c.paint.ensures
+    (c.in_ok-read.ensures {u = tt}).waits
