@@ -1,5 +1,5 @@
 use Rattle.std.specs.Prelude.{IfOk}
-use Rattle.std.proofs.Common.{[], ◌∷◌, ◌++◌, ℕ, refl, MutBor}
+use Rattle.std.proofs.Common.{◌≡◌, [], ◌∷◌, ◌++◌, ℕ, refl, MutBor}
 use Rattle.std.proofs.raw_atomic.Walks.{proved}
 use base.Fraction.{full_share}
 use base.FractionLaws.{common}
@@ -67,7 +67,8 @@ step_source_spec 𝓤 𝓛 𝓜 𝓡 wired =
     let RefP = λ (κ' : Lft) (x : MutBor P.Denot). (MutRef (named 0) κ' P).own_val x (mut_vals p) in
     let Ref = λ (κ' : Lft) (x : MutBor R.Denot). (MutRef (named 0) κ' R).own_val x (mut_vals r) in
     let Obj = λ (κ' : Lft). MutAny object.name (ty_ref (named 1) mut ty_unit) object.slots lists.own-1 (named 1) κ' in
-    qed 𝓛 (((‵ (flft κp qp) ⊛ ‵ (flft κ q) ⊛ ‵ (flft κ₁ q₁) ⊛ ‵ ftrue) ⊛ ‵ (RefP κp p) ⊛ ‵ (Ref κ r) ⊛ ‵ ftrue) ∷ ‵ ftrue ∷ []) ∵
+    qed 𝓛 (((‵ (flft κp qp) ⊛ ‵ (flft κ q) ⊛ ‵ (flft κ₁ q₁) ⊛ ‵ ftrue) ⊛ ‵ (RefP κp p) ⊛ ‵ (Ref κ r) ⊛ ‵ ftrue) ∷ raw (fact 𝓤 (p.now.below ≡ [])) ∷ []) ∵
+    move ! (1 ∷ []) $ heard ! _ (λ alone. nothing ! $ move ! (1 ∷ []) $
     split ! $ split ! $ move ! (1 ∷ []) $ split ! $ move ! (1 ∷ []) $ split ! $ move ! (4 ∷ []) $ split ! $ move ! (1 ∷ []) $ split ! $ keep !
     (0 ∷ 2 ∷ 3 ∷ 5 ∷ 6 ∷ []) $
     enter ! _ _ _ _ _ $ alloc_all ! (λ l. pass_all ! refl ((tt, tt), ((tt, tt), tt)) $
@@ -105,13 +106,14 @@ step_source_spec 𝓤 𝓛 𝓜 𝓡 wired =
     ) in
     move ! (2 ∷ []) $ nothing ! $ move ! (1 ∷ 0 ∷ []) $ join ! $ move ! (4 ∷ 0 ∷ []) $ join ! $
     nothing ! $ move ! (2 ∷ 0 ∷ []) $ join ! $ move ! (5 ∷ 0 ∷ []) $ join ! $ join ! $
-    nothing ! $ move ! (1 ∷ 0 ∷ []) $ use2 𝓛 (raw (G.pre z)) (id⊢ 𝓤 _) $
+    use0 𝓛 (raw (fact 𝓤 (p.now.below ≡ []))) (fact_i 𝓤 (p.now.below ≡ []) (emp 𝓤) alone) $
+    move ! (1 ∷ 0 ∷ []) $ use2 𝓛 (raw (G.pre z)) (id⊢ 𝓤 _) $
     calls_at ! (framed 𝓤 𝓛.H 𝓜 (tables 𝓤 𝓛.H 𝓜 𝓡 𝓡.env)) G
     (met 𝓤 𝓛 𝓜 𝓡 (code.calls-pp_macros::macro_processor::MacroProcessor::step 𝓡.env wired) T (Includes-none lists.own-1) (hidden.met-1 𝓤 𝓛 𝓜 𝓡 wired)) z
     (and_then ! (get ! refl) (and_then ! (get ! refl) (no_more !))) (λ v.
     use1 𝓛 (later (some (λ (u : O.Denot). ((‵ (flft (β ∷ []) full_share) ⊛ ‵ (flft κ' share) ⊛ ‵ ftrue) ⊛ ‵ (O.own_val u (v ∷ []))) ⊛
     some (λ (ws : P.Denot × (R.Denot × Unit {0})). ‵ (lasts (g.ended T) z.0.0 z.0.3 ws) ⊛
-    (raw (fact 𝓤 (TurnsOrRefuses p.now (of_source r.now) u ws.0 (of_source ws.1.0))) ⊛ raw (fact 𝓤 (IfOk u TakenHoldsOrdinary))))))) (id⊢ 𝓤 _) $
+    (raw (fact 𝓤 (TurnsOrRefuses p.now.here (of_source r.now) u ws.0.here (of_source ws.1.0))) ⊛ raw (fact 𝓤 (ws.0.below ≡ p.now.below)) ⊛ raw (fact 𝓤 (IfOk u TakenHoldsOrdinary))))))) (id⊢ 𝓤 _) $
     await ! tt $ pick ! (λ u. split ! $ split ! $ split ! $ move ! (1 ∷ []) $ split ! $
     -- [the token of κ'; nothing; the token of β; the result; the ensures; the way back; the source's lender; the processor's]
     move ! (0 ∷ 5 ∷ []) $ use2 𝓛 (‵ (flft κ₁ q₁) ⊛ ‵ (flft (α ∷ []) full_share)) (apply∗ 𝓤 (𝓛.A.lft κ' share) Both) $ split ! $
@@ -120,7 +122,7 @@ step_source_spec 𝓤 𝓛 𝓜 𝓡 wired =
     -- [β is over; κ' is over; the token of the borrow; nothing; the result; the ensures; the source's lender; the processor's]
     move ! (4 ∷ []) $ peeks ! O (Is O) (shows 𝓛 O) u (v ∷ []) (λ is. lands_as ! refl refl
     (((result_laws token_row exit_row token_laws exit_laws).lawful 𝓛).typed u _ is).0 $
-    move ! (5 ∷ []) $ pick ! (λ ws. split ! $ move ! (1 ∷ []) $ split ! $ heard ! _ (λ turns. heard ! _ (λ holds. fsplit ! $ fsplit ! $
+    move ! (5 ∷ []) $ pick ! (λ ws. split ! $ move ! (1 ∷ []) $ split ! $ heard ! _ (λ turns. split ! $ heard ! _ (λ below. heard ! _ (λ holds. fsplit ! $ fsplit ! $
     -- [the processor's last value; its loan; the source's; the result; β is over; κ' is over; the token of the borrow; nothing; the
     -- source's lender; the processor's]
     move ! (4 ∷ 9 ∷ 0 ∷ []) $ use3 𝓛 (later (‵ (RefP κp (record p { now = ws.0 })) ⊛ ‵ (flft κp qp)))
@@ -133,6 +135,7 @@ step_source_spec 𝓤 𝓛 𝓜 𝓡 wired =
     suffices ! _ (ends_at 𝓛 f.ended row c ((κs, qs, bounds, a, (mut_vals p, (mut_vals r, tt))), tt) v u (ws.0, (ws.1.0, tt)) (tt, (tt, tt))) $
     nothing ! $ move ! (1 ∷ 0 ∷ []) $ join ! $ move ! (2 ∷ 0 ∷ []) $ join ! $
     nothing ! $ move ! (5 ∷ 0 ∷ []) $ join ! $ move ! (2 ∷ 0 ∷ []) $ join ! $ move ! (2 ∷ 0 ∷ []) $ join ! $
-    group ! 3 $ frame ! $ use0 𝓛 (raw (fact 𝓤 (TurnsOrRefuses p.now (of_source r.now) u ws.0 (of_source ws.1.0))))
-    (fact_i 𝓤 (TurnsOrRefuses p.now (of_source r.now) u ws.0 (of_source ws.1.0)) (emp 𝓤) turns) $ frame ! $
-    use0 𝓛 (raw (fact 𝓤 (IfOk u TakenHoldsOrdinary))) (fact_i 𝓤 (IfOk u TakenHoldsOrdinary) (emp 𝓤) holds) $ done !))))))))))))
+    group ! 3 $ frame ! $ use0 𝓛 (raw (fact 𝓤 (TurnsOrRefuses p.now.here (of_source r.now) u ws.0.here (of_source ws.1.0))))
+    (fact_i 𝓤 (TurnsOrRefuses p.now.here (of_source r.now) u ws.0.here (of_source ws.1.0)) (emp 𝓤) turns) $ frame ! $
+    use0 𝓛 (raw (fact 𝓤 (ws.0.below ≡ p.now.below))) (fact_i 𝓤 (ws.0.below ≡ p.now.below) (emp 𝓤) below) $ frame ! $
+    use0 𝓛 (raw (fact 𝓤 (IfOk u TakenHoldsOrdinary))) (fact_i 𝓤 (IfOk u TakenHoldsOrdinary) (emp 𝓤) holds) $ done !))))))))))))))

@@ -1,6 +1,7 @@
 use Rattle.std.proofs.Common.{◌∙◌, ap, Err}
 use Rattle.std.proofs.lemmas.Result.{err_from_is_err_and}
 use Rattle.pp_model.specs.Emitting.{expansion_limit}
+use Rattle.pp_macros.specs.inner.Frames.{names_of}
 use Rattle.pp_rs.proofs.runs.SourceTurnLemmas.{follows_halt}
 use Rattle.pp_rs.proofs.pp.source_turn.follow_call.Goals as goal
 
@@ -8,5 +9,5 @@ pub returns-in_err-finish_call-clause-follows : goal.returns-in_err-finish_call-
 returns-in_err-finish_call-clause-follows c =
     let e = err_from_is_err_and c.from_residual.result c.from_residual.ensures.1 in
     follows_halt expansion_limit c.expansion_limit.result c.args.source.now.definitions c.definitions.result.now
-    c.nothing-around.result c.args.call c.args.expander.now c.finish_call.new.expander c.in_err-finish_call.field-0.0 _
-    c.expansion_limit.ensures c.definitions.ensures c.nothing-around.ensures c.in_err-finish_call.ensures (e.1 ∙ ap Err e.2)
+    (names_of c.args.expander.now.below) c.args.call c.args.expander.now.here c.finish_call.new.processor.here c.in_err-finish_call.field-0.0 _
+    c.expansion_limit.ensures c.definitions.ensures (ap names_of c.requires.alone) c.in_err-finish_call.ensures.finishes (e.1 ∙ ap Err e.2)

@@ -13,6 +13,7 @@ invariant_of-self c = (
       let r = (reached_on _ _ _ _ first _ (c.in-Ok-None.ensures {u = tt}).advances.pauses).reached in
       (r.fit, r.reported),
   λ h. cc,
+  c.advance.ensures.below ∙ c.self.invariant.2,
 )
 
 pub returns-in-Ok-None-clause-passed : goal.returns-in-Ok-None-clause-passed
@@ -29,6 +30,7 @@ invariant_of-self-2 c = (
       let r = (reached_on _ _ _ _ first _ (c.in-Ok-Some.ensures {u = tt}).advances.pauses).reached in
       (r.fit, r.reported),
   λ h. cc,
+  c.advance.ensures.below ∙ c.self.invariant.2,
 )
 
 pub returns : goal.returns
@@ -54,7 +56,7 @@ returns-in-Err-clause-refused c =
     let refused = c.in-Err.ensures.refused in
     let on = reached_on _ _ _ _ first _ refused.pauses in
     let fresh : c.args.self.now.spent ≡ false = ap (λ p. p.spent) (sym c.self.view_is) ∙ c.if-self.false in
-    next_refused _ _ c.advance.new.self _ _ c.self.inside.source on.reached c.args.self.now fresh refl refl refused.some _ refl
+    next_refused _ _ c.advance.new.self.here _ _ c.self.inside.source on.reached c.args.self.now fresh refl refl refused.some _ refl
 
 pub returns-then-self-clause-passed : goal.returns-then-self-clause-passed
 returns-then-self-clause-passed c = rw (← c.self.view_is) (passed_nothing _)

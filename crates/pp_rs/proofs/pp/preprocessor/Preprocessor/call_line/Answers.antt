@@ -17,11 +17,11 @@ open_line None line frames held = refl
 pub returns-then-is_holding : goal.returns-then-is_holding
 unfolding call_line
 returns-then-is_holding c =
-    rw (← c.self.view_is) (held_line c.self.inside.expander.held c.self.inside.name_line c.self.inside.expander.frames
+    rw (← c.self.view_is) (held_line c.self.inside.expander.here.held c.self.inside.name_line c.self.inside.expander.here.frames
     (sym c.is_holding.ensures ∙ c.if-is_holding.true))
 
 pub returns : goal.returns
 unfolding call_line
 returns c =
     rw (← c.self.view_is) (c.outermost_line.ensures
-    ∙ open_line c.self.inside.expander.held c.self.inside.name_line c.self.inside.expander.frames (sym c.is_holding.ensures ∙ c.if-is_holding.false))
+    ∙ open_line c.self.inside.expander.here.held c.self.inside.name_line c.self.inside.expander.here.frames (sym c.is_holding.ensures ∙ c.if-is_holding.false))

@@ -18,7 +18,7 @@ unfolding is_spent
 give_next-requires c =
     let fresh : c.args.self.now.spent ≡ false = c.requires in
     let now_fresh : c.self.inside.spent ≡ false = ap (λ p. p.spent) c.self.view_is ∙ fresh in
-    (c.self.invariant.0 now_fresh).0.sound
+    record { sound = (c.self.invariant.0 now_fresh).0.sound; waits = c.self.invariant.2 }
 
 pub invariant_of-self : goal.invariant_of-self
 invariant_of-self c = (
@@ -28,6 +28,7 @@ invariant_of-self c = (
       let on = reached_on _ _ _ _ first _ given.pauses in
       token_fits _ _ _ _ _ _ on.reached c.in-Ok-Some.token (given_over _ _ _ _ _ given.gives given.passes),
   λ h. cc,
+  c.give_next.ensures.below ∙ c.self.invariant.2,
 )
 
 pub invariant_of-self-in-Ok-None : goal.invariant_of-self-in-Ok-None
@@ -37,6 +38,7 @@ invariant_of-self-in-Ok-None c = (
       let r = (reached_on _ _ _ _ first _ (rw c.in-Ok-None.field-0-is at (c.in-Ok-None.ensures {u = tt}).gives)).reached in
       (r.fit, r.reported),
   λ h. cc,
+  c.give_next.ensures.below ∙ c.self.invariant.2,
 )
 
 pub returns-in-Ok-Some : goal.returns-in-Ok-Some
@@ -49,8 +51,8 @@ returns-in-Ok-Some c =
     let on = reached_on _ _ _ _ first _ given.pauses in
     next_token _ _ _ _ _ _ on.reached c.args.self.now fresh refl refl c.in-Ok-Some.token c.self.inside.spent
     c.self.inside.place c.self.inside.name_line now_fresh (ap (λ p. p.place) c.self.view_is)
-    (free_kept c.give_next.new.self.held c.self.inside.name_line (outermost_frame_line given.between.frames)
-    c.give_next.new.self.frames (ap (λ (m : Expander). m.held) given.passes ∙ given.gives.free))
+    (free_kept c.give_next.new.self.here.held c.self.inside.name_line (outermost_frame_line given.between.frames)
+    c.give_next.new.self.here.frames (ap (λ (m : Expander). m.held) given.passes ∙ given.gives.free))
     (given_over _ _ _ _ _ given.gives given.passes) given.gives.holds
 
 pub returns-in-Ok-None : goal.returns-in-Ok-None
@@ -71,4 +73,4 @@ returns-in-Err c =
     let refused = (c.in-Err.ensures {u = tt}).refused in
     let on = reached_on _ _ _ _ first _ refused.pauses in
     rw c.out_of_memory.ensures
-    (next_refused _ _ c.give_next.new.self _ _ c.self.inside.source on.reached c.args.self.now fresh refl refl refused.some _ refl)
+    (next_refused _ _ c.give_next.new.self.here _ _ c.self.inside.source on.reached c.args.self.now fresh refl refl refused.some _ refl)

@@ -19,6 +19,7 @@ loop-token-init c = record {
   unspent = c.if-self.false;
   placed = ap (λ p. p.place) c.self.view_is;
   unnoted = refl;
+  alone = c.self.invariant.2;
   reached = reached_first _ _ _ _ (ap (λ p. p.expander) c.self.view_is) (ap (λ p. p.source) c.self.view_is) (c.self.invariant.0 c.if-self.false);
 }
 
@@ -35,6 +36,7 @@ loop-token-preserved c =
       unspent = c.loop-token.invariant.unspent;
       placed = c.loop-token.invariant.placed;
       unnoted = c.loop-token.invariant.unnoted;
+      alone = c.turn_source.ensures.below ∙ c.give_next.ensures.below ∙ c.loop-token.invariant.alone;
       reached = reached_more _ _ _ _ _ _ on.reached (rw c.in-Err-Continue.field-0-is at c.in-Err-Continue.ensures.turns);
     }
 
@@ -45,6 +47,7 @@ invariant_of-self c = (
       let on = reached_on _ _ _ _ c.loop-token.invariant.reached _ given.pauses in
       token_fits _ _ _ _ _ _ on.reached c.in-Ok-Some.token (given_over _ _ _ _ _ given.gives given.passes),
   λ h. absurd (false≢true (sym c.loop-token.invariant.unnoted ∙ h)),
+  c.give_next.ensures.below ∙ c.loop-token.invariant.alone,
 )
 
 pub invariant_of-self-in-Ok : goal.invariant_of-self-in-Ok
@@ -53,6 +56,7 @@ invariant_of-self-in-Ok c = (
       let on = reached_on _ _ _ _ c.loop-token.invariant.reached _ (rw c.in-Ok-None.field-0-is at (c.in-Ok-None.ensures {u = tt}).gives) in
       token_fits _ _ _ _ _ _ on.reached c.in-Ok.token c.in-Ok.ensures.turns,
   λ h. absurd (false≢true (sym c.loop-token.invariant.unnoted ∙ h)),
+  c.turn_source.ensures.below ∙ c.give_next.ensures.below ∙ c.loop-token.invariant.alone,
 )
 
 pub invariant_of-self-in-Err-Finished : goal.invariant_of-self-in-Err-Finished
@@ -62,6 +66,7 @@ invariant_of-self-in-Err-Finished c = (
       end_fits _ _ _ _ _ _ on.reached
       (rw c.in-Err-Finished.field-0-is at c.in-Err-Finished.ensures.turns),
   λ h. absurd (false≢true (sym c.loop-token.invariant.unnoted ∙ h)),
+  c.turn_source.ensures.below ∙ c.give_next.ensures.below ∙ c.loop-token.invariant.alone,
 )
 
 pub invariant_of-self-in-Err-Error : goal.invariant_of-self-in-Err-Error
@@ -70,6 +75,7 @@ invariant_of-self-in-Err-Error c =
       λ e. fault_fits _ _ _ _ _ _ on.reached c.in-Err-Error.error c.refused_item.new.source c.refused_item.ensures.source
           (rw c.in-Err-Error.field-0-is at c.in-Err-Error.ensures.turns) (sym c.refused_item.ensures.spent ∙ e),
       λ h. absurd (false≢true (sym c.loop-token.invariant.unnoted ∙ h)),
+      c.turn_source.ensures.below ∙ c.give_next.ensures.below ∙ c.loop-token.invariant.alone,
     )
 
 pub returns-then-self : goal.returns-then-self
@@ -82,8 +88,8 @@ returns-in-Ok-Some c =
     let fresh : c.args.self.now.spent ≡ false = ap (λ p. p.spent) (sym c.self.view_is) ∙ c.if-self.false in
     next_token _ _ _ _ _ _ on.reached c.args.self.now fresh refl refl c.in-Ok-Some.token c.loop-token.self-inside.spent
     c.loop-token.self-inside.place c.loop-token.self-inside.name_line c.loop-token.invariant.unspent c.loop-token.invariant.placed
-    (free_kept c.give_next.new.self.held c.loop-token.self-inside.name_line (outermost_frame_line given.between.frames)
-    c.give_next.new.self.frames (ap (λ (m : Expander). m.held) given.passes ∙ given.gives.free))
+    (free_kept c.give_next.new.self.here.held c.loop-token.self-inside.name_line (outermost_frame_line given.between.frames)
+    c.give_next.new.self.here.frames (ap (λ (m : Expander). m.held) given.passes ∙ given.gives.free))
     (given_over _ _ _ _ _ given.gives given.passes) given.gives.holds
 
 pub returns-in-Ok : goal.returns-in-Ok
@@ -92,7 +98,7 @@ returns-in-Ok c =
     let fresh : c.args.self.now.spent ≡ false = ap (λ p. p.spent) (sym c.self.view_is) ∙ c.if-self.false in
     next_token _ _ _ _ _ _ on.reached c.args.self.now fresh refl refl c.in-Ok.token c.loop-token.self-inside.spent
     c.loop-token.self-inside.place c.outermost_line-self-inside.result c.loop-token.invariant.unspent c.loop-token.invariant.placed
-    (ap (λ line. kept_line c.turn_source.new.expander.held line c.turn_source.new.expander.frames) c.outermost_line-self-inside.ensures)
+    (ap (λ line. kept_line c.turn_source.new.expander.here.held line c.turn_source.new.expander.here.frames) c.outermost_line-self-inside.ensures)
     c.in-Ok.ensures.turns c.in-Ok.ensures.holds
 
 pub returns-in-Err-Finished : goal.returns-in-Err-Finished
@@ -119,4 +125,4 @@ returns-in-Err c =
     let on = reached_on _ _ _ _ c.loop-token.invariant.reached _ refused.pauses in
     let fresh : c.args.self.now.spent ≡ false = ap (λ p. p.spent) (sym c.self.view_is) ∙ c.if-self.false in
     rw c.out_of_memory.ensures
-    (next_refused _ _ c.give_next.new.self _ _ c.loop-token.self-inside.source on.reached c.args.self.now fresh refl refl refused.some _ refl)
+    (next_refused _ _ c.give_next.new.self.here _ _ c.loop-token.self-inside.source on.reached c.args.self.now fresh refl refl refused.some _ refl)

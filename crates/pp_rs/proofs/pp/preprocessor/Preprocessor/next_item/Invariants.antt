@@ -1,4 +1,4 @@
-use Rattle.std.proofs.Common.{◌≡◌, false}
+use Rattle.std.proofs.Common.{◌≡◌, [], false}
 use Rattle.pp_model.specs.Emitting.{expansion_limit}
 use Rattle.pp_macros.specs.inner.Left.{work_of}
 use Rattle.pp_macros.specs.inner.Reader.{of_source}
@@ -11,8 +11,9 @@ invariant-loop-token l = record {
   unspent : l.self-inside.spent ≡ false;
   placed : l.self-inside.place ≡ l.fn.self.place;
   unnoted : l.self-inside.in_text ≡ false;
-  reached : Reached l.fn.self.expander l.fn.self.source l.self-inside.expander l.self-inside.source;
+  alone : l.self-inside.expander.below ≡ [];
+  reached : Reached l.fn.self.expander l.fn.self.source l.self-inside.expander.here l.self-inside.source;
 }
 
 abbrev pub decreases-loop-token : goal.decreases-loop-token
-decreases-loop-token l = work_of expansion_limit l.self-inside.expander (of_source l.self-inside.source)
+decreases-loop-token l = work_of expansion_limit l.self-inside.expander.here (of_source l.self-inside.source)

@@ -17,6 +17,7 @@ words-init c =
     record {
       unspent = fresh;
       placed = ap (λ (p : Preprocessing). p.place) same;
+      alone = c.self.invariant.2;
       idle = ap (λ (p : Preprocessing). is_idle p.expander) same ∙ reads.idle;
       text = subst (λ (p : Preprocessing). IsInText p.source) (sym same) reads.text;
       reached = reached_first _ _ _ _ (ap (λ (p : Preprocessing). p.expander) same) (ap (λ (p : Preprocessing). p.source) same) (c.self.invariant.0 fresh);
@@ -34,6 +35,7 @@ words-preserved c =
     record {
       unspent = c.words.invariant.unspent;
       placed = c.words.invariant.placed;
+      alone = c.words.invariant.alone;
       idle = c.words.invariant.idle;
       text = c.pass_newline.ensures.stays;
       reached = reached_more _ _ _ _ _ _ c.words.invariant.reached (newline_over _ _ _ c.words.invariant.idle step);
@@ -51,6 +53,7 @@ invariant_of-self c = (
       token_fits _ _ _ _ _ _ c.words.invariant.reached (word_token c.in-Some.word)
       (word_over _ _ _ (word_token c.in-Some.word) c.words.invariant.idle takes.step takes.itself),
   λ h. record { idle = c.words.invariant.idle; text = c.next_word.ensures.stays; unspent = c.words.invariant.unspent },
+  c.words.invariant.alone,
 )
 
 pub returns-in-Some : goal.returns-in-Some
@@ -60,7 +63,7 @@ returns-in-Some c =
     record {
       next = next_token _ _ _ _ _ _ c.words.invariant.reached c.args.self.now reads.unspent refl refl (word_token c.in-Some.word) c.words.self-inside.spent
           c.words.self-inside.place c.words.self-inside.name_line c.words.invariant.unspent c.words.invariant.placed
-          (idle_line c.words.self-inside.expander _ _ c.words.invariant.idle)
+          (idle_line c.words.self-inside.expander.here _ _ c.words.invariant.idle)
           (word_over _ _ _ (word_token c.in-Some.word) c.words.invariant.idle takes.step takes.itself) takes.holds;
       line = line_outside _ c.words.invariant.idle;
       plain = record { no_hash = takes.no_hash; ascii = takes.ascii };

@@ -1,4 +1,4 @@
-use Rattle.std.proofs.Common.{◌≡◌, true, false}
+use Rattle.std.proofs.Common.{◌≡◌, [], true, false}
 use Rattle.pp_model.specs.Emitting.{expansion_limit}
 use Rattle.pp_macros.specs.inner.Idle.{is_idle}
 use Rattle.pp_macros.specs.inner.Left.{work_of}
@@ -12,10 +12,11 @@ abbrev pub invariant-words : goal.invariant-words
 invariant-words l = record {
   unspent : l.self-inside.spent ≡ false;
   placed : l.self-inside.place ≡ l.fn.self.place;
-  idle : is_idle l.self-inside.expander ≡ true;
+  alone : l.self-inside.expander.below ≡ [];
+  idle : is_idle l.self-inside.expander.here ≡ true;
   text : IsInText l.self-inside.source;
-  reached : Reached l.fn.self.expander l.fn.self.source l.self-inside.expander l.self-inside.source;
+  reached : Reached l.fn.self.expander l.fn.self.source l.self-inside.expander.here l.self-inside.source;
 }
 
 abbrev pub decreases-words : goal.decreases-words
-decreases-words l = work_of expansion_limit l.self-inside.expander (of_source l.self-inside.source)
+decreases-words l = work_of expansion_limit l.self-inside.expander.here (of_source l.self-inside.source)

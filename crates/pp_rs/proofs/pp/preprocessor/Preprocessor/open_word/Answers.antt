@@ -17,6 +17,7 @@ invariant_of-self-in_default-macro_of_word c = (
       (bare_over _ _ _ c.in-Some.word (sym c.is_idle.ensures ∙ c.if-not-is_idle.false) takes
       (sym (rw c.in_default-macro_of_word.is at c.macro_of_word.ensures).opened)),
   λ h. cc,
+  c.self.invariant.2,
 )
 
 pub returns-in_default-macro_of_word-clause-gives : goal.returns-in_default-macro_of_word-clause-gives
@@ -27,7 +28,7 @@ returns-in_default-macro_of_word-clause-gives c =
     record {
       next = next_token _ _ _ _ _ _ first c.args.self.now fresh refl refl (word_token c.in-Some.word) c.self.inside.spent c.self.inside.place
           c.self.inside.name_line c.if-self.false (ap (λ p. p.place) c.self.view_is)
-          (idle_line c.self.inside.expander _ _ (sym c.is_idle.ensures ∙ c.if-not-is_idle.false))
+          (idle_line c.self.inside.expander.here _ _ (sym c.is_idle.ensures ∙ c.if-not-is_idle.false))
           (bare_over _ _ _ c.in-Some.word (sym c.is_idle.ensures ∙ c.if-not-is_idle.false) takes
           (sym (rw c.in_default-macro_of_word.is at c.macro_of_word.ensures).opened)) takes.holds;
       line = line_outside _ (sym c.is_idle.ensures ∙ c.if-not-is_idle.false);
@@ -42,10 +43,11 @@ invariant_of-self-in-Ok c = (
       let takes = rw c.in-Some.is at c.next_bare.ensures in
       let found = rw c.in-Some-macro_of_word.is at c.macro_of_word.ensures in
       let on = reached_more _ _ _ _ _ _ first
-      (opens_over _ _ _ c.in-Some.word (sym c.is_idle.ensures ∙ c.if-not-is_idle.false) takes c.open_shared.new.expander _
-      (macro_opens _ _ c.in-Some-macro_of_word.found.now.value found.opened found.numbered) (rw c.in-Ok.is at c.open_shared.ensures)) in
+      (opens_over _ _ _ c.in-Some.word (sym c.is_idle.ensures ∙ c.if-not-is_idle.false) takes c.open_shared.new.expander.here _
+      (macro_opens _ _ c.in-Some-macro_of_word.found.now.value found.opened found.numbered) (rw c.in-Ok.is at c.open_shared.ensures.opens)) in
       (on.fit, on.reported),
   λ h. cc,
+  c.open_shared.ensures.below ∙ c.self.invariant.2,
 )
 
 pub returns-in-Ok-clause-gives : goal.returns-in-Ok-clause-gives
@@ -54,8 +56,8 @@ returns-in-Ok-clause-gives c =
     let takes = rw c.in-Some.is at c.next_bare.ensures in
     let found = rw c.in-Some-macro_of_word.is at c.macro_of_word.ensures in
     let on = reached_more _ _ _ _ _ _ first
-    (opens_over _ _ _ c.in-Some.word (sym c.is_idle.ensures ∙ c.if-not-is_idle.false) takes c.open_shared.new.expander _
-    (macro_opens _ _ c.in-Some-macro_of_word.found.now.value found.opened found.numbered) (rw c.in-Ok.is at c.open_shared.ensures)) in
+    (opens_over _ _ _ c.in-Some.word (sym c.is_idle.ensures ∙ c.if-not-is_idle.false) takes c.open_shared.new.expander.here _
+    (macro_opens _ _ c.in-Some-macro_of_word.found.now.value found.opened found.numbered) (rw c.in-Ok.is at c.open_shared.ensures.opens)) in
     passed_pauses c.args.self.now _ _ _ _ _ on (ap (λ p. p.spent) (sym c.self.view_is) ∙ c.if-self.false) c.if-self.false
     (ap (λ p. p.place) c.self.view_is)
 

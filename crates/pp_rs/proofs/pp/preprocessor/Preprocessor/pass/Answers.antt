@@ -4,6 +4,7 @@ use Rattle.std.specs.Option.{option_map}
 use Rattle.pp_model.specs.declared.read.Read.{Read}
 use Rattle.pp_macros.specs.inner.Ahead.{given_next}
 use Rattle.pp_macros.specs.inner.Giving.{token_ahead}
+use Rattle.pp_macros.specs.inner.Nesting.{MacroProcessor}
 use Rattle.pp_rs.proofs.runs.CallLineLemmas.{ahead_line}
 use Rattle.pp_rs.proofs.runs.PassedLemmas.{ahead_there, fresh_ahead, pass_fits, ahead_passes}
 use Rattle.pp_rs.proofs.pp.preprocessor.Preprocessor.pass.Goals as goal
@@ -15,26 +16,27 @@ some_given (Some read) some = refl
 pub pass_token-requires : goal.pass_token-requires
 pass_token-requires c =
     let there = ap (λ p. token_ahead p.expander) c.self.view_is ∙ ahead_there c.args.self.now c.requires.0 c.requires.1 in
-    some_given (given_next c.self.inside.expander.frames) (ap is_some there)
+    some_given (given_next c.self.inside.expander.here.frames) (ap is_some there)
 
 pub invariant_of-self : goal.invariant_of-self
 invariant_of-self c = (
   λ e.
       rw c.pass_token.ensures
-      (pass_fits c.args.self.now c.self.inside.expander c.self.inside.source (ap (λ p. p.expander) (sym c.self.view_is))
+      (pass_fits c.args.self.now c.self.inside.expander.here c.self.inside.source (ap (λ p. p.expander) (sym c.self.view_is))
       (ap (λ p. p.source) (sym c.self.view_is)) (c.self.invariant.0 e) c.requires.0 c.requires.1),
   λ h. cc,
+  ap (λ (m : MacroProcessor). m.below) c.pass_token.ensures ∙ c.self.invariant.2,
 )
 
 pub returns-clause-gives : goal.returns-clause-gives
 returns-clause-gives c = λ token ahead.
     let fresh = ap (λ p. p.spent) c.self.view_is ∙ fresh_ahead c.args.self.now token ahead in
     rw c.pass_token.ensures
-    (ahead_passes c.args.self.now c.self.inside.expander c.self.inside.source (ap (λ p. p.expander) (sym c.self.view_is))
+    (ahead_passes c.args.self.now c.self.inside.expander.here c.self.inside.source (ap (λ p. p.expander) (sym c.self.view_is))
     (ap (λ p. p.source) (sym c.self.view_is)) (c.self.invariant.0 fresh) token ahead c.self.inside.spent c.self.inside.place c.self.inside.name_line fresh
     (ap (λ p. p.place) c.self.view_is))
 
 pub returns-clause-line : goal.returns-clause-line
 returns-clause-line c = λ line front.
     rw c.pass_token.ensures
-    (ahead_line c.args.self.now c.requires.0 c.requires.1 line front c.self.inside.expander (ap (λ p. p.expander) (sym c.self.view_is)) _ _ _ _)
+    (ahead_line c.args.self.now c.requires.0 c.requires.1 line front c.self.inside.expander.here (ap (λ p. p.expander) (sym c.self.view_is)) _ _ _ _)
