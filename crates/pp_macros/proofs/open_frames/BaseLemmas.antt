@@ -1,5 +1,5 @@
 -- The frames of a processor: those from a base on are the innermost expander's, and those before it are around.
-use Rattle.std.proofs.Common.{◌≡◌, ◌∙◌, ◌⊎◌, inl, inr, ℕ, zero, suc, ◌+◌, ◌-◌, ◌<◌, ◌≤◌, Bool, true, false, List, [], ◌∷◌, ◌++◌, length, get_or, take, drop, reverse, set, refl, ap, sym, subst, arith, Option, Some, None, slice_get, length-drop, length-append}
+use Rattle.std.proofs.Common.{◌≡◌, ◌∙◌, ◌⊎◌, inl, inr, ℕ, zero, suc, ◌+◌, ◌-◌, ◌<◌, ◌≤◌, true, false, List, [], ◌∷◌, ◌++◌, length, get_or, take, drop, reverse, set, refl, ap, sym, subst, arith, Option, Some, None, slice_get, length-drop, length-append}
 use Rattle.std.specs.Prelude.{is_none, is_some, MatchOption, IfSome}
 use Rattle.std.proofs.Math.ListN.{drop_of_length-le}
 use Rattle.std.proofs.Math.Seq.{take-append_seam, drop-append_seam}
@@ -11,7 +11,6 @@ use Rattle.pp_macros.specs.Item.{Step}
 use Rattle.pp_macros.specs.inner.Ahead.{Ahead, given_by, given_next, frame_after, frames_after}
 use Rattle.pp_macros.specs.inner.Bodies.{noted_by}
 use Rattle.pp_macros.specs.inner.Defined.{AreNumbered}
-use Rattle.pp_macros.specs.inner.Expander.{Expander}
 use Rattle.pp_macros.specs.inner.Frames.{Frame, advance, names_of, outermost_frame_line}
 use Rattle.pp_macros.specs.inner.Left.{HaveNumbers}
 use Rattle.pp_macros.specs.inner.Marks.{AreMarked}

@@ -1,11 +1,11 @@
 -- Tokens that a reader reads in a row are painted afterwards, and are then as they are taken.
-use Rattle.std.proofs.Common.{◌≡◌, ◌∙◌, ◌<◌, ◌≤◌, ◌+◌, ℕ, zero, suc, Bool, true, false, ◌||◌, List, [], ◌∷◌, ◌++◌, length, arith, refl, sym, ap, subst, Ok, get_or, set, length-append}
+use Rattle.std.proofs.Common.{◌≡◌, ◌∙◌, ◌<◌, ◌≤◌, ℕ, zero, suc, Bool, true, false, ◌||◌, List, [], ◌∷◌, ◌++◌, length, arith, refl, sym, ap, subst, Ok, get_or, set, length-append}
 use Rattle.pp_model.specs.Names.{Name, is_identifier, line_name}
 use Rattle.pp_lexer.specs.declared.token.TokenValue.{TokenValue}
 use Rattle.pp_lexer.specs.declared.token.TokenValue.TheVariants.{Ident}
 use Rattle.pp_model.specs.Painting.{is_one_of, painted_among}
 use Rattle.pp_model.specs.declared.read.Read.{Read}
-use Rattle.pp_macros.specs.inner.Expander.{Expander, StepsTaking, TakesNext, now, IsTakenOnto, TakesFlat, none_taken, taken_more, TakesUpTo, TakesIfFound}
+use Rattle.pp_macros.specs.inner.Expander.{Expander, StepsTaking, now, IsTakenOnto, TakesFlat, none_taken, taken_more, TakesUpTo, TakesIfFound}
 use Rattle.pp_macros.specs.inner.Frames.{Frame, names_of}
 use Rattle.pp_macros.specs.inner.Idle.{is_idle}
 use Rattle.pp_macros.specs.inner.Nesting.{MayWait, seen_by}

@@ -11,7 +11,7 @@ use Rattle.pp_model.specs.declared.read.Read.{Read}
 use Rattle.pp_model.specs.Calls.{nesting, within, too_many, closes, most_parentheses, is_left_paren, is_right_paren}
 use Rattle.pp_macros.specs.Held.{HoldsOrdinary}
 use Rattle.pp_macros.specs.inner.Reading.{AllReadOrdinary}
-use Rattle.pp_macros.specs.inner.Reader.{Reader, IsReadOnto, ReadsFlat, none_read, read_more, hidden_of, nests}
+use Rattle.pp_macros.specs.inner.Reader.{Reader, IsReadOnto, ReadsFlat, read_more, hidden_of, nests}
 use Rattle.pp_macros.specs.Item.{Step}
 use Rattle.pp_macros.specs.declared.step.StepExit.TheVariants.{Error, Finished}
 use Rattle.pp_lexer.specs.PreprocessorError.{out_of_memory}

@@ -274,8 +274,11 @@ expand_call-returns t c =
 
 -- after a call nothing is held
 pub expand_list-finish_call-requires : goal.expand_list-finish_call-requires
-expand_list-finish_call-requires t c = (omega arith, call_free _ _ _ _ _ c.in-Ok-Call.call refl
-    (rw c.in-Ok-Call.field-0-is at c.in-Ok-Call.ensures.turns))
+expand_list-finish_call-requires t c = (
+  omega arith,
+  call_free _ _ _ _ _ c.in-Ok-Call.call refl
+      (rw c.in-Ok-Call.field-0-is at c.in-Ok-Call.ensures.turns),
+)
 
 -- an argument with a token that doesn't give itself
 pub expand_argument-expand_list-ended-requires : goal.expand_argument-expand_list-ended-requires

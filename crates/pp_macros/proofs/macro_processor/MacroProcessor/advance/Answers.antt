@@ -1,6 +1,6 @@
-use Rattle.std.proofs.Common.{◌∙◌, refl, subst, sym, Err}
+use Rattle.std.proofs.Common.{◌∙◌, refl, Err}
 use Rattle.pp_macros.specs.inner.Giving.{at_once, after}
-use Rattle.pp_macros.specs.inner.Nesting.{MayWait, seen_by}
+use Rattle.pp_macros.specs.inner.Nesting.{seen_by}
 use Rattle.pp_macros.specs.declared.step.StepExit.TheVariants.{Continue}
 use Rattle.pp_macros.proofs.work.CallFallsLemmas.{turn_falls}
 use Rattle.pp_macros.proofs.macro_processor.MacroProcessor.advance.Goals as goal

@@ -1,4 +1,4 @@
-use Rattle.std.proofs.Common.{◌∙◌, ap, length, refl, sym, Some, None}
+use Rattle.std.proofs.Common.{◌∙◌, length, refl, sym}
 use Rattle.pp_macros.proofs.open_frames.BaseLemmas.{none_given, gives_here, numbered_here}
 use Rattle.pp_macros.proofs.macro_processor.MacroProcessor.ahead.Goals as goal
 

@@ -1,5 +1,5 @@
-use Rattle.std.proofs.Common.{◌∙◌, ◌-◌, ap, arith, length, length-drop, refl, sym}
-use Rattle.pp_macros.specs.inner.Nesting.{MacroProcessor, with_frames}
+use Rattle.std.proofs.Common.{◌∙◌, ap, arith, length-drop, refl, sym}
+use Rattle.pp_macros.specs.inner.Nesting.{with_frames}
 use Rattle.pp_macros.proofs.open_frames.BaseLemmas.{none_here, some_frame}
 use Rattle.pp_macros.proofs.macro_processor.MacroProcessor.close_all.Goals as goal
 

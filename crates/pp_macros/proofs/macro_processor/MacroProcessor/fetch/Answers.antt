@@ -1,7 +1,4 @@
-use Rattle.std.proofs.Common.{◌≡◌, ◌∙◌, List, ap, refl, subst, sym, None}
-use Rattle.pp_macros.specs.inner.Expander.{StepsFetching}
-use Rattle.pp_macros.specs.inner.Frames.{Frame}
-use Rattle.pp_macros.specs.inner.Nesting.{MacroProcessor, MayWait, seen_by}
+use Rattle.std.proofs.Common.{◌∙◌, sym}
 use Rattle.pp_macros.proofs.taking.ExpanderLemmas.{none_held}
 use Rattle.pp_macros.proofs.taking.NestingLemmas.{held_fetched, step_fetched, shown_fetched, moves_wait}
 use Rattle.pp_macros.proofs.macro_processor.MacroProcessor.fetch.Goals as goal

@@ -1,4 +1,4 @@
-use Rattle.std.proofs.Common.{◌∙◌, refl, sym, vec_len}
+use Rattle.std.proofs.Common.{◌∙◌, sym, vec_len}
 use Rattle.pp_macros.proofs.open_frames.BaseLemmas.{nothing_steps, passes_here, closes_here, stays_here, kept_here}
 use Rattle.pp_macros.proofs.open_frames.OpenMacroLemmas.{has_step}
 use Rattle.pp_macros.proofs.macro_processor.MacroProcessor.pass_pause.Goals as goal

@@ -1,4 +1,4 @@
-use Rattle.std.proofs.Common.{◌∙◌, refl, sym}
+use Rattle.std.proofs.Common.{◌∙◌, sym}
 use Rattle.pp_macros.proofs.taking.RunLemmas.{run_now, run_after, run_refused, flat_run}
 use Rattle.pp_macros.proofs.macro_processor.MacroProcessor.push_run.Goals as goal
 

@@ -1,4 +1,4 @@
-use Rattle.std.proofs.Common.{◌≡◌, ◌∙◌, ap, sym, subst, refl, List}
+use Rattle.std.proofs.Common.{◌∙◌, ap, sym, subst, refl, List}
 use Rattle.pp_model.specs.Names.{Name, is_identifier, line_name}
 use Rattle.pp_model.specs.Painting.{painted_among}
 use Rattle.pp_macros.specs.inner.Defined.{Defined, Macro, names_in}
@@ -35,7 +35,7 @@ returns-in_default-opened_by-clause-turns g c = (
       (sym (masks_seen c.args.self.now (g.L.MeLexer.reader c.args.lexer.now) c.requires.waits)))
       c.in-Some.ensures.holds
       (macro_seen c.args.self.now.below (g.L.MeLexer.reader c.args.lexer.now)
-          (record { token = c.in-Some.ahead.read.token; painted = c.paints-painted.result }) ∙ sym (c.in_default-opened_by.ensures {u = tt}).opened),
+      (record { token = c.in-Some.ahead.read.token; painted = c.paints-painted.result }) ∙ sym (c.in_default-opened_by.ensures {u = tt}).opened),
 )
 
 -- a name whose macro can't be shared, or not be opened

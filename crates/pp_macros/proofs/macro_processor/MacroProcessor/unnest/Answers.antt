@@ -1,6 +1,6 @@
 use Rattle.std.proofs.Common.{◌∙◌, ap}
 use Rattle.pp_macros.specs.inner.Nesting.{MacroProcessor}
-use Rattle.pp_macros.proofs.open_frames.BaseLemmas.{around_within, ended}
+use Rattle.pp_macros.proofs.open_frames.BaseLemmas.{ended}
 use Rattle.pp_macros.proofs.macro_processor.MacroProcessor.unnest.Goals as goal
 
 pub returns : goal.returns
