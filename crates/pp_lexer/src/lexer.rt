@@ -3,14 +3,17 @@
 //! [`CharsAndLine`], [`SkipBackslashNewline`] and [`ReplaceComments`] give the characters after phases 4 and 5, 6
 //! and 7, each with its line. [`Lexer`] gives the tokens. The rules are those of docs/RULES.md, Characters and Tokens.
 
-ghost use Rattle.std.specs.Prelude.{◌≡◌, ◌-◌, ◌^◌, ◌<◌, ◌+◌, ◌↔◌, length, Ok, Some, true, false, if◌then◌else◌, ⊤, IsSome, IfSome, MatchOption};
+ghost use Rattle.std.specs.Prelude.{◌≡◌, ◌-◌, ◌^◌, ◌<◌, ◌+◌, ◌↔◌, length, Ok, Some, true, false, if◌then◌else◌, ⊤};
+ghost use Rattle.std.specs.Prelude.{IsSome, IfSome, MatchOption};
 ghost use Rattle.std.specs.Iterator.{at_most};
 ghost use Rattle.pp_lexer.specs.Reading.{first_char};
 ghost use Rattle.pp_lexer.specs.Spots.{spots_of};
 ghost use Rattle.pp_lexer.specs.Words.{is_blank};
 ghost use Rattle.pp_lexer.specs.Kept.{CanPass};
-ghost use Rattle.pp_lexer.specs.Lexed.{start_of, first_item, after_first_item, after_first, first_place, places_after_first, IsNext};
-ghost use Rattle.pp_lexer.specs.inner.Passing.{is_newline_result, newline_seen, lexeme_seen, newline_places, lexed_at, SeesSame, IsRead};
+ghost use Rattle.pp_lexer.specs.Lexed.{start_of, first_item, after_first_item, after_first, first_place};
+ghost use Rattle.pp_lexer.specs.Lexed.{places_after_first, IsNext};
+ghost use Rattle.pp_lexer.specs.inner.Passing.{is_newline_result, newline_seen, lexeme_seen, newline_places, lexed_at};
+ghost use Rattle.pp_lexer.specs.inner.Passing.{SeesSame, IsRead};
 ghost use Rattle.pp_lexer.specs.inner.AfterSpaces.{IsAfterSpaces};
 ghost use Rattle.pp_lexer.specs.inner.PlainWords.{IsFirstWord};
 ghost use Rattle.pp_lexer.specs.PlainItems.{is_newline_lexeme, IsNextWord, PassesBlanks, PassesNewline};

@@ -2,7 +2,8 @@
 //! for every source. The bodies do nothing.
 
 ghost use Rattle.pp_lexer.specs.ItemLaws.{TokensLieWithin, TokensHaveLines, ItemsAreFinite, PlacesAreOfItems};
-ghost use Rattle.pp_lexer.specs.PhaseLaws.{PairsCountOnce, LinesCountNewlines, SourcesNeverFall, SourcesAreTiled, SourcesShorten};
+ghost use Rattle.pp_lexer.specs.PhaseLaws.{PairsCountOnce, LinesCountNewlines, SourcesNeverFall, SourcesAreTiled};
+ghost use Rattle.pp_lexer.specs.PhaseLaws.{SourcesShorten};
 ghost use Rattle.pp_lexer.specs.Respelling.{ValuesAreSpelled, SpellingsAreReadBack};
 
 /// Each newline pair counts once, a line is one more than the newlines before it, and line numbers never decrease along

@@ -1,9 +1,11 @@
 //! Words, spaces, comments and newlines of ASCII text, read byte by byte.
 
-ghost use Rattle.std.specs.Prelude.{⊤, ◌≡◌, ◌<◌, ◌≤◌, true, false, length, take, get_or, slice_index, IsTrue, MatchOption};
+ghost use Rattle.std.specs.Prelude.{⊤, ◌≡◌, ◌<◌, ◌≤◌, true, false, length, take, get_or, slice_index, IsTrue};
+ghost use Rattle.std.specs.Prelude.{MatchOption};
 ghost use Rattle.std.specs.List.{list_all};
 ghost use Rattle.std.specs.Str.{IsUtf8};
-ghost use Rattle.pp_lexer.specs.inner.PlainWords.{is_space, begins, continues, begins_comment, Stops, IsFirstWord, IsPlainNewline};
+ghost use Rattle.pp_lexer.specs.inner.PlainWords.{is_space, begins, continues, begins_comment, Stops, IsFirstWord};
+ghost use Rattle.pp_lexer.specs.inner.PlainWords.{IsPlainNewline};
 
 use crate::token::Punct;
 use number::plain_number;

@@ -3,7 +3,8 @@
 ghost use Rattle.std.specs.Prelude.{◌≡◌, ◌≤◌, ◌==◌, ◌||◌, if◌then◌else◌, IsTrue, IsSome, option_map};
 ghost use Rattle.std.specs.Char.{is_digit};
 ghost use Rattle.pp_lexer.specs.Longest.{longest, front_len};
-ghost use Rattle.pp_lexer.specs.Numbers.{is_decimal, is_hex, decimal_tail, exponent, fraction, is_number, begins_number};
+ghost use Rattle.pp_lexer.specs.Numbers.{is_decimal, is_hex, decimal_tail, exponent, fraction, is_number};
+ghost use Rattle.pp_lexer.specs.Numbers.{begins_number};
 ghost use Rattle.pp_lexer.specs.inner.Numbers.{hex_tail};
 ghost use Rattle.pp_lexer.specs.Reading.{first_char, letters, advanced};
 ghost use Rattle.pp_lexer.specs.inner.Scan.{Takes, upcoming, further};

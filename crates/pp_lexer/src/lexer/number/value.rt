@@ -3,7 +3,8 @@
 ghost use Rattle.std.specs.Prelude.{◌≡◌, ◌≤◌, ◌==◌, ◌||◌, drop, if◌then◌else◌, IfOk};
 ghost use Rattle.std.specs.List.{list_any};
 ghost use Rattle.pp_lexer.specs.Longest.{front_len};
-ghost use Rattle.pp_lexer.specs.NumberValue.{begins_hex, begins_octal, is_float, whole, integer_value, float_exponent, is_float_text, float_value};
+ghost use Rattle.pp_lexer.specs.NumberValue.{begins_hex, begins_octal, is_float, whole, integer_value, float_exponent};
+ghost use Rattle.pp_lexer.specs.NumberValue.{is_float_text, float_value};
 ghost use Rattle.pp_lexer.specs.inner.NumberValue.{is_float_mark, integer_of};
 ghost use Rattle.pp_lexer.specs.Outcome.{IsGiven};
 ghost use Rattle.pp_lexer.specs.Numbers.{is_decimal};

@@ -1,13 +1,15 @@
 //! Decimal and hexadecimal integers, and floats, of ASCII text.
 
-ghost use Rattle.std.specs.Prelude.{⊤, ◌≡◌, ◌<◌, ◌≤◌, true, false, length, take, slice_index, IsTrue, IfSome, MatchOption};
+ghost use Rattle.std.specs.Prelude.{⊤, ◌≡◌, ◌<◌, ◌≤◌, true, false, length, take, slice_index, IsTrue, IfSome};
+ghost use Rattle.std.specs.Prelude.{MatchOption};
 ghost use Rattle.std.specs.List.{list_all};
 ghost use Rattle.std.specs.Str.{IsUtf8};
 ghost use Rattle.std.specs.Str.Parse.{digits_value};
 ghost use Rattle.pp_lexer.specs.Numbers.{is_decimal, is_hex};
 ghost use Rattle.pp_lexer.specs.NumberValue.{float_exponent, is_float, is_float_text};
 ghost use Rattle.pp_lexer.specs.inner.NumberValue.{float_power};
-ghost use Rattle.pp_lexer.specs.inner.PlainWords.{continues_number, Stops, IsSuffixed, BeginsHex, BeginsSign, IsFirstWord};
+ghost use Rattle.pp_lexer.specs.inner.PlainWords.{continues_number, Stops, IsSuffixed, BeginsHex, BeginsSign};
+ghost use Rattle.pp_lexer.specs.inner.PlainWords.{IsFirstWord};
 
 use crate::lexer::plain::{Form, Word, continues};
 
