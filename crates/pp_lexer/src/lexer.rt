@@ -12,10 +12,9 @@ ghost use Rattle.pp_lexer.specs.Words.{is_blank};
 ghost use Rattle.pp_lexer.specs.Kept.{CanPass};
 ghost use Rattle.pp_lexer.specs.Lexed.{start_of, first_item, after_first_item, after_first, first_place};
 ghost use Rattle.pp_lexer.specs.Lexed.{places_after_first, IsNext};
-ghost use Rattle.pp_lexer.specs.inner.Passing.{is_newline_result, newline_seen, lexeme_seen, newline_places, lexed_at};
+ghost use Rattle.pp_lexer.specs.inner.Passing.{is_newline_result, newline_seen, lexeme_seen, newline_places};
 ghost use Rattle.pp_lexer.specs.inner.Passing.{SeesSame, IsRead};
 ghost use Rattle.pp_lexer.specs.inner.AfterSpaces.{IsAfterSpaces};
-ghost use Rattle.pp_lexer.specs.inner.PlainWords.{IsFirstWord};
 ghost use Rattle.pp_lexer.specs.PlainItems.{is_newline_lexeme, IsNextWord, PassesBlanks, PassesNewline};
 
 use crate::token::{Location, NOWHERE, PreprocessorError, out_of_memory};
@@ -45,7 +44,7 @@ use chars_and_line::Left;
 pub use comments::Comments;
 pub use item::{LexerItem, Token, TokenValue};
 pub use plain::Form;
-use plain::{Word, begins_comment, newline_length, plain_comment, plain_word, spaces_length};
+use plain::{begins_comment, newline_length, plain_comment, plain_word, spaces_length};
 pub use plain_item::{PlainItem, plain_value, without_suffix};
 pub use position::line_column;
 pub use replace_comments::{COMMENT_SENTINEL_VALUE, ReplaceComments};
@@ -250,37 +249,30 @@ impl<'a> LexerState<'a> {
         }
     }
 
-    // What is left after the spaces at the front.
-    #[inline(always)]
-    fn front(&self) -> Front<'a>
-        ensures { IsAfterSpaces result.left.line result.left.at result.left.text.now result.spaced self.now.inner }
-    {
-        let left = self.inner.left();
-        let count = spaces_length(left.text.as_bytes());
-        if count == 0 {
-            return Front {
-                left,
-                spaced: false,
-            };
-        }
-        Front {
-            left: Left {
-                text: &left.text[count..],
-                line: left.line,
-                at: left.at + count,
-            },
-            spaced: true,
-        }
-    }
-
-    // Passes the spaces and comments before the next item, but not spaces alone. Returns what is left after these.
+    // What is left after spaces at the front, which aren't passed. Comments are passed, and spaces before these.
     #[inline(always)]
     fn find_front(&mut self) -> Front<'a>
         ensures same { SeesSame self.old self.new }
         ensures front { IsAfterSpaces result.left.line result.left.at result.left.text.now result.spaced
             self.new.inner }
     {
-        let front = self.front();
+        let left = self.inner.left();
+        let count = spaces_length(left.text.as_bytes());
+        let front = if count == 0 {
+            Front {
+                left,
+                spaced: false,
+            }
+        } else {
+            Front {
+                left: Left {
+                    text: &left.text[count..],
+                    line: left.line,
+                    at: left.at + count,
+                },
+                spaced: true,
+            }
+        };
         if !begins_comment(front.left.text.as_bytes()) {
             return front;
         }
@@ -289,71 +281,6 @@ impl<'a> LexerState<'a> {
             left: self.inner.left(),
             spaced: false,
         }
-    }
-
-    // The word of plain text at the front.
-    #[inline(always)]
-    fn word_at(&self, front: Front<'a>, word: Word) -> PlainItem<'a>
-        requires front { IsAfterSpaces front.left.line front.left.at front.left.text.now front.spaced
-            self.now.inner }
-        requires word { IsFirstWord front.left.text.now word }
-        ensures is { IsNextWord (lexed_at self.now) result }
-        ensures passes { CanPass (lexed_at self.now) result }
-    {
-        let left = front.left;
-        PlainItem {
-            form: word.form,
-            spelling: &left.text[..word.taken],
-            location: Location {
-                start: left.at as u32,
-                end: (left.at + word.taken) as u32,
-                line: left.line,
-            },
-            leading_whitespace: self.flags.leading_whitespace | front.spaced,
-            start_of_line: self.flags.start_of_line,
-            rest: &left.text[word.taken..],
-        }
-    }
-
-    // The next item if it is a word of plain text, else `None`. It isn't taken.
-    #[inline(always)]
-    fn peek_word(&mut self) -> Option<PlainItem<'a>>
-        ensures same { SeesSame self.old self.new }
-        ensures word { IfSome result (IsNextWord (lexed_at self.new)) }
-        ensures passes { IfSome result (CanPass (lexed_at self.new)) }
-    {
-        let front = self.find_front();
-        let Some(word) = plain_word(front.left.text) else {
-            if front.spaced {
-                self.skip_comments();
-            }
-            return None;
-        };
-        Some(self.word_at(front, word))
-    }
-
-    // Takes the word that comes next.
-    #[inline(always)]
-    fn pass_word(&mut self, word: &PlainItem<'a>)
-        requires { CanPass (lexed_at self.old) word.now }
-        ensures { lexed_at self.new ≡ after_first (lexed_at self.old) }
-    {
-        let Location { end, line, .. } = word.location;
-        let last = Spot {
-            c: word.spelling.as_bytes()[word.spelling.len() - 1] as char,
-            line,
-            begin: end - 1,
-            end,
-        };
-        self.flags.leading_whitespace = false;
-        self.flags.start_of_line = false;
-        self.place = word.location;
-        let rest = Left {
-            text: word.rest,
-            line,
-            at: end as usize,
-        };
-        self.inner.go(rest, last);
     }
 
     // The next item if it is a newline of ASCII text, else `None`.
@@ -417,25 +344,6 @@ impl<'a> LexerState<'a> {
             line: first.line,
         };
         Ok(Some(item_of(value, before, first, last)))
-    }
-
-    // The next item, or `None` at the end.
-    fn next(&mut self, alloc: Global) -> Result<Option<LexerItem>, AllocError>
-        ensures { IsRead self.old result self.new }
-    {
-        if let Some(word) = self.peek_word() {
-            self.pass_word(&word);
-            return Ok(Some(Ok(Token {
-                value: plain_value(alloc, word.form, word.spelling)?,
-                location: word.location,
-                leading_whitespace: word.leading_whitespace,
-                start_of_line: word.start_of_line,
-            })));
-        }
-        if let Some(newline) = self.next_newline() {
-            return Ok(Some(newline));
-        }
-        self.next_by_characters(alloc)
     }
 }
 
@@ -551,7 +459,26 @@ impl<'a> Lexer<'a> {
         ensures word { IfSome result (IsNextWord self.new) }
         ensures passes { IfSome result (CanPass self.new) }
     {
-        self.state.peek_word()
+        let front = self.state.find_front();
+        let left = front.left;
+        let Some(word) = plain_word(left.text) else {
+            if front.spaced {
+                self.state.skip_comments();
+            }
+            return None;
+        };
+        Some(PlainItem {
+            form: word.form,
+            spelling: &left.text[..word.taken],
+            location: Location {
+                start: left.at as u32,
+                end: (left.at + word.taken) as u32,
+                line: left.line,
+            },
+            leading_whitespace: self.state.flags.leading_whitespace | front.spaced,
+            start_of_line: self.state.flags.start_of_line,
+            rest: &left.text[word.taken..],
+        })
     }
 
     /// Takes the word that `peek_word` returned, if nothing was taken since.
@@ -560,7 +487,22 @@ impl<'a> Lexer<'a> {
         requires { CanPass self.old word.now }
         ensures { self.new ≡ after_first self.old }
     {
-        self.state.pass_word(word);
+        let Location { end, line, .. } = word.location;
+        let last = Spot {
+            c: word.spelling.as_bytes()[word.spelling.len() - 1] as char,
+            line,
+            begin: end - 1,
+            end,
+        };
+        self.state.flags.leading_whitespace = false;
+        self.state.flags.start_of_line = false;
+        self.state.place = word.location;
+        let rest = Left {
+            text: word.rest,
+            line,
+            at: end as usize,
+        };
+        self.state.inner.go(rest, last);
     }
 
     /// Passes the next item if it is a newline of plain text, with no space or comment before it, and returns whether
@@ -574,20 +516,6 @@ impl<'a> Lexer<'a> {
         }
         self.state.next_newline().is_some()
     }
-
-    // The next item.
-    fn next_item(&mut self) -> Option<LexerItem>
-        ensures { IsNext self.old result self.new }
-    {
-        if self.spent {
-            return None;
-        }
-        let Ok(item) = self.state.next(self.alloc) else {
-            self.spent = true;
-            return Some(Err(out_of_memory()));
-        };
-        item
-    }
 }
 
 impl<'a> Iterator for Lexer<'a> {
@@ -598,6 +526,29 @@ impl<'a> Iterator for Lexer<'a> {
     ghost remaining = { λ s. at_most (if s.spent then 0 else length s.rest + 1) };
 
     fn next(&mut self) -> Option<LexerItem> {
-        self.next_item()
+        if self.spent {
+            return None;
+        }
+        if let Some(word) = self.peek_word() {
+            self.pass_word(&word);
+            let Ok(value) = plain_value(self.alloc, word.form, word.spelling) else {
+                self.spend();
+                return Some(Err(out_of_memory()));
+            };
+            return Some(Ok(Token {
+                value,
+                location: word.location,
+                leading_whitespace: word.leading_whitespace,
+                start_of_line: word.start_of_line,
+            }));
+        }
+        if let Some(newline) = self.state.next_newline() {
+            return Some(newline);
+        }
+        let Ok(item) = self.state.next_by_characters(self.alloc) else {
+            self.spend();
+            return Some(Err(out_of_memory()));
+        };
+        item
     }
 }

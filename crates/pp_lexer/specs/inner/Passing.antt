@@ -94,10 +94,6 @@ lexed f r place spent = record {
   places = places_left f r;
 }
 
--- the same, if memory didn't run out
-abbrev pub lexed_at : LexerState → Lexed
-lexed_at s = lexed s.flags s.inner s.place false
-
 -- the same items are to come, and none was taken
 pub record SeesSame (old new : LexerState) : Type 0 where
   pub items : seen_of new.flags new.inner ≡ seen_of old.flags old.inner
