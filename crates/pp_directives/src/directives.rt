@@ -1,14 +1,11 @@
 //! The source's reader: directives act, and the tokens between them are given.
 
-ghost use Rattle.std.specs.Prelude.{◌≡◌, ◌≢◌, ◌||◌, ◌-◌, ◌^◌, ◌<◌, [], length, false, Err, is_ok, IsTrue, IfOk, None};
+ghost use Rattle.std.specs.Prelude.{◌≡◌, ◌-◌, ◌^◌, ◌<◌, [], length, false, Err, IsTrue, IfOk, None};
 ghost use Rattle.std.specs.Prelude.{pos, ◌+ℤ◌};
 ghost use Rattle.std.specs.Str.{chars};
-ghost use Rattle.pp_lexer.specs.declared.lexer.item.TokenValue.TheVariants.{NewLine};
-ghost use Rattle.pp_model.specs.Conversions.{conversion};
 ghost use Rattle.pp_model.specs.LineValues.{as_line_number};
 ghost use Rattle.pp_model.specs.Run.{items_of, content_tokens};
 ghost use Rattle.pp_macros.specs.Held.{HoldsOrdinary};
-ghost use Rattle.pp_macros.specs.Item.{as_step};
 ghost use Rattle.pp_directives.specs.inner.PlainText.{IsInText};
 ghost use Rattle.pp_macros.specs.inner.OpenBlocks.{is_live_among};
 ghost use Rattle.pp_directives.specs.inner.SettingContent.{SetsContent};
@@ -139,20 +136,6 @@ impl<'a> DirectiveProcessor<'a> {
         !self.dead_for_good && self.blocks.are_live()
     }
 
-    // A token of live text. A number sign is an error.
-    fn give_token(&mut self, token: lexer::Token) -> Step<Token>
-        requires { token.value ≢ NewLine }
-        ensures is { result ≡ as_step (conversion token) }
-        ensures holds { IfOk result (λ token. HoldsOrdinary token.value) }
-        ensures remembers { self.new
-            ≡ record self.old { has_text = is_ok result || self.old.has_text } }
-        ensures errors { StepReports result (unreported_of self.old) (unreported_of self.new) }
-    {
-        let token = convert_lexer_token_to_step(token)?;
-        self.has_text = true;
-        Ok(token)
-    }
-
     // Reports the innermost block that is open at the end of the source or, without one, the end.
     fn end(&mut self) -> StepExit
         requires unspent { self.old.spent ≡ false }
@@ -202,7 +185,11 @@ impl<'a> DirectiveProcessor<'a> {
                 drop(token);
                 self.step_directive(hash)
             }
-            _ if self.is_live() => self.give_token(token),
+            _ if self.is_live() => {
+                let token = convert_lexer_token_to_step(token)?;
+                self.has_text = true;
+                Ok(token)
+            }
             _ => {
                 drop(token);
                 Err(StepExit::Continue)
