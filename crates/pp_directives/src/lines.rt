@@ -8,7 +8,6 @@ ghost use Rattle.pp_model.specs.Lines.{first_token, first_name, ended_line, only
 ghost use Rattle.pp_model.specs.Lines.{comments_before_end};
 ghost use Rattle.pp_directives.specs.inner.LineEntries.{line_entries};
 ghost use Rattle.pp_directives.specs.inner.DefineReading.{opens_list};
-ghost use Rattle.pp_directives.specs.inner.PlainText.{GivesLineToken};
 ghost use Rattle.pp_macros.specs.Held.{is_ordinary_leaf};
 ghost use Rattle.pp_macros.specs.inner.LineReading as spec;
 ghost use Rattle.pp_directives.specs.inner.ReadNames.{as_named, as_placed};
@@ -23,7 +22,7 @@ use pp_lexer::token::{Location, PreprocessorError, Punct, Text, Token, Tokens};
 use pp_macros::define::Define;
 use pp_macros::halt::Halt;
 use pp_model::conversion::{convert_lexer_token, refused_token};
-use std::alloc::{AllocError, Global};
+use std::alloc::Global;
 
 /// The next token. The end of the source is an error at the directive's word.
 pub fn first_token(word: Location, lexer: &mut SourceLexer<'_>) -> Result<lexer::Token, Halt>
@@ -132,21 +131,6 @@ fn line_token(token: Option<lexer::Token>) -> Result<Option<Token>, Halt>
     }
 }
 
-// The next token of the line, if it is a word of plain text. Otherwise no token is taken.
-#[inline(always)]
-fn plain_token(alloc: Global, lexer: &mut SourceLexer<'_>) -> Result<Option<Token>, AllocError>
-    requires { lexer.old.spent ≡ false }
-    ensures { IfOk result (λ next. GivesLineToken lexer.old next lexer.new) }
-{
-    let Some(word) = lexer.peek_word() else {
-        return Ok(None);
-    };
-    if matches!(word.form, Form::Hash) {
-        return Ok(None);
-    }
-    Ok(Some(lexer.take_word(alloc, word)?))
-}
-
 /// The next token of the line, or `None` if the line ends.
 #[inline(always)]
 pub fn next_line_token(alloc: Global, lexer: &mut SourceLexer<'_>) -> Result<Option<Token>, Halt>
@@ -157,8 +141,10 @@ pub fn next_line_token(alloc: Global, lexer: &mut SourceLexer<'_>) -> Result<Opt
         ≡ comments_before lexer.old.rest lexer.old.at_end) }
     ensures left { IfOk result (λ next. IfSome next (λ t. lexer.new.rest ≢ [])) }
 {
-    if let Some(token) = plain_token(alloc, lexer)? {
-        return Ok(Some(token));
+    if let Some(word) = lexer.peek_word() {
+        if !matches!(word.form, Form::Hash) {
+            return Ok(Some(lexer.take_word(alloc, word)?));
+        }
     }
     line_token(lexer.next_token()?)
 }
