@@ -6,7 +6,7 @@ use crate::directives::DirectiveProcessor;
 use pp_lexer::token::{Location, PreprocessorError};
 use pp_macros::define::Macro;
 use pp_macros::names::NameId;
-use pp_macros::reader::MeLexer;
+use pp_macros::reader::{MeLexer, ends_at_parenthesis};
 use pp_macros::step::{Step, StepExit};
 use pp_model::read::Read;
 use std::alloc::AllocError;
@@ -23,7 +23,15 @@ impl<'a> MeLexer for DirectiveProcessor<'a> {
     }
 
     fn push_flat(&mut self, tokens: &mut Vec<Read>) -> Result<bool, AllocError> {
-        self.push_words(tokens)
+        if !self.is_in_text() {
+            return Ok(false);
+        }
+        'words: while self.push_word(tokens)? {
+            if ends_at_parenthesis(tokens) {
+                return Ok(true);
+            }
+        }
+        Ok(false)
     }
 
     fn find(&self, name: &str) -> Option<NameId> {

@@ -4,17 +4,15 @@ ghost use Rattle.std.specs.Prelude.{◌≡◌, ◌≢◌, IfOk, IfSome, option_m
 ghost use Rattle.std.specs.Str.{IsAscii};
 ghost use Rattle.pp_lexer.specs.declared.lexer.plain.Form.TheVariants.{Hash};
 ghost use Rattle.pp_macros.specs.inner.Defined.{names_in, numbered_by, AreNumbered};
-ghost use Rattle.pp_macros.specs.inner.Reader.{of_source, ReadsOnto, ReadsRun};
-ghost use Rattle.pp_directives.specs.inner.PlainText.{IsInText, GivesWord, GivesBare, GivesApart, PausesAtNewline};
+ghost use Rattle.pp_macros.specs.inner.Reader.{of_source, ReadsOnto};
+ghost use Rattle.pp_directives.specs.inner.PlainText.{IsInText, GivesWord, GivesBare, PausesAtNewline};
 ghost use Rattle.pp_directives.specs.WordTokens.{word_value};
 ghost use Rattle.pp_macros.specs.inner.Turns.{macro_of_value};
 
 use crate::directives::DirectiveProcessor;
 use crate::words::{gives_itself, is_apart, opens_bare};
 use pp_lexer::lexer::{Form, PlainItem};
-use pp_lexer::token::Token;
 use pp_macros::define::Macro;
-use pp_macros::reader::ends_at_parenthesis;
 use pp_model::read::Read;
 use std::alloc::AllocError;
 use std::rc::Rc;
@@ -70,54 +68,25 @@ impl<'a> DirectiveProcessor<'a> {
         }
     }
 
-    // The token of a word of plain text, if one comes first and isn't `__LINE__`. Otherwise nothing changes.
+    // Reads a word of plain text onto the end of the tokens, if one comes first and isn't `__LINE__`, and returns
+    // whether it did. Otherwise nothing changes.
     #[inline(always)]
-    fn next_apart(&mut self) -> Result<Option<Token>, AllocError>
-        requires { IsInText self.old }
-        ensures gives { IfOk result (λ next. GivesApart self.old next self.new) }
-        ensures stays { IfOk result (λ _. IsInText self.new) }
-    {
-        let Some(word) = self.lexer.peek_word() else {
-            return Ok(None);
-        };
-        if !is_apart(&word) {
-            return Ok(None);
-        }
-        let token = self.lexer.take_word(self.alloc, word)?;
-        self.has_text = true;
-        Ok(Some(token))
-    }
-
-    // Reads such a token onto the end of the tokens, and returns whether there was one.
-    #[inline(always)]
-    fn push_word(&mut self, tokens: &mut Vec<Read>) -> Result<bool, AllocError>
+    pub(crate) fn push_word(&mut self, tokens: &mut Vec<Read>) -> Result<bool, AllocError>
         requires { IsInText self.old }
         ensures onto { IfOk result (λ pushed. ReadsOnto (of_source self.old) tokens.old.items pushed
             (of_source self.new) tokens.new.items) }
         ensures stays { IfOk result (λ _. IsInText self.new) }
     {
-        let Some(token) = self.next_apart()? else {
+        let Some(word) = self.lexer.peek_word() else {
             return Ok(false);
         };
-        tokens.push(Read::unpainted(token))?;
-        Ok(true)
-    }
-
-    /// Reads words of plain text onto the end of the tokens, up to a parenthesis, which is read too, if they come first
-    /// in live text. Stops before `__LINE__`. Returns whether it came to a parenthesis.
-    pub fn push_words(&mut self, tokens: &mut Vec<Read>) -> Result<bool, AllocError>
-        ensures { IfOk result (λ found. ReadsRun (of_source self.old) tokens.old.items found
-            (of_source self.new) tokens.new.items) }
-    {
-        if !self.is_in_text() {
+        if !is_apart(&word) {
             return Ok(false);
         }
-        'words: while self.push_word(tokens)? {
-            if ends_at_parenthesis(tokens) {
-                return Ok(true);
-            }
-        }
-        Ok(false)
+        let token = self.lexer.take_word(self.alloc, word)?;
+        self.has_text = true;
+        tokens.push(Read::unpainted(token))?;
+        Ok(true)
     }
 
     /// Passes a newline of plain text, if one comes first, and returns whether it did. Otherwise it changes nothing.

@@ -1,7 +1,7 @@
 use Rattle.std.proofs.Common.{◌∙◌, refl}
 use Rattle.pp_macros.specs.inner.Reader.{IsReadOnto, of_source, none_read}
 use Rattle.pp_macros.proofs.taking.RunLemmas.{flat_more, read_falls}
-use Rattle.pp_directives.proofs.directives.DirectiveProcessor.push_words.Goals as goal
+use Rattle.pp_directives.proofs.source_reader.DirectiveProcessorMeLexer.push_flat.Goals as goal
 
 pub words-init : goal.words-init
 words-init c = record { flat = none_read _ _ refl refl; in_text = c.if-not-is_in_text.ensures {u = tt} refl }

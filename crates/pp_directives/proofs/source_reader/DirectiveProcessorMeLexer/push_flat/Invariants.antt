@@ -3,7 +3,7 @@ use Rattle.pp_macros.specs.inner.Reach.{total}
 use Rattle.pp_macros.specs.inner.Reader.{ReadsFlat, of_source}
 use Rattle.pp_macros.proofs.taking.ExpanderLemmas.{idle}
 use Rattle.pp_directives.specs.inner.PlainText.{IsInText}
-use Rattle.pp_directives.proofs.directives.DirectiveProcessor.push_words.Given as goal
+use Rattle.pp_directives.proofs.source_reader.DirectiveProcessorMeLexer.push_flat.Given as goal
 
 -- the tokens so far, of which none is a parenthesis, and the text is still live
 abbrev pub invariant-words : goal.invariant-words
