@@ -1,6 +1,6 @@
 -- A word of plain text, before memory is taken for it.
 use Rattle.std.specs.Prelude.{◌≡◌, ◌≢◌, ℕ, Bool, true, false, not, ◌&&◌, List, Option, Some, None, Ok}
-use Rattle.std.specs.Prelude.{Err, MatchBool, MatchOption, IsTrue, [], ⊤}
+use Rattle.std.specs.Prelude.{Err, MatchBool, MatchOption, [], ⊤}
 use Rattle.std.specs.Str.{IsAscii}
 use Rattle.pp_lexer.specs.Kept.{CanPass}
 use Rattle.pp_lexer.specs.Location.{nowhere}
@@ -8,11 +8,11 @@ use Rattle.pp_lexer.specs.PlainItems.{token_of, begins_newline, IsNextWord}
 use Rattle.pp_lexer.specs.declared.lexer.plain.Form.TheVariants.{Hash, Identifier}
 use Rattle.pp_lexer.specs.declared.lexer.plain.Form.{Form}
 use Rattle.pp_lexer.specs.declared.lexer.plain_item.PlainItem.{PlainItem}
-use Rattle.pp_macros.specs.inner.LineReading.{HasTaken, next_token, next_line_token}
+use Rattle.pp_macros.specs.inner.LineReading.{HasTaken, next_token}
 use Rattle.pp_macros.specs.inner.SourceLexed.{SourceLexed, unreported_at}
 use Rattle.pp_directives.specs.WordTokens.{word_value, word_token}
 use Rattle.pp_model.specs.Conversions.{conversion}
-use Rattle.pp_model.specs.Names.{is_identifier, is_same_name, line_name}
+use Rattle.pp_model.specs.Names.{is_same_name, line_name}
 use Rattle.pp_model.specs.Definitions.{Definition}
 use Rattle.pp_macros.specs.inner.Defined.{Defined, meaning_of}
 use Rattle.pp_macros.specs.inner.Plain.{gives_itself}
@@ -23,7 +23,6 @@ use Rattle.pp_macros.specs.inner.Unreported.{StepReports}
 use Rattle.pp_macros.specs.Held.{HoldsOrdinary}
 use Rattle.pp_macros.specs.Item.{Step}
 use Rattle.pp_lexer.specs.Lexed.{Lexed, comments_before}
-use Rattle.pp_lexer.specs.TokenValue.{is_ordinary}
 use Rattle.pp_lexer.specs.declared.token.Token.{Token}
 
 -- the lexer, whatever place it noted last
@@ -60,20 +59,6 @@ pub record TakesWordToken (old : SourceLexed) (word : PlainItem) (token : Token)
   pub is : token ≡ word_token word
   pub converted : conversion (token_of word) ≡ Ok token
   pub holds : HoldsOrdinary token.value
-
--- the next token of a line is this token, and it was taken
-pub record TakesLineToken (old : SourceLexed) (token : Token) (new : SourceLexed) : Type 0 where
-  pub is : next_line_token old.rest ≡ Ok (Some token)
-  pub takes : HasTaken 1 old new
-  pub errors : unreported_at new ≡ unreported_at old
-  pub ordinary : IsTrue (is_ordinary token.value)
-  pub comments : new.had_comments ≡ comments_before old.rest old.at_end
-  pub left : new.rest ≢ []
-
--- it was taken, or nothing was; but comments in front of the next token may have been passed
-abbrev pub GivesLineToken : SourceLexed → Option Token → SourceLexed → Type 0
-GivesLineToken old answer new =
-    MatchOption answer (new ≡ record old { had_comments = new.had_comments }) (λ token. TakesLineToken old token new)
 
 -- the next token is a newline, and it was taken
 pub record TakesNewline (old new : SourceLexed) : Type 0 where
@@ -135,16 +120,6 @@ pub record TakesBare (old : Source) (item : PlainItem) (new : Source) : Type 0 w
 -- such a word, or nothing changed
 abbrev pub GivesBare : Source → Option PlainItem → Source → Type 0
 GivesBare old answer new = MatchOption answer (new ≡ old) (λ item. TakesBare old item new)
-
--- a step at a word of plain text that isn't `__LINE__`
-pub record IsApart (old : Source) (token : Token) (new : Source) : Type 0 where
-  pub apart : is_identifier line_name token.value ≡ false
-  pub holds : HoldsOrdinary token.value
-  pub step : IsStep old (Ok token) new
-
--- such a step, or nothing changed
-abbrev pub GivesApart : Source → Option Token → Source → Type 0
-GivesApart old answer new = MatchOption answer (new ≡ old) (λ token. IsApart old token new)
 
 -- a newline was a pause, or nothing changed
 abbrev pub PausesAtNewline : Source → Bool → Source → Type 0
