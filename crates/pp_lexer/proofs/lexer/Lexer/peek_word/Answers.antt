@@ -1,9 +1,6 @@
-use Rattle.std.proofs.Common.{◌≡◌, false, sym, ap, subst, ◌∙◌}
-use Rattle.pp_lexer.specs.Kept.{CanPass}
-use Rattle.pp_lexer.specs.PlainItems.{IsNextWord}
-use Rattle.pp_lexer.specs.inner.Passing.{lexed}
+use Rattle.std.proofs.Common.{◌≡◌, false, ap, ◌∙◌}
 use Rattle.pp_lexer.proofs.characters.PlainFrontsLemmas.{range_front}
-use Rattle.pp_lexer.proofs.items.NextWordLemmas.{word, next_word, can_pass}
+use Rattle.pp_lexer.proofs.items.NextWordLemmas.{next_word, can_pass}
 use Rattle.pp_lexer.proofs.lexer.Lexer.peek_word.Goals as goal
 
 pub returns-clause-word : goal.returns-clause-word

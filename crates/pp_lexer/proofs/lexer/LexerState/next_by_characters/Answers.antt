@@ -1,4 +1,4 @@
-use Rattle.std.proofs.Common.{sym, ◌∙◌, subst, refl}
+use Rattle.std.proofs.Common.{sym, ◌∙◌, subst}
 use Rattle.pp_lexer.specs.inner.Passing.{IsPlaced}
 use Rattle.pp_lexer.proofs.items.LexLemmas.{lexed_before, lexed_front, lexed_refused, lexed_end, placed_before, placed_refused, placed_front, placed_end}
 use Rattle.pp_lexer.proofs.lexer.LexerState.next_by_characters.Goals as goal
