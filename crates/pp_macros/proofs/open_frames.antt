@@ -4,9 +4,10 @@ pub mod SoundLemmas
 pub mod AdvanceLemmas
 pub mod FrameLemmas
 pub mod OpenMacroLemmas
-pub mod OpenMarksLemmas
-pub mod OpenNamesLemmas
+pub mod CountLemmas
+pub mod KnownLemmas
 pub mod BaseLemmas
 pub mod OpenSoundLemmas
 pub mod ReportedLemmas
 pub mod PaintLemmas
+pub mod ListKnownLemmas

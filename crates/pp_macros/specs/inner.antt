@@ -14,7 +14,6 @@ pub mod NameTable
 pub mod Marks
 pub mod Giving
 pub mod Parts
-pub mod OpenNames
 pub mod Nesting
 pub mod Turns
 pub mod Apart

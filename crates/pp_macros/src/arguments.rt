@@ -1,14 +1,15 @@
 //! Arguments of calls, each expanded alone.
 
-ghost use Rattle.std.specs.Prelude.{◌≡◌, ◌++◌, ◌-◌, [], IfOk, None, OnOk, length, Ok, Err};
+ghost use Rattle.std.specs.Prelude.{◌≡◌, ◌++◌, ◌-◌, ◌&&◌, [], IfOk, None, OnOk, is_none, length, not, Ok, Err};
 ghost use Rattle.std.specs.List.{list_all};
 ghost use Rattle.pp_model.specs.Calls.{arguments_of, misfit};
+ghost use Rattle.pp_model.specs.Names.{is_in};
 ghost use Rattle.pp_model.specs.Emitting.{Alone, Each, answers_at};
-ghost use Rattle.pp_macros.specs.inner.Defined.{meaning_of};
+ghost use Rattle.pp_macros.specs.inner.Defined.{meaning_of, names_in};
 ghost use Rattle.pp_macros.specs.inner.Finishing.{Finishes, IsAtStart, IsShort, AreShort, AreOfCall, read_to_end};
 ghost use Rattle.pp_macros.specs.inner.Finishing.{site_at};
 ghost use Rattle.pp_macros.specs.inner.Frames.{names_of};
-ghost use Rattle.pp_macros.specs.inner.Nesting.{listed_in, open_names};
+ghost use Rattle.pp_macros.specs.inner.Nesting.{AreKnown, listed_in, open_names};
 ghost use Rattle.pp_macros.specs.inner.Parts.{addition, lists_of, AreInOrder};
 ghost use Rattle.pp_macros.specs.inner.Reading.{AllReadOrdinary};
 ghost use Rattle.pp_macros.specs.inner.Expander.{Satisfies};
@@ -21,9 +22,9 @@ use crate::halt::{Halt, halt_of};
 use crate::list_lexer::{ListLexer, take_out};
 use crate::list_step::step_list;
 use crate::macro_processor::MacroProcessor;
-use crate::names::{Definitions, gives_itself};
+use crate::names::Definitions;
 use crate::step::StepExit;
-use pp_lexer::token::{PreprocessorError, Text};
+use pp_lexer::token::{PreprocessorError, Text, TokenValue};
 use pp_model::names::is_line_name;
 use pp_model::parentheses::{ends_argument, nesting_after};
 use pp_model::read::Read;
@@ -92,7 +93,8 @@ pub fn finish_call(
     definitions: &Definitions,
     levels: u32,
 ) -> Result<(), Halt>
-    requires { processor.old.here.held ≡ None }
+    requires free { processor.old.here.held ≡ None }
+    requires known { AreKnown (names_in definitions.now) processor.old }
     ensures finishes { Finishes levels definitions.now (names_of processor.old.below) call processor.old.here result
         processor.new.here }
     ensures below { processor.new.below ≡ processor.old.below }
@@ -111,7 +113,8 @@ fn expand_call(
     definitions: &Definitions,
     levels: u32,
 ) -> Result<ArgumentLists, Halt>
-    requires { processor.old.here.held ≡ None }
+    requires free { processor.old.here.held ≡ None }
+    requires known { AreKnown (names_in definitions.now) processor.old }
     ensures same { processor.new ≡ processor.old }
     ensures answers { Satisfies result (λ out. answers_at levels call.old.opened.definition
         (site_at call.old definitions.now (open_names processor.old)) out) }
@@ -138,7 +141,8 @@ fn expand_arguments(
     definitions: &Definitions,
     levels: u32,
 ) -> Result<ArgumentLists, Halt>
-    requires { processor.old.here.held ≡ None }
+    requires free { processor.old.here.held ≡ None }
+    requires known { AreKnown (names_in definitions.now) processor.old }
     ensures same { processor.new ≡ processor.old }
     ensures each { Satisfies result (λ out. Each (Alone levels)
         (meaning_of definitions.now) (open_names processor.old) arguments out) }
@@ -173,6 +177,7 @@ fn expand_parts(
     requires holds { AllReadOrdinary tokens.old }
     requires order { AreInOrder 0 parts.now (length tokens.old) }
     requires free { processor.old.here.held ≡ None }
+    requires known { AreKnown (names_in definitions.now) processor.old }
     ensures same { processor.new ≡ processor.old }
     ensures each { Satisfies result (λ out. Each (Alone levels) (meaning_of definitions.now)
         (open_names processor.old) (lists_of tokens.old parts.now) out) }
@@ -200,20 +205,40 @@ fn expand_parts(
     Ok(ArgumentLists::new(items, expanded))
 }
 
+// Whether no macro has this name: it is neither defined nor open, here or around.
+fn opens_none(name: &Text, definitions: &Definitions, processor: &MacroProcessor) -> bool
+    requires { AreKnown (names_in definitions.now) processor.now }
+    ensures { result ≡ (is_none (meaning_of definitions.now name.now)
+        && not (is_in name.now (open_names processor.now))) }
+{
+    let Some(id) = definitions.find(name.as_str()) else {
+        return true;
+    };
+    match definitions.get_define(id) {
+        Some(_) => false,
+        None => !processor.is_open(id),
+    }
+}
+
 // Whether the token gives itself, with its paint: it isn't `__LINE__`, and it is painted, or is not
 // a name that is defined, or open here or around.
 fn is_plain(read: &Read, definitions: &Definitions, processor: &MacroProcessor) -> bool
+    requires { AreKnown (names_in definitions.now) processor.now }
     ensures { result ≡ is_plain definitions.now (open_names processor.now) read.now }
 {
     let value = &read.token.value;
     if read.painted {
         return !is_line_name(value);
     }
-    gives_itself(definitions, value) && !processor.is_open_name(value)
+    match value {
+        TokenValue::Ident(name) => !is_line_name(value) && opens_none(name, definitions, processor),
+        _ => true,
+    }
 }
 
 // Whether each token gives itself.
 fn are_plain(tokens: &[Read], definitions: &Definitions, processor: &MacroProcessor) -> bool
+    requires { AreKnown (names_in definitions.now) processor.now }
     ensures { result ≡ list_all (is_plain definitions.now (open_names processor.now)) tokens.now }
 {
     tokens
@@ -244,6 +269,7 @@ fn expand_argument(
     requires ordinary { AllReadOrdinary tokens.old }
     requires before { AllReadOrdinary items.old.items }
     requires free { processor.old.here.held ≡ None }
+    requires known { AreKnown (names_in definitions.now) processor.old }
     ensures same { processor.new ≡ processor.old }
     ensures keeps { OnOk result (items.new.items
         ≡ items.old.items ++ addition items.old.items items.new.items) }
@@ -285,6 +311,7 @@ fn expand_list(
     requires start { IsAtStart definitions.now (names_of processor.old.below) processor.old.here
         (listed_in processor.old.below lexer.old) }
     requires before { AllReadOrdinary items.old.items }
+    requires known { AreKnown (names_in definitions.now) processor.old }
     ensures below { processor.new.below ≡ processor.old.below }
     ensures keeps { OnOk result (items.new.items
         ≡ items.old.items ++ addition items.old.items items.new.items) }

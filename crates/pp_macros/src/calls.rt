@@ -13,7 +13,7 @@ ghost use Rattle.pp_macros.specs.inner.CallTurns.{TurnsOrRefuses, is_out_of_memo
 ghost use Rattle.pp_macros.specs.inner.Expander.{StepsFetching, StepsTaking, TakesNext, TakesOnto, TakesRun, TakesUpTo};
 ghost use Rattle.pp_macros.specs.inner.Expander.{GathersNext, Satisfies, place_after, gathered_to, taken_as, is_pause};
 ghost use Rattle.pp_macros.specs.inner.Defined.{AreNumbered, names_in, numbered_by};
-ghost use Rattle.pp_macros.specs.inner.Nesting.{MayWait, seen_by};
+ghost use Rattle.pp_macros.specs.inner.Nesting.{AreKnown, MayWait, seen_by};
 ghost use Rattle.pp_macros.specs.inner.Reader.{definitions_of};
 ghost use Rattle.pp_macros.specs.inner.Turns.{macro_of, macro_of_value, Opens};
 ghost use Rattle.pp_lexer.specs.declared.token.TokenValue.TheVariants as value;
@@ -224,6 +224,7 @@ impl MacroProcessor {
     // One step of taking. An identifier is painted if its name is open, here or around.
     fn take(&mut self, lexer: &mut dyn MeLexer) -> Step<Read>
         requires waits { MayWait self.old.below (reader lexer.old) }
+        requires known { AreKnown (names_in (definitions_of (reader lexer.old))) self.old }
         ensures steps { StepsTaking self.old.here (seen_by self.old.below (reader lexer.old)) result
             self.new.here (seen_by self.new.below (reader lexer.new)) }
         ensures below { self.new.below ≡ self.old.below }
@@ -231,7 +232,7 @@ impl MacroProcessor {
         ensures holds { IfOk result (λ read. HoldsOrdinary read.token.value) }
     {
         let mut read = self.fetch(lexer)?;
-        self.paint(&mut read);
+        self.paint(&*lexer, &mut read);
         Ok(read)
     }
 
@@ -270,6 +271,7 @@ impl MacroProcessor {
     /// Takes the next step that isn't a pause.
     pub fn take_next(&mut self, lexer: &mut dyn MeLexer) -> Step<Read>
         requires waits { MayWait self.old.below (reader lexer.old) }
+        requires known { AreKnown (names_in (definitions_of (reader lexer.old))) self.old }
         ensures takes { TakesNext self.old.here (seen_by self.old.below (reader lexer.old)) result
             self.new.here (seen_by self.new.below (reader lexer.new)) }
         ensures below { self.new.below ≡ self.old.below }
@@ -288,6 +290,7 @@ impl MacroProcessor {
     // Takes the next step that isn't a pause, and puts its token after the tokens.
     fn push_next(&mut self, lexer: &mut dyn MeLexer, tokens: &mut Vec<Read>) -> Step<()>
         requires waits { MayWait self.old.below (reader lexer.old) }
+        requires known { AreKnown (names_in (definitions_of (reader lexer.old))) self.old }
         ensures takes { TakesOnto self.old.here (seen_by self.old.below (reader lexer.old)) tokens.old.items result
             self.new.here (seen_by self.new.below (reader lexer.new)) tokens.new.items }
         ensures below { self.new.below ≡ self.old.below }
@@ -305,6 +308,7 @@ impl MacroProcessor {
     // them at once. Returns whether it came to one.
     fn push_flat(&self, lexer: &mut dyn MeLexer, tokens: &mut Vec<Read>) -> Result<bool, AllocError>
         requires waits { MayWait self.now.below (reader lexer.old) }
+        requires known { AreKnown (names_in (definitions_of (reader lexer.old))) self.now }
         requires idle { is_idle self.now.here ≡ true }
         ensures takes { IfOk result (λ found. TakesUpTo self.now.here (seen_by self.now.below (reader lexer.old))
             tokens.old.items found (seen_by self.now.below (reader lexer.new)) tokens.new.items) }
@@ -312,7 +316,7 @@ impl MacroProcessor {
     {
         let start = tokens.len();
         let found = lexer.push_flat(tokens)?;
-        self.paint_from(tokens, start);
+        self.paint_from(&*lexer, tokens, start);
         Ok(found)
     }
 
@@ -320,6 +324,7 @@ impl MacroProcessor {
     // nothing is held, the reader puts them there at once.
     fn push_run(&mut self, lexer: &mut dyn MeLexer, tokens: &mut Vec<Read>) -> Step<()>
         requires waits { MayWait self.old.below (reader lexer.old) }
+        requires known { AreKnown (names_in (definitions_of (reader lexer.old))) self.old }
         ensures takes { TakesRun self.old.here (seen_by self.old.below (reader lexer.old)) tokens.old.items result
             self.new.here (seen_by self.new.below (reader lexer.new)) tokens.new.items }
         ensures below { self.new.below ≡ self.old.below }
@@ -343,6 +348,7 @@ impl MacroProcessor {
         paren: Location,
     ) -> Result<Gathered, Halt>
         requires waits { MayWait self.old.below (reader lexer.old) }
+        requires known { AreKnown (names_in (definitions_of (reader lexer.old))) self.old }
         ensures gathers { Satisfies result (λ g. GathersNext 0 paren
             self.old.here (seen_by self.old.below (reader lexer.old)) g
             self.new.here (seen_by self.new.below (reader lexer.new))) }
@@ -362,6 +368,7 @@ impl MacroProcessor {
     ) -> Result<Location, Halt>
         requires empty { tokens.old.items ≡ [] }
         requires waits { MayWait self.old.below (reader lexer.old) }
+        requires known { AreKnown (names_in (definitions_of (reader lexer.old))) self.old }
         ensures gathers { Satisfies result (λ end. GathersNext 0 paren
             self.old.here (seen_by self.old.below (reader lexer.old)) (gathered_to tokens.new.items end)
             self.new.here (seen_by self.new.below (reader lexer.new))) }
@@ -396,6 +403,7 @@ impl MacroProcessor {
     // Looks for a call after the name of a function-like macro. Anything else is held.
     fn seek(&mut self, lexer: &mut dyn MeLexer, room: usize) -> Result<AfterName, Halt>
         requires waits { MayWait self.old.below (reader lexer.old) }
+        requires known { AreKnown (names_in (definitions_of (reader lexer.old))) self.old }
         ensures finds { FindsBy self.old.here (seen_by self.old.below (reader lexer.old)) result
             self.new.here (seen_by self.new.below (reader lexer.new)) }
         ensures below { self.new.below ≡ self.old.below }
@@ -444,6 +452,7 @@ impl MacroProcessor {
     ) -> Step<Taken>
         requires function { opened.value.definition.function_like ≡ true }
         requires waits { MayWait self.old.below (reader lexer.old) }
+        requires known { AreKnown (names_in (definitions_of (reader lexer.old))) self.old }
         ensures enters { Enters (unpainted (record {
           value = value.Ident name;
           location = location;
@@ -478,6 +487,7 @@ impl MacroProcessor {
     fn enter(&mut self, lexer: &mut dyn MeLexer, read: Read, opened: Rc<Macro>) -> Step<Taken>
         requires opens { Opens (seen_by self.old.below (reader lexer.old)) read opened.value }
         requires waits { MayWait self.old.below (reader lexer.old) }
+        requires known { AreKnown (names_in (definitions_of (reader lexer.old))) self.old }
         requires holds { HoldsOrdinary read.token.value }
         ensures follows { FollowsToken (macro_of (seen_by self.old.below (reader lexer.old)) read) read
             self.old.here (seen_by self.old.below (reader lexer.old)) result
@@ -505,6 +515,7 @@ impl MacroProcessor {
     fn follow(&mut self, lexer: &mut dyn MeLexer, read: Read) -> Step<Taken>
         requires holds { HoldsOrdinary read.token.value }
         requires waits { MayWait self.old.below (reader lexer.old) }
+        requires known { AreKnown (names_in (definitions_of (reader lexer.old))) self.old }
         ensures follows { FollowsToken (macro_of (seen_by self.old.below (reader lexer.old)) read) read
             self.old.here (seen_by self.old.below (reader lexer.old)) result
             self.new.here (seen_by self.new.below (reader lexer.new))
@@ -521,7 +532,8 @@ impl MacroProcessor {
 
     /// One step: takes a token, which is given, opens its macro, or begins a call that is gathered.
     pub fn step(&mut self, lexer: &mut dyn MeLexer) -> Step<Taken>
-        requires { MayWait self.old.below (reader lexer.old) }
+        requires waits { MayWait self.old.below (reader lexer.old) }
+        requires known { AreKnown (names_in (definitions_of (reader lexer.old))) self.old }
         ensures turns { TurnsOrRefuses self.old.here (seen_by self.old.below (reader lexer.old)) result
             self.new.here (seen_by self.new.below (reader lexer.new)) }
         ensures below { self.new.below ≡ self.old.below }

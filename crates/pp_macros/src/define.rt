@@ -7,12 +7,10 @@ ghost use Rattle.pp_lexer.specs.TokenValue.{is_ordinary};
 ghost use Rattle.pp_lexer.specs.Spelling.{values_of};
 ghost use Rattle.pp_model.specs.Names.{Name};
 ghost use Rattle.pp_model.specs.Definitions.{IsSameDefinition, object_like};
-ghost use Rattle.pp_macros.specs.inner.Marks.{mark_of};
 ghost use Rattle.pp_macros.specs.inner.Defined.{AreNumbered, names_in};
 ghost use Rattle.pp_macros.specs.inner.Bodies.{AreEntries, AreSeen, IsEntry, IsEntryAt, body_of, is_same_entry};
 ghost use Rattle.pp_macros.specs.inner.Bodies.{token_of, unnumbered, noted_at, noted_in};
 
-use crate::marks::mark_of;
 use crate::names::{Definitions, NameId};
 use crate::parameter_names::ParameterNames;
 use pp_lexer::token::{Location, Text, Token, TokenValue};
@@ -66,8 +64,6 @@ impl Model for Define {
 pub struct Macro {
     name: Rc<Text>,
     number: NameId,
-    // the mark of the name
-    mark: u64,
     function_like: bool,
     parameters: Vec<Text>,
     body: Vec<BodyEntry>,
@@ -75,7 +71,6 @@ pub struct Macro {
 
 impl Model for Macro {
     ghost use Rattle.std.specs.Prelude.{◌≡◌};
-    ghost use Rattle.pp_macros.specs.inner.Marks.{mark_of};
     ghost use Rattle.pp_macros.specs.inner.Bodies.{AreEntries, body_of, noted_in};
     ghost use Rattle.pp_macros.specs.inner.Defined as spec;
 
@@ -92,7 +87,7 @@ impl Model for Macro {
       noted = noted_in m.body.items;
     } };
 
-    ghost invariant = { λ m. (m.mark ≡ mark_of m.name.value) × AreEntries m.parameters.items m.body.items };
+    ghost invariant = { λ m. AreEntries m.parameters.items m.body.items };
 }
 
 // Whether both are the same token, numbers and places aside, or the same parameter.
@@ -204,7 +199,6 @@ impl Macro {
         } }
         ensures noted { AreNumbered (names_in definitions.now) result.noted }
     {
-        let mark = mark_of(name.as_str());
         let Define {
             function_like,
             parameters,
@@ -214,7 +208,6 @@ impl Macro {
         Macro {
             name,
             number,
-            mark,
             function_like,
             parameters,
             body,
@@ -229,12 +222,12 @@ impl Macro {
         &self.name
     }
 
-    /// The mark of its name.
+    /// Its number.
     #[inline(always)]
-    pub fn mark(&self) -> u64
-        ensures { result ≡ mark_of self.now.name }
+    pub fn number(&self) -> NameId
+        ensures { result ≡ self.now.number }
     {
-        self.mark
+        self.number
     }
 
     /// Whether it has parameters in parentheses.

@@ -17,7 +17,7 @@ use crate::argument_lists::{ArgumentLists, OpenArguments, Part};
 use crate::define::{BodyEntry, Macro};
 use crate::names::NameId;
 use crate::step::{Step, StepExit};
-use pp_lexer::token::{Text, Token, TokenValue, out_of_memory};
+use pp_lexer::token::{Token, TokenValue, out_of_memory};
 use pp_model::read::Read;
 use std::alloc::{AllocError, Global};
 use std::marker::Model;
@@ -264,19 +264,12 @@ impl Frame {
         self.arguments.into_lists()
     }
 
-    /// The macro.
+    /// The macro's number.
     #[inline(always)]
-    pub fn opened(&self) -> &Rc<Macro>
-        ensures { result.now.value.name ≡ self.now.name }
+    pub fn number(&self) -> usize
+        ensures { result ≡ self.now.number }
     {
-        &self.opened
-    }
-
-    /// The macro's name.
-    pub fn name(&self) -> &Rc<Text>
-        ensures { result.now.value ≡ self.now.name }
-    {
-        self.opened.name()
+        self.opened.number().number()
     }
 
     /// The line that `__LINE__` shows in it.
@@ -326,6 +319,7 @@ impl Frame {
         ensures takes { MatchOption result (self.new ≡ self.old) (λ read. (given_by (advance self.old) ≡ Some read)
             × (self.new ≡ frame_after self.old (advance self.old))) }
         ensures name { self.new.name ≡ self.old.name }
+        ensures number { self.new.number ≡ self.old.number }
         ensures holds { IfSome result (λ read. HoldsOrdinary read.token.value) }
     {
         self.arguments.take()
@@ -337,6 +331,7 @@ impl Frame {
         requires { IsSome (given_by (advance self.old)) }
         ensures step { self.new ≡ frame_after self.old (advance self.old) }
         ensures name { self.new.name ≡ self.old.name }
+        ensures number { self.new.number ≡ self.old.number }
     {
         if self.arguments.is_reading() {
             self.arguments.pass();
@@ -353,6 +348,7 @@ impl Frame {
         ensures some { result ≡ is_some (advance self.old) }
         ensures step { self.new ≡ frame_after self.old (advance self.old) }
         ensures name { self.new.name ≡ self.old.name }
+        ensures number { self.new.number ≡ self.old.number }
     {
         if self.arguments.is_reading() {
             self.arguments.end();

@@ -5,6 +5,7 @@ ghost use Rattle.std.specs.Str.{chars};
 ghost use Rattle.pp_model.specs.Names.{is_same_name, defined_name};
 ghost use Rattle.pp_macros.specs.Held.{HoldsOrdinary};
 ghost use Rattle.pp_macros.specs.inner.Apart.{IsApart, IsUnnamed, opens_none};
+ghost use Rattle.pp_macros.specs.inner.Defined.{names_in, number_in};
 ghost use Rattle.pp_macros.specs.inner.Reading.{AllReadOrdinary};
 ghost use Rattle.pp_macros.specs.inner.Reader.{ReadsOnto, ReadsRun, of_list};
 
@@ -141,6 +142,14 @@ impl<'a> ListLexer<'a> {
         ensures { IsTrue result → self.now.tokens ≡ [] }
     {
         self.tokens.len() <= self.position
+    }
+
+    /// The number of the name that a value is, if it is one that was ever defined.
+    #[inline(always)]
+    pub fn number_of(&self, value: &TokenValue) -> Option<NameId>
+        ensures { result ≡ number_in (names_in self.now.definitions) value.now }
+    {
+        self.definitions.number_of(value)
     }
 
     /// Takes the next token, if it isn't `__LINE__`. Otherwise nothing changes.

@@ -1,13 +1,12 @@
 //! The macros that are open, over a reader.
 
-ghost use Rattle.std.specs.Prelude.{List, ◌≡◌, ◌≤◌, ◌<◌, ◌-◌, ◌∷◌, ◌++◌, [], drop, length, take, IfOk, IfSome, OnErr};
+ghost use Rattle.std.specs.Prelude.{List, ◌≡◌, ◌==◌, ◌≤◌, ◌<◌, ◌∷◌, ◌++◌, [], ℕ, drop, length, IfOk, IfSome, OnErr};
 ghost use Rattle.std.specs.Prelude.{OnOk, MatchOption, MatchResult, Ok, Err, Some, None, IsSome, option_map, is_some};
-ghost use Rattle.std.specs.Prelude.{pos, false, true};
+ghost use Rattle.std.specs.Prelude.{pos, false, true, slice_index_or};
 ghost use Rattle.std.specs.List.{list_any};
-ghost use Rattle.std.specs.Str.{chars};
 ghost use Rattle.pp_lexer.specs.declared.token.PreprocessorError.TheVariants.{LineOverflow};
 ghost use Rattle.pp_lexer.specs.declared.token.TokenValue.TheVariants as value;
-ghost use Rattle.pp_model.specs.Names.{Name, is_in, is_same_name};
+ghost use Rattle.pp_model.specs.Names.{Name};
 ghost use Rattle.pp_model.specs.Painting.{is_one_of, painted_among, unpainted};
 ghost use Rattle.pp_model.specs.declared.read.Taken.TheVariants as given;
 ghost use Rattle.pp_macros.specs.inner.Frames as spec;
@@ -15,11 +14,11 @@ ghost use Rattle.pp_macros.specs.inner.Frames.{new_frame, outermost_frame_line};
 ghost use Rattle.pp_macros.specs.Held.{HoldsOrdinary};
 ghost use Rattle.pp_macros.specs.inner.Ahead.{given_next};
 ghost use Rattle.pp_macros.specs.inner.Bodies.{noted_by};
-ghost use Rattle.pp_macros.specs.inner.Defined.{AreNumbered};
+ghost use Rattle.pp_macros.specs.inner.Defined.{AreNumbered, names_in, number_in};
 ghost use Rattle.pp_macros.specs.inner.Left.{HaveNumbers};
 ghost use Rattle.pp_macros.specs.inner.Idle.{is_idle};
-ghost use Rattle.pp_macros.specs.inner.Nesting.{nothing_open, open_names, stepped, with_frames};
-ghost use Rattle.pp_macros.specs.inner.OpenNames.{after_closing, after_opening};
+ghost use Rattle.pp_macros.specs.inner.Nesting.{AreKnown, nothing_open, open_names, stepped, with_frames};
+ghost use Rattle.pp_macros.specs.inner.Reader.{definitions_of};
 ghost use Rattle.pp_macros.specs.inner.Reading.{painted_from};
 ghost use Rattle.pp_macros.specs.inner.Turns.{Moves, taken_in, gives_line_name};
 ghost use Rattle.pp_macros.specs.declared.step.StepExit.TheVariants.{Error, Continue};
@@ -28,10 +27,8 @@ use crate::argument_lists::{ArgumentLists, Part};
 use crate::calls::MacroCall;
 use crate::define::Macro;
 use crate::frames::{Ahead, Frame, give};
-use crate::marks::Marks;
-use crate::names::is_text;
-use crate::open_names::OpenNames;
-use crate::reader::MeLexer;
+use crate::names::NameId;
+use crate::reader::{MeLexer, number_of};
 use crate::spares::Spares;
 use crate::step::{Step, StepExit};
 use pp_lexer::token::{Integer, Location, Text, Token, TokenValue};
@@ -42,8 +39,36 @@ use std::marker::Model;
 use std::mem;
 use std::rc::Rc;
 
-// The names of this many macros, the outermost ones, are compared one by one.
-const FEW: usize = 16;
+/// The counts of a processor in which no macro is open, with their room: those of one line serve the next.
+#[derive(Drop)]
+pub struct SpareCounts {
+    counts: Vec<usize>,
+}
+
+impl Model for SpareCounts {
+    ghost use Rattle.std.specs.Prelude.{[]};
+    ghost use Rattle.pp_macros.specs.inner.Frames.{AreCounted};
+
+    ghost Value = { Unit {0} };
+
+    ghost view = { λ s. tt };
+
+    ghost invariant = { λ s. AreCounted s.counts.items [] };
+}
+
+impl SpareCounts {
+    /// No counts. It allocates nothing.
+    pub fn none(alloc: Global) -> SpareCounts {
+        SpareCounts {
+            counts: Vec::new(alloc),
+        }
+    }
+
+    /// Takes them out.
+    pub fn take(&mut self, alloc: Global) -> SpareCounts {
+        mem::replace(self, SpareCounts::none(alloc))
+    }
+}
 
 /// Macros that are open, the innermost last, over a reader, and a step that was taken in the search for a `(` and is
 /// held.
@@ -56,20 +81,16 @@ pub struct MacroProcessor {
     frames: Vec<Frame>,
     base: usize,
     held: Option<Step<Read>>,
-    // the names of the macros that are open inside the first `FEW`
-    open_names: OpenNames,
-    // those of the open macros, and of others that have closed since the outermost one opened
-    marks: Marks,
+    // by number, how many of the frames have it; past the end none has
+    counts: Vec<usize>,
     spares: Spares,
 }
 
 impl Model for MacroProcessor {
-    ghost use Rattle.std.specs.Prelude.{◌≡◌, ◌≤◌, IfOk, IfSome, drop, length, reverse, take};
+    ghost use Rattle.std.specs.Prelude.{◌≤◌, IfOk, IfSome, drop, length, reverse, take};
     ghost use Rattle.pp_macros.specs.Held.{HoldsOrdinary};
     ghost use Rattle.pp_macros.specs.inner.Nesting as spec;
-    ghost use Rattle.pp_macros.specs.inner.Frames.{names_of};
-    ghost use Rattle.pp_macros.specs.inner.Marks.{AreMarked};
-    ghost use Rattle.pp_macros.specs.inner.OpenNames.{deeper_names, outermost_positions};
+    ghost use Rattle.pp_macros.specs.inner.Frames.{AreCounted};
 
     ghost Value = { spec.MacroProcessor };
 
@@ -78,59 +99,38 @@ impl Model for MacroProcessor {
       below = reverse (take p.base p.frames.items);
     } };
 
-    ghost invariant = { λ p. (p.open_names ≡ outermost_positions (deeper_names (names_of (reverse p.frames.items))))
-        × AreMarked p.marks (names_of (reverse p.frames.items))
+    ghost invariant = { λ p. AreCounted p.counts.items p.frames.items
         × IfSome p.held (λ step. IfOk step (λ read. HoldsOrdinary read.token.value))
         × (p.base ≤ length p.frames.items) };
 }
 
-// Whether the frame is of the macro with this name.
+// Makes room for the count of this number. Counts past the end are 0.
 #[inline(always)]
-fn has_name(frame: &Frame, name: &str) -> bool
-    ensures { result ≡ is_same_name (chars name.now) frame.now.name }
+fn make_room(counts: &mut Vec<usize>, number: usize) -> Result<(), AllocError>
+    ensures same { (k : ℕ) → slice_index_or counts.new.items k 0 ≡ slice_index_or counts.old.items k 0 }
+    ensures room { OnOk result (number < length counts.new.items) }
 {
-    is_text(frame.name(), name)
-}
-
-// Whether one of the first few frames is of the macro with this name.
-#[inline(always)]
-fn is_name_of(frames: &[Frame], name: &str) -> bool
-    ensures { result ≡ list_any (λ frame. is_same_name (chars name.now) frame.name) (take 16 frames.now) }
-{
-    frames.iter().take(FEW).any(|frame| has_name(frame, name))
-}
-
-// Adds the name of a frame of this macro that opens inside `frames` others, unless it is one of the first few.
-#[inline(always)]
-fn note_name(names: &mut OpenNames, opened: &Rc<Macro>, frames: usize) -> Result<(), AllocError>
-    ensures few { frames < 16 → OnOk result (names.new ≡ names.old) }
-    ensures many { 16 ≤ frames
-        → OnOk result (names.new ≡ after_opening opened.now.value.name (frames - 16) names.old) }
-    ensures err { OnErr result (names.new ≡ names.old) }
-{
-    if frames < FEW {
+    if number < counts.len() {
         return Ok(());
     }
-    names.open(opened, frames - FEW)
+    grow(counts, number)
 }
 
-// Removes the name of a frame that closes inside `frames` others, unless it is one of the first
-// few.
-fn free_name(names: &mut OpenNames, frames: usize)
-    ensures few { frames < 16 → names.new ≡ names.old }
-    ensures many { 16 ≤ frames → names.new ≡ after_closing (frames - 16) names.old }
+// Does the same if there is no room yet. It is a function of its own, since most numbers have room.
+#[inline(never)]
+fn grow(counts: &mut Vec<usize>, number: usize) -> Result<(), AllocError>
+    ensures same { (k : ℕ) → slice_index_or counts.new.items k 0 ≡ slice_index_or counts.old.items k 0 }
+    ensures room { OnOk result (number < length counts.new.items) }
 {
-    if frames >= FEW {
-        names.close(frames - FEW);
+    'places: while counts.len() <= number {
+        counts.push(0)?;
     }
+    Ok(())
 }
 
-// Takes back the lists in which the arguments of a frame are, if it has some.
+// Takes back the lists in which the arguments of a frame that closes are, if it has some.
 #[inline(always)]
-fn keep_lists(spares: &mut Spares, closed: Option<Frame>) {
-    let Some(frame) = closed else {
-        return;
-    };
+fn keep_lists(spares: &mut Spares, frame: Frame) {
     let (tokens, parts) = frame.into_lists();
     if parts.is_empty() {
         return;
@@ -175,14 +175,29 @@ impl MacroProcessor {
     pub fn new(alloc: Global) -> MacroProcessor
         ensures { result ≡ record { here = nothing_open; below = [] } }
     {
+        MacroProcessor::with_counts(alloc, SpareCounts::none(alloc))
+    }
+
+    /// The same with counts that were used before.
+    pub fn with_counts(alloc: Global, spare: SpareCounts) -> MacroProcessor
+        ensures { result ≡ record { here = nothing_open; below = [] } }
+    {
         MacroProcessor {
             alloc,
             frames: Vec::new(alloc),
             base: 0,
             held: None,
-            open_names: OpenNames::new(alloc),
-            marks: Marks::none(),
+            counts: spare.counts,
             spares: Spares::none(alloc),
+        }
+    }
+
+    /// Closes all macros, and gives back the counts.
+    pub fn take_counts(&mut self) -> SpareCounts {
+        self.base = 0;
+        self.close_all();
+        SpareCounts {
+            counts: mem::replace(&mut self.counts, Vec::new(self.alloc)),
         }
     }
 
@@ -298,20 +313,36 @@ impl MacroProcessor {
         }
     }
 
-    /// Whether the macro of this name is open, here or around.
+    /// Whether the macro with this number is open, here or around.
     #[inline(always)]
-    pub fn is_open(&self, name: &str) -> bool
-        ensures { result ≡ is_in (chars name.now) (open_names self.now) }
+    pub fn is_open(&self, id: NameId) -> bool
+        ensures { result ≡ list_any (λ frame. frame.number == id) (self.now.here.frames ++ self.now.below) }
     {
-        self.marks.has(name) && self.is_among(name)
+        match self.counts.get(id.number()) {
+            Some(count) => *count > 0,
+            None => false,
+        }
     }
 
-    // Whether it is. It is a function of its own, since the mark of most names isn't there.
-    #[inline(never)]
-    fn is_among(&self, name: &str) -> bool
-        ensures { result ≡ is_in (chars name.now) (open_names self.now) }
+    /// Whether the macro of a name is open, here or around, by the number that the name has. A name without one was
+    /// never defined.
+    #[inline(always)]
+    pub fn is_open_name(&self, number: &Option<NameId>) -> bool
+        ensures { (names : List Name) (value : TokenValue) → AreKnown names self.now
+            → number.now ≡ number_in names value → result ≡ is_one_of (open_names self.now) value }
     {
-        is_name_of(&self.frames, name) || self.open_names.is_open(name)
+        match number {
+            Some(id) => self.is_open(*id),
+            None => false,
+        }
+    }
+
+    /// Whether no macro is open, here or around.
+    #[inline(always)]
+    pub fn is_alone(&self) -> bool
+        ensures { result ≡ true → open_names self.now ≡ [] }
+    {
+        self.frames.is_empty()
     }
 
     /// The line of the outermost macro that is open here: the line of its name, or of the `)` of its call.
@@ -331,12 +362,11 @@ impl MacroProcessor {
         requires { is_some (outermost_frame_line self.old.here.frames) ≡ true }
         ensures { self.new ≡ with_frames self.old (drop 1 self.old.here.frames) }
     {
-        let closed = self.frames.pop();
-        keep_lists(&mut self.spares, closed);
-        free_name(&mut self.open_names, self.frames.len());
-        if self.frames.is_empty() {
-            self.marks = Marks::none();
-        }
+        let Some(frame) = self.frames.pop() else {
+            return;
+        };
+        self.counts[frame.number()] -= 1;
+        keep_lists(&mut self.spares, frame);
     }
 
     // Closes each frame that is open here.
@@ -478,35 +508,40 @@ impl MacroProcessor {
         Ok(Read::unpainted(make_line_number(shown, location)))
     }
 
-    /// Whether the value is the name of a macro that is open, here or around.
+    /// Paints a token that is taken, if it is the name of a macro that is open, here or around. `number` is the number
+    /// that the name has.
     #[inline(always)]
-    pub fn is_open_name(&self, value: &TokenValue) -> bool
-        ensures { result ≡ is_one_of (open_names self.now) value.now }
+    pub fn paint_by(&self, number: Option<NameId>, read: &mut Read)
+        ensures { (names : List Name) → AreKnown names self.now → number ≡ number_in names read.old.token.value
+            → read.new ≡ painted_among (open_names self.now) read.old }
     {
-        match value {
-            TokenValue::Ident(name) => self.is_open(name.as_str()),
-            _ => false,
+        if !read.painted {
+            read.painted = self.is_open_name(&number);
         }
     }
 
     /// Paints a token that is taken, if it is the name of a macro that is open, here or around.
-    pub fn paint(&self, read: &mut Read)
+    #[inline(always)]
+    pub fn paint(&self, lexer: &dyn MeLexer, read: &mut Read)
+        requires known { AreKnown (names_in (definitions_of (reader lexer.now))) self.now }
         ensures { read.new ≡ painted_among (open_names self.now) read.old }
     {
-        if !read.painted {
-            read.painted = self.is_open_name(&read.token.value);
+        if self.is_alone() {
+            return;
         }
+        self.paint_by(number_of(lexer, &read.token.value), read);
     }
 
     /// Paints so each of the tokens from this position on.
-    pub fn paint_from(&self, tokens: &mut [Read], start: usize)
+    pub fn paint_from(&self, lexer: &dyn MeLexer, tokens: &mut [Read], start: usize)
+        requires known { AreKnown (names_in (definitions_of (reader lexer.now))) self.now }
         ensures { tokens.new ≡ painted_from (open_names self.now) start tokens.old }
     {
-        if self.frames.is_empty() {
+        if self.is_alone() {
             return;
         }
         for at in start..tokens.len() {
-            self.paint(&mut tokens[at]);
+            self.paint(lexer, &mut tokens[at]);
         }
     }
 
@@ -516,10 +551,11 @@ impl MacroProcessor {
         ensures ok { OnOk result (self.new ≡ with_frames self.old (frame ∷ self.old.here.frames)) }
         ensures err { OnErr result (self.new ≡ self.old) }
     {
+        let number = frame.number();
         self.frames.reserve(1)?;
-        note_name(&mut self.open_names, frame.opened(), self.frames.len())?;
-        self.marks.add(frame.opened().mark());
+        make_room(&mut self.counts, number)?;
         self.frames.push_reserved(frame);
+        self.counts[number] += 1;
         Ok(())
     }
 
@@ -540,11 +576,12 @@ impl MacroProcessor {
             (new_frame opened.value line [] ∷ self.old.here.frames)) }
         ensures err { OnErr result (self.new ≡ self.old) }
     {
+        let number = opened.number().number();
         self.frames.reserve(1)?;
-        note_name(&mut self.open_names, &opened, self.frames.len())?;
-        self.marks.add(opened.mark());
+        make_room(&mut self.counts, number)?;
         self.frames
             .push_reserved(Frame::bare(self.alloc, opened, line));
+        self.counts[number] += 1;
         Ok(())
     }
 }

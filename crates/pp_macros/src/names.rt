@@ -3,7 +3,8 @@
 ghost use Rattle.std.specs.Prelude.{◌≡◌, [], Some, None, option_map, position, IfSome, IfOk, OnOk, OnErr};
 ghost use Rattle.std.specs.Str.{chars};
 ghost use Rattle.pp_model.specs.Names.{Name, is_same_name};
-ghost use Rattle.pp_macros.specs.inner.Defined.{meaning_of, names_in, opened_by, numbered_by, AreNumbered, IsChanged};
+ghost use Rattle.pp_macros.specs.inner.Defined.{meaning_of, names_in, number_in, opened_by, numbered_by, AreNumbered};
+ghost use Rattle.pp_macros.specs.inner.Defined.{IsChanged};
 ghost use Rattle.pp_macros.specs.inner.Plain.{gives_itself};
 
 mod table;
@@ -99,6 +100,17 @@ impl Definitions {
         }
     }
 
+    /// The number of the name that a value is, if it is one that was ever defined.
+    #[inline(always)]
+    pub fn number_of(&self, value: &TokenValue) -> Option<NameId>
+        ensures { result ≡ number_in (names_in self.now) value.now }
+    {
+        match value {
+            TokenValue::Ident(name) => self.find(name.as_str()),
+            _ => None,
+        }
+    }
+
     /// The macro of the name with this number, if it is defined.
     #[inline(always)]
     pub fn get_define(&self, id: NameId) -> Option<&Rc<Macro>>
@@ -149,7 +161,7 @@ impl Definitions {
         self.macros.reserve(1)?;
         let id = NameId(self.macros.len());
         let new = self.shared(text.clone()?, id, define)?;
-        self.names.push(text, new.mark())?;
+        self.names.push(text)?;
         self.macros.push_reserved(Some(new));
         Ok(())
     }

@@ -7,13 +7,13 @@ ghost use Rattle.pp_model.specs.Names.{Name, is_same_name};
 ghost use Rattle.pp_model.specs.declared.read.Read.{Read};
 ghost use Rattle.pp_macros.specs.Held.{HoldsOrdinary};
 ghost use Rattle.pp_macros.specs.Item.{as_step};
-ghost use Rattle.pp_macros.specs.inner.Defined.{AreNumbered, names_in, numbered_by, opened_by};
+ghost use Rattle.pp_macros.specs.inner.Defined.{AreNumbered, names_in, number_in, numbered_by, opened_by};
 ghost use Rattle.pp_macros.specs.inner.Reader.{Reader, Reads, ReadsRun, nests, visible, shown_line, definitions_of};
 
 use crate::define::Macro;
 use crate::names::NameId;
 use crate::step::Step;
-use pp_lexer::token::Location;
+use pp_lexer::token::{Location, TokenValue};
 use pp_model::parentheses::{is_left_paren, is_right_paren};
 use pp_model::read::Read;
 use std::alloc::AllocError;
@@ -51,6 +51,16 @@ pub trait MeLexer {
     fn apply_line_offset(&self, line: u32, location: Location) -> Step<u32>
         ensures { result ≡ as_step (ok_or (shown_line (reader self.now) line)
             (LineOverflow, location)) };
+}
+
+/// The number of the name that a value is, if it is one that was ever defined.
+pub fn number_of(lexer: &dyn MeLexer, value: &TokenValue) -> Option<NameId>
+    ensures { result ≡ number_in (names_in (definitions_of (reader lexer.now))) value.now }
+{
+    match value {
+        TokenValue::Ident(name) => lexer.find(name.as_str()),
+        _ => None,
+    }
 }
 
 /// Whether the last of the tokens is a parenthesis.

@@ -12,7 +12,7 @@ use Rattle.pp_model.specs.declared.read.Read.{Read}
 use Rattle.pp_macros.specs.Item.{Step, wants_memory}
 use Rattle.pp_macros.specs.inner.Defined.{GrowAtEnd, meaning_of, names_in}
 use Rattle.pp_macros.specs.inner.OpenBlocks.{last_block, BlockChange, block_change_at}
-use Rattle.pp_macros.specs.inner.Reader.{Reader, of_source, of_list, Reads, definitions_of}
+use Rattle.pp_macros.specs.inner.Reader.{Reader, of_source, of_list, Reads, ReadsFlat, none_read, read_more, ReadsOnto, ReadsRun, definitions_of}
 use Rattle.pp_macros.specs.inner.Reading.{unpainted_step}
 use Rattle.pp_macros.specs.inner.Source.{Source, IsAfterFault, DefinesOver, Ends, Decides, holds, faulty, Renumbers, numbers, unnumbered, HasEffect, MakesMove, IsRefusedStep, StepsSource}
 use Rattle.pp_macros.specs.inner.SourceMoves.{Note, move_of, note_of}
@@ -94,3 +94,16 @@ reads_grow step (of_list old) (of_list new) (inl h) reported = rw h.1 (grow_not 
 reads_grow step (of_list old) (of_list new) (inr h) reported = absurd (let bad : true ≡ false = rw h at reported in cc)
 reads_grow step (of_source old) (of_list new) h reported = absurd h
 reads_grow step (of_list old) (of_source new) h reported = absurd h
+
+flat_grow : (tokens : List Read) (r s : Reader) (more : List Read) → ReadsFlat r tokens s more → GrowAtEnd (names_in (definitions_of r)) (names_in (definitions_of s))
+flat_grow tokens r s more (none_read s1 more1 same is) = rw same (grow_not (names_in (definitions_of r)))
+flat_grow tokens r s more (read_more between s1 some more1 flat onto apart) =
+    grow_then _ _ _ (flat_grow tokens r between some flat) (reads_grow (Ok onto.read) between s onto.reads refl)
+
+pub run_grow : (tokens : List Read) (r s : Reader) (found : Bool) (more : List Read) → ReadsRun r tokens found s more
+    → GrowAtEnd (names_in (definitions_of r)) (names_in (definitions_of s))
+run_grow tokens r s found more run = grow_then _ _ _ (flat_grow tokens r run.between run.some run.flat) (last found run.last)
+  where
+    last : (found : Bool) → ReadsOnto run.between run.some found s more → GrowAtEnd (names_in (definitions_of run.between)) (names_in (definitions_of s))
+    last true onto = reads_grow (Ok onto.read) run.between s onto.reads refl
+    last false same = rw same.0 (grow_not (names_in (definitions_of run.between)))

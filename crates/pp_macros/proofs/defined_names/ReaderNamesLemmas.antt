@@ -2,10 +2,14 @@
 use Rattle.std.proofs.Common.{◌≡◌, ◌∙◌, ℕ, Bool, true, false, List, [], get_or, Option, Some, None, refl, sym, ap}
 use Rattle.std.specs.Prelude.{◌&&◌, if◌then◌else◌, position}
 use Rattle.std.proofs.lemmas.List.Quantifiers.{position-Some}
+use Rattle.pp_lexer.specs.declared.token.TokenValue.{TokenValue}
+use Rattle.pp_lexer.specs.declared.token.TokenValue.TheVariants.{Ident}
+use Rattle.pp_model.specs.Definitions.{Definition}
 use Rattle.pp_model.specs.Names.{Name, is_same_name, defined_name}
 use Rattle.pp_macros.specs.inner.Apart.{IsReservedNumber}
-use Rattle.pp_macros.specs.inner.Defined.{names_in, opened_by}
+use Rattle.pp_macros.specs.inner.Defined.{names_in, number_in, opened_by}
 use Rattle.pp_macros.specs.inner.Reader.{Reader, of_source, of_list, is_reserved, visible, definitions_of}
+use Rattle.pp_macros.specs.inner.Turns.{macro_of_value}
 use Rattle.pp_macros.proofs.defined_names.NameKeysLemmas.{names_same}
 use Rattle.pp_macros.proofs.defined_names.DefinitionsLemmas.{meaning_absent}
 use Rattle.pp_macros.proofs.defined_names.DistinctNamesLemmas.{same_name}
@@ -42,3 +46,14 @@ module _ (name : Name) (names : List Name) (k : ℕ) (reserved : Option ℕ) (at
       by true e = absurd (other (is ∙ ap (λ (n : Name). position (is_same_name n) names) (sym (names_same name defined_name e)) ∙ at))
       by false e = refl
   other_number false is other = refl
+
+-- the macro that a value opens, by the number that its name has
+pub value_none : (r : Reader) (value : TokenValue) → None ≡ number_in (names_in (definitions_of r)) value → None ≡ macro_of_value r value
+value_none r (Ident name) is = sym (opened_none r name (sym is))
+value_none r _ is = refl
+
+pub value_opened : (r : Reader) (id : ℕ) (value : TokenValue) (found : Option (Name × Definition))
+    → ((name : Name) → position (is_same_name name) (names_in (definitions_of r)) ≡ Some id → found ≡ opened_by name (visible r name))
+    → Some id ≡ number_in (names_in (definitions_of r)) value → found ≡ macro_of_value r value
+value_opened r id (Ident name) found opened is = opened name (sym is)
+value_opened r id _ found opened is = cc

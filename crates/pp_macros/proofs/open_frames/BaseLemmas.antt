@@ -11,12 +11,11 @@ use Rattle.pp_macros.specs.Item.{Step}
 use Rattle.pp_macros.specs.inner.Ahead.{Ahead, given_by, given_next, frame_after, frames_after}
 use Rattle.pp_macros.specs.inner.Bodies.{noted_by}
 use Rattle.pp_macros.specs.inner.Defined.{AreNumbered}
-use Rattle.pp_macros.specs.inner.Frames.{Frame, advance, names_of, outermost_frame_line}
+use Rattle.pp_macros.specs.inner.Frames.{Frame, AreCounted, advance, names_of, outermost_frame_line}
 use Rattle.pp_macros.specs.inner.Left.{HaveNumbers}
-use Rattle.pp_macros.specs.inner.Marks.{AreMarked}
 use Rattle.pp_macros.specs.inner.Nesting.{MacroProcessor, open_names, stepped, with_frames}
-use Rattle.pp_macros.specs.inner.OpenNames.{Position, deeper_names, outermost_positions}
-use Rattle.pp_macros.proofs.open_frames.OpenMacroLemmas.{names_of-append, outermost_first, reverse_last, reverse_set_last, last_gives, last_passes, last_closes, last_takes, has_given, ahead_numbered, names_kept}
+use Rattle.pp_macros.proofs.open_frames.OpenMacroLemmas.{names_of-append, outermost_first, reverse_last, reverse_set_last, last_gives, last_passes, last_closes, last_takes, has_given, ahead_numbered}
+use Rattle.pp_macros.proofs.open_frames.CountLemmas.{counted_kept}
 
 -- a processor with these frames
 abbrev pub processor_of : Option (Step Read) → ℕ → List Frame → MacroProcessor
@@ -35,6 +34,10 @@ alike held here here' below below' same around =
 -- all frames, the innermost first
 all_frames : (base : ℕ) (fs : List Frame) → reverse fs ≡ reverse (drop base fs) ++ reverse (take base fs)
 all_frames base fs = ap reverse (sym (take-append-drop base fs)) ∙ reverse-append (take base fs) (drop base fs)
+
+pub shown_frames : (held : Option (Step Read)) (base : ℕ) (fs : List Frame) (m : MacroProcessor) → processor_of held base fs ≡ m
+    → reverse fs ≡ m.here.frames ++ m.below
+shown_frames held base fs m view = all_frames base fs ∙ ap (λ (k : MacroProcessor). k.here.frames ++ k.below) view
 
 -- the names of all frames
 pub all_names : (held : Option (Step Read)) (base : ℕ) (fs : List Frame) → names_of (reverse fs) ≡ open_names (processor_of held base fs)
@@ -184,17 +187,13 @@ module _ (held : Option (Step Read)) (base : ℕ) (fs : List Frame) (m : MacroPr
         ∙ last_closes (drop base fs) f v (length (drop base fs)) refl (some_here fs base n number above) (last_here fs base n number above f last) ends)
         (ap reverse (below_set fs base n number above v)))
 
-    -- the names of all frames stay
-    pub kept_here : (v : Frame) (positions : List Position) (marks : ℕ) → v.name ≡ f.name → positions ≡ outermost_positions (deeper_names (names_of (reverse fs)))
-        → AreMarked marks (names_of (reverse fs))
-        → (positions ≡ outermost_positions (deeper_names (names_of (reverse (set fs (n - 1) v)))))
-        × AreMarked marks (names_of (reverse (set fs (n - 1) v))) × (base ≤ length (set fs (n - 1) v))
-    kept_here v positions marks named are marked =
-        let same = sym (names_kept fs f v n number (let there = above in omega (arith, there)) last named) in (
-          subst (λ (names : List Name). positions ≡ outermost_positions (deeper_names names)) same are,
-          subst (λ (names : List Name). AreMarked marks names) same marked,
-          within_set fs base n number above v,
-        )
+    -- the counts of all frames stay
+    pub kept_here : (v : Frame) (counts : List ℕ) → v.number ≡ f.number → AreCounted counts fs
+        → AreCounted counts (set fs (n - 1) v) × (base ≤ length (set fs (n - 1) v))
+    kept_here v counts same are = (
+      counted_kept counts fs f v (n - 1) (let there = above in omega (arith, number, there)) last same are,
+      within_set fs base n number above v,
+    )
 
 -- one more frame opens
 pub pushed_here : (held : Option (Step Read)) (base : ℕ) (fs gs : List Frame) (m : MacroProcessor) (f : Frame) → processor_of held base fs ≡ m → base ≤ length fs

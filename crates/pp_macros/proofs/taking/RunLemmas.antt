@@ -3,7 +3,7 @@ use Rattle.std.proofs.Common.{◌≡◌, ◌∙◌, ◌<◌, ◌≤◌, ◌-◌,
 use Rattle.std.specs.Prelude.{if◌then◌else◌, ◌==◌, nat_lt, ◌+◌}
 use Rattle.std.proofs.lemmas.List.Elements.{All-push}
 use Rattle.std.proofs.lemmas.Option.{slice_get_within, get_or_from_slice_get}
-use Rattle.pp_macros.proofs.open_frames.OpenNamesLemmas.{with_last}
+use Rattle.pp_macros.proofs.open_frames.OpenMacroLemmas.{with_last}
 use Rattle.pp_lexer.specs.declared.token.Location.{Location}
 use Rattle.pp_lexer.specs.declared.token.TokenValue.{TokenValue}
 use Rattle.pp_model.specs.Painting.{painted_among}

@@ -2,6 +2,8 @@
 use Rattle.std.specs.Prelude.{◌≡◌, ℕ, ◌+◌, ◌≤◌, ◌++◌, List, [], ◌∷◌, length, map, Option, Some, None, IfSome}
 use Rattle.std.specs.Prelude.{option_map, position, ⊤}
 use Rattle.std.specs.declared.rc.Rc.{Rc}
+use Rattle.pp_lexer.specs.declared.token.TokenValue.{TokenValue}
+use Rattle.pp_lexer.specs.declared.token.TokenValue.TheVariants.{Ident}
 use Rattle.pp_model.specs.Names.{Name, is_same_name}
 use Rattle.pp_model.specs.Definitions.{Definition, Definitions, with_change}
 use Rattle.pp_model.specs.inner.Definitions.{nothing_defined}
@@ -15,6 +17,11 @@ pub record Numbered : Type 0 where
 abbrev pub AreNumbered : List Name → List Numbered → Type 0
 AreNumbered names [] = ⊤
 AreNumbered names (n ∷ noted) = (position (is_same_name n.name) names ≡ Some n.number) × AreNumbered names noted
+
+-- the number of the name that a value is, if it is one among these
+abbrev pub number_in : List Name → TokenValue → Option ℕ
+number_in names (Ident name) = position (is_same_name name) names
+number_in names _ = None
 
 -- a macro: a name with its number, the definition, and the names in its body for which a number is noted
 pub record Macro : Type 0 where

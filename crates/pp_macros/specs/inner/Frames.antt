@@ -1,6 +1,7 @@
 -- Frames: macros that are open, each with what is left of its body and its arguments (docs/RULES.md, Expansion 4 and
 -- 9).
-use Rattle.std.specs.Prelude.{ℕ, Bool, true, false, List, [], ◌∷◌, map, set, Option, Some, None, unwrap_or, slice_get}
+use Rattle.std.specs.Prelude.{◌≡◌, ◌==◌, ℕ, Bool, true, false, List, [], ◌∷◌, map, set, Option, Some, None, unwrap_or}
+use Rattle.std.specs.Prelude.{slice_get, slice_index_or, suc, if◌then◌else◌}
 use Rattle.pp_lexer.specs.declared.token.Token.{Token}
 use Rattle.pp_model.specs.declared.read.Read.{Read}
 use Rattle.pp_model.specs.Painting.{unpainted}
@@ -23,6 +24,15 @@ pub record Frame : Type 0 where
   pub body : List Token
   pub arguments : List (List Read)
   pub reading : Option (List Read)
+
+-- how many of the frames have this number
+abbrev pub count_of : ℕ → List Frame → ℕ
+count_of k [] = 0
+count_of k (f ∷ fs) = if f.number == k then suc (count_of k fs) else count_of k fs
+
+-- at each number is how many of the frames have it; past the end of the counts none has
+abbrev pub AreCounted : List ℕ → List Frame → Type 0
+AreCounted counts frames = (k : ℕ) → slice_index_or counts k 0 ≡ count_of k frames
 
 -- the frame of a macro as it opens
 abbrev pub new_frame : Macro → ℕ → List (List Read) → Frame

@@ -5,6 +5,7 @@ use Rattle.pp_model.specs.Names.{Name}
 use Rattle.pp_macros.specs.inner.Expander.{Expander}
 use Rattle.pp_macros.specs.inner.Frames.{Frame, names_of}
 use Rattle.pp_macros.specs.inner.Giving.{passed}
+use Rattle.pp_macros.specs.inner.Left.{HaveNumbers}
 use Rattle.pp_macros.specs.inner.Reader.{Reader, Listing, of_source, of_list}
 
 -- the innermost expander, and the frames of those that wait for it, the innermost frame first
@@ -19,6 +20,11 @@ nothing_open = record { held = None; frames = [] }
 -- the names of all frames
 abbrev pub open_names : MacroProcessor → List Name
 open_names m = names_of m.here.frames ++ names_of m.below
+
+-- the numbers of all frames are right among these names
+pub record AreKnown (names : List Name) (m : MacroProcessor) : Type 0 where
+  pub here : HaveNumbers names m.here.frames
+  pub around : HaveNumbers names m.below
 
 -- the processor with other frames of the innermost expander
 abbrev pub with_frames : MacroProcessor → List Frame → MacroProcessor

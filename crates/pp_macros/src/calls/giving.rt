@@ -1,7 +1,8 @@
 //! What the open macros of an expander give, without a step of its reader.
 
-ghost use Rattle.std.specs.Prelude.{◌≡◌, ◌∷◌, ◌++◌, [], OnOk, OnErr, true, false, IfOk, IfSome};
+ghost use Rattle.std.specs.Prelude.{◌≡◌, ◌∷◌, ◌++◌, [], List, OnOk, OnErr, true, false, IfOk, IfSome};
 ghost use Rattle.std.specs.Prelude.{MatchOption, Ok, Some, None, IsSome, is_some, option_map};
+ghost use Rattle.pp_model.specs.Names.{Name};
 ghost use Rattle.pp_model.specs.Painting.{painted_among};
 ghost use Rattle.pp_macros.specs.Held.{HoldsOrdinary};
 ghost use Rattle.pp_macros.specs.inner.Reading.{AllReadOrdinary};
@@ -11,8 +12,8 @@ ghost use Rattle.pp_macros.specs.inner.Idle.{is_idle};
 ghost use Rattle.pp_macros.specs.inner.CallTurns.{TakesSomething};
 ghost use Rattle.pp_macros.specs.inner.Left.{IsSound};
 ghost use Rattle.pp_macros.specs.inner.Bodies.{noted_by};
-ghost use Rattle.pp_macros.specs.inner.Defined.{AreNumbered, names_in, numbered_by};
-ghost use Rattle.pp_macros.specs.inner.Nesting.{MayWait, open_names, seen_by, stepped};
+ghost use Rattle.pp_macros.specs.inner.Defined.{AreNumbered, names_in, number_in, numbered_by};
+ghost use Rattle.pp_macros.specs.inner.Nesting.{AreKnown, MayWait, open_names, seen_by, stepped};
 ghost use Rattle.pp_macros.specs.inner.Reader.{of_list, definitions_of};
 ghost use Rattle.pp_macros.specs.inner.Turns.{macro_of};
 
@@ -20,6 +21,7 @@ use crate::define::Macro;
 use crate::frames::Ahead;
 use crate::list_lexer::ListLexer;
 use crate::macro_processor::MacroProcessor;
+use crate::names::NameId;
 use crate::reader::MeLexer;
 use pp_lexer::token::{Token, TokenValue};
 use pp_model::names::is_line_name;
@@ -27,32 +29,43 @@ use pp_model::read::Read;
 use std::alloc::AllocError;
 use std::rc::Rc;
 
-// The macro that the token of the innermost frame opens when it is taken, painted or not.
+// The number of the name that the token of the innermost frame is, if it has one. A number that is noted in a body is
+// the name's.
+#[inline(always)]
+fn number_of<L: MeLexer>(lexer: &L, ahead: &Ahead<'_>) -> Option<NameId>
+    requires { AreNumbered (names_in (definitions_of (L.reader lexer.now)))
+        (noted_by ahead.now.number ahead.now.read.token.value) }
+    ensures { result ≡ number_in (names_in (definitions_of (L.reader lexer.now))) ahead.now.read.token.value }
+{
+    match ahead.value() {
+        TokenValue::Ident(name) => match ahead.number() {
+            Some(id) => Some(id),
+            None => lexer.find(name.as_str()),
+        },
+        _ => None,
+    }
+}
+
+// The macro that a token opens when it is taken, painted or not, by the number that its name has.
 #[inline(always)]
 fn opened_by<'l, L: MeLexer>(
     lexer: &'l L,
-    ahead: &Ahead<'_>,
+    number: &Option<NameId>,
     painted: bool,
 ) -> Option<&'l Rc<Macro>>
-    requires { AreNumbered (names_in (definitions_of (L.reader lexer.now)))
-        (noted_by ahead.now.number ahead.now.read.token.value) }
-    ensures opened { option_map (λ m. (m.now.value.name, m.now.value.definition)) result
-        ≡ macro_of (L.reader lexer.now) (record { token = ahead.now.read.token; painted = painted }) }
+    ensures opened { (token : Token)
+        → number.now ≡ number_in (names_in (definitions_of (L.reader lexer.now))) token.value
+        → option_map (λ m. (m.now.value.name, m.now.value.definition)) result
+        ≡ macro_of (L.reader lexer.now) (record { token = token; painted = painted }) }
     ensures numbered { IfSome result (λ m.
         AreNumbered (names_in (definitions_of (L.reader lexer.now))) (numbered_by m.now.value)) }
 {
     if painted {
         return None;
     }
-    match ahead.value() {
-        TokenValue::Ident(name) => {
-            let id = match ahead.number() {
-                Some(id) => id,
-                None => lexer.find(name.as_str())?,
-            };
-            lexer.get_define(id)
-        }
-        _ => None,
+    match number {
+        Some(id) => lexer.get_define(*id),
+        None => None,
     }
 }
 
@@ -68,12 +81,14 @@ enum Turn {
 }
 
 impl MacroProcessor {
-    // Whether a token that a frame gives is painted when it is taken.
+    // Whether a token that a frame gives is painted when it is taken. `number` is the number that its name has.
     #[inline(always)]
-    fn paints(&self, ahead: &Ahead<'_>) -> bool
-        ensures { result ≡ (painted_among (open_names self.now) ahead.now.read).painted }
+    fn paints(&self, ahead: &Ahead<'_>, number: &Option<NameId>) -> bool
+        ensures { (names : List Name) → AreKnown names self.now
+            → number.now ≡ number_in names ahead.now.read.token.value
+            → result ≡ (painted_among (open_names self.now) ahead.now.read).painted }
     {
-        ahead.is_painted() || self.is_open_name(ahead.value())
+        ahead.is_painted() || self.is_open_name(number)
     }
 
     // One step of the open macros, if it is a pause or opens a macro without parentheses; otherwise nothing changes.
@@ -81,6 +96,7 @@ impl MacroProcessor {
     fn turn<L: MeLexer>(&mut self, lexer: &L) -> Result<Turn, AllocError>
         requires sound { IsSound self.old.here (seen_by self.old.below (L.reader lexer.now)) }
         requires waits { MayWait self.old.below (L.reader lexer.now) }
+        requires known { AreKnown (names_in (definitions_of (L.reader lexer.now))) self.old }
         ensures turns { IfOk result (λ turn. TurnsFrames (seen_by self.old.below (L.reader lexer.now))
             self.old.here turn self.new.here) }
         ensures below { self.new.below ≡ self.old.below }
@@ -96,8 +112,9 @@ impl MacroProcessor {
         if is_line_name(ahead.value()) {
             return Ok(Turn::Other);
         }
-        let painted = self.paints(&ahead);
-        let Some(found) = opened_by(lexer, &ahead, painted) else {
+        let number = number_of(lexer, &ahead);
+        let painted = self.paints(&ahead, &number);
+        let Some(found) = opened_by(lexer, &number, painted) else {
             return Ok(Turn::Token { painted });
         };
         if found.is_function_like() {
@@ -117,6 +134,7 @@ impl MacroProcessor {
     pub fn advance<L: MeLexer>(&mut self, lexer: &L) -> Result<Option<bool>, AllocError>
         requires sound { IsSound self.old.here (seen_by self.old.below (L.reader lexer.now)) }
         requires waits { MayWait self.old.below (L.reader lexer.now) }
+        requires known { AreKnown (names_in (definitions_of (L.reader lexer.now))) self.old }
         ensures advances { IfOk result (λ found. AdvancesTo (seen_by self.old.below (L.reader lexer.now))
             self.old.here found self.new.here) }
         ensures below { self.new.below ≡ self.old.below }
@@ -147,6 +165,7 @@ impl MacroProcessor {
     pub fn give_next<L: MeLexer>(&mut self, lexer: &L) -> Result<Option<Token>, AllocError>
         requires sound { IsSound self.old.here (seen_by self.old.below (L.reader lexer.now)) }
         requires waits { MayWait self.old.below (L.reader lexer.now) }
+        requires known { AreKnown (names_in (definitions_of (L.reader lexer.now))) self.old }
         ensures gives { IfOk result (λ given. GivesNext (seen_by self.old.below (L.reader lexer.now))
             self.old.here given self.new.here) }
         ensures below { self.new.below ≡ self.old.below }
@@ -164,6 +183,7 @@ impl MacroProcessor {
     fn give_ahead<L: MeLexer>(&mut self, lexer: &L) -> Result<Option<Token>, AllocError>
         requires sound { IsSound self.old.here (seen_by self.old.below (L.reader lexer.now)) }
         requires waits { MayWait self.old.below (L.reader lexer.now) }
+        requires known { AreKnown (names_in (definitions_of (L.reader lexer.now))) self.old }
         ensures gives { IfOk result (λ given. GivesNext (seen_by self.old.below (L.reader lexer.now))
             self.old.here given self.new.here) }
         ensures below { self.new.below ≡ self.old.below }
@@ -265,6 +285,7 @@ impl MacroProcessor {
     ) -> Result<(), AllocError>
         requires ordinary { AllReadOrdinary items.old.items }
         requires sound { IsSound self.old.here (seen_by self.old.below (of_list list.now)) }
+        requires known { AreKnown (names_in list.now.definitions) self.old }
         ensures gives { OnOk result (GivesEach (seen_by self.old.below (of_list list.now))
             self.old.here items.old.items self.new.here items.new.items) }
         ensures below { self.new.below ≡ self.old.below }

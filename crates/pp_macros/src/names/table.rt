@@ -153,13 +153,4 @@ impl Table {
         }
         Ok(())
     }
-
-    /// Removes the last text, which is this one.
-    pub fn forget(&mut self, name: &str)
-        ensures { (names : List Name) → is_in (chars name.now) names ≡ false
-            → FindsNames self.old.places.items self.old.others.entries (names ++ chars name.now ∷ [])
-            → FindsNames self.new.places.items self.new.others.entries names }
-    {
-        self.others.remove(name);
-    }
 }

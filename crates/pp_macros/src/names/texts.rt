@@ -1,14 +1,13 @@
 //! Texts with numbers, each found by its hash.
 
-ghost use Rattle.std.specs.Prelude.{◌≡◌, ◌-◌, ◌++◌, ◌∷◌, [], false, length, take, position, OnOk, OnErr, IfSome};
+ghost use Rattle.std.specs.Prelude.{◌≡◌, ◌++◌, ◌∷◌, [], false, position, OnOk, OnErr, IfSome};
 ghost use Rattle.std.specs.Prelude.{IsTrue, Some, ◌<◌};
 ghost use Rattle.std.specs.Str.{chars};
 ghost use Rattle.pp_model.specs.Names.{is_in, is_same_name};
-ghost use Rattle.pp_macros.specs.inner.Marks.{mark_of};
 ghost use Rattle.pp_macros.specs.inner.NamePlaces.{AreDistinct, names_of};
 ghost use Rattle.pp_macros.specs.inner.NameTable.{IsTableOf};
 
-use crate::marks::Marks;
+use crate::marks::{Marks, mark_of};
 use crate::names::table::{Table, is_text};
 use pp_lexer::token::Text;
 use std::alloc::{AllocError, Global};
@@ -30,7 +29,7 @@ const FIRST_PLACES: usize = 32;
 pub struct Texts {
     alloc: Global,
     texts: Vec<Rc<Text>>,
-    // those of the texts, and of texts that were removed
+    // those of the texts
     marks: Marks,
     // `None` until there were more than a few texts
     table: Option<Table>,
@@ -148,30 +147,17 @@ impl Texts {
         number_of(&self.table, &self.texts, name)
     }
 
-    /// Adds a text that isn't there, with its mark. If an allocation fails, nothing changes.
-    pub fn push(&mut self, text: Rc<Text>, mark: u64) -> Result<(), AllocError>
-        requires new { is_in text.value self.old ≡ false }
-        requires marked { mark ≡ mark_of text.value }
+    /// Adds a text that isn't there. If an allocation fails, nothing changes.
+    pub fn push(&mut self, text: Rc<Text>) -> Result<(), AllocError>
+        requires { is_in text.value self.old ≡ false }
         ensures ok { OnOk result (self.new ≡ self.old ++ text.value ∷ []) }
         ensures err { OnErr result (self.new ≡ self.old) }
     {
         self.texts.reserve(1)?;
         grow(&mut self.table, self.alloc, &self.texts)?;
         put(&mut self.table, self.alloc, &self.texts, text.as_str())?;
-        self.marks.add(mark);
+        self.marks.add(mark_of(text.as_str()));
         self.texts.push_reserved(text);
         Ok(())
-    }
-
-    /// Removes the last text, if there is one.
-    pub fn pop(&mut self)
-        ensures { self.new ≡ take (length self.old - 1) self.old }
-    {
-        let Some(text) = self.texts.pop() else {
-            return;
-        };
-        if let Some(table) = &mut self.table {
-            table.forget(text.as_str());
-        }
     }
 }

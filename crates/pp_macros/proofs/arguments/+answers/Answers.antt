@@ -29,6 +29,7 @@ use Rattle.pp_macros.proofs.taking.ListedLeadsLemmas.{turned}
 use Rattle.pp_macros.proofs.taking.PartLemmas.{AreLeft, added_is, added_push, left_within, left_first, left_rest, lists_more, in_order_push, part_has, part_all}
 use Rattle.pp_macros.proofs.taking.PlainLemmas.{plain_alone, plain_short, plain_each, plain_are_short}
 use Rattle.pp_macros.proofs.open_frames.BaseLemmas.{around_argument, unnested}
+use Rattle.pp_macros.proofs.open_frames.ListKnownLemmas.{call_known, list_known, list_kept, nested_known}
 use Rattle.pp_macros.proofs.work.CallFallsLemmas.{call_free}
 use Rattle.pp_macros.proofs.arguments.+answers.Goals as goal
 
@@ -40,7 +41,19 @@ expand_list-items-init t c =
       reached = reached_start _ _ _ _ _ _ _ c.requires.start.idle c.requires.start.argument none_added;
       holds = c.requires.before;
       below = refl;
+      same = ap (λ (l : Listing). l.definitions) c.requires.start.argument;
     }
+
+pub expand_list-give_frames-requires-clause-known : goal.expand_list-give_frames-requires-clause-known
+expand_list-give_frames-requires-clause-known t c =
+    list_known c.args.processor.now c.items.processor c.items.processor.below c.items.lexer c.args.definitions.now c.items.invariant.reached.sound
+    c.items.invariant.same c.items.invariant.below c.requires.known
+
+pub expand_list-step_list-requires : goal.expand_list-step_list-requires
+expand_list-step_list-requires t c =
+    let on = reached_added _ _ _ _ _ _ c.args.items.now.items _ _ _ c.items.invariant.keeps c.items.invariant.reached c.in_ok-give_frames.ensures.gives in
+    list_known c.args.processor.now c.give_frames.new.self c.items.processor.below c.items.lexer c.args.definitions.now on.reached.sound
+    c.items.invariant.same (c.in_ok-give_frames.ensures.below ∙ c.items.invariant.below) c.requires.known
 
 pub expand_list-items-smaller-in-Continue-branch-2 : goal.expand_list-items-smaller-in-Continue-branch-2
 expand_list-items-smaller-in-Continue-branch-2 t c =
@@ -68,6 +81,8 @@ expand_list-items-preserved-in-Continue-branch-2 t c =
           rw c.in_ok-push-in-Ok-Token.ensures.items (All-push (λ (read : Read). HoldsOrdinary read.token.value) _ _ c.in_ok-give_frames.ensures.holds
           (rw c.in-Ok-Token.field-0-is at c.in-Ok-Token.ensures.holds));
       below = c.step_list.ensures.below ∙ c.in_ok-give_frames.ensures.below ∙ c.items.invariant.below;
+      same = list_kept c.args.definitions.now _ _ _ _ _ c.items.lexer c.step_list.new.list
+          (turned _ _ _ _ _ (rw (c.in-Ok-Token.field-0-is, c.in_ok-give_frames.ensures.below) at c.in-Ok-Token.ensures.turns) refl) refl c.items.invariant.same;
     }
 
 pub expand_list-items-smaller-in-Continue-branch-3 : goal.expand_list-items-smaller-in-Continue-branch-3
@@ -90,6 +105,8 @@ expand_list-items-preserved-in-Continue-branch-3 t c =
           (turned _ _ _ _ _ (rw (c.in-Ok-Call.field-0-is, c.in_ok-give_frames.ensures.below) at c.in-Ok-Call.ensures.turns) refl) _ (rw (c.step_list.ensures.below ∙ c.in_ok-give_frames.ensures.below ∙ c.items.invariant.below) at c.in_ok-finish_call-in-Ok-Call.ensures.finishes));
       holds = c.in_ok-give_frames.ensures.holds;
       below = c.in_ok-finish_call-in-Ok-Call.ensures.below ∙ c.step_list.ensures.below ∙ c.in_ok-give_frames.ensures.below ∙ c.items.invariant.below;
+      same = list_kept c.args.definitions.now _ _ _ _ _ c.items.lexer c.step_list.new.list
+          (turned _ _ _ _ _ (rw (c.in-Ok-Call.field-0-is, c.in_ok-give_frames.ensures.below) at c.in-Ok-Call.ensures.turns) refl) refl c.items.invariant.same;
     }
 
 pub expand_list-items-smaller : goal.expand_list-items-smaller
@@ -111,6 +128,8 @@ expand_list-items-preserved t c =
           (turned _ _ _ _ _ (rw (c.in-Err-Continue.field-0-is, c.in_ok-give_frames.ensures.below) at c.in-Err-Continue.ensures.turns) refl);
       holds = c.in_ok-give_frames.ensures.holds;
       below = c.step_list.ensures.below ∙ c.in_ok-give_frames.ensures.below ∙ c.items.invariant.below;
+      same = list_kept c.args.definitions.now _ _ _ _ _ c.items.lexer c.step_list.new.list
+          (turned _ _ _ _ _ (rw (c.in-Err-Continue.field-0-is, c.in_ok-give_frames.ensures.below) at c.in-Err-Continue.ensures.turns) refl) refl c.items.invariant.same;
     }
 
 pub expand_list-returns-in-Err-Finished-clause-alone : goal.expand_list-returns-in-Err-Finished-clause-alone
@@ -181,7 +200,7 @@ expand_parts-expand_argument-requires t c =
       omega arith,
       (
         rw same (part_all (λ (read : Read). HoldsOrdinary read.token.value) c.args.tokens.now part c.requires.holds),
-        (c.loop-part.invariant.holds, rw c.loop-part.invariant.same c.requires.free),
+        (c.loop-part.invariant.holds, (rw c.loop-part.invariant.same c.requires.free, rw c.loop-part.invariant.same c.requires.known)),
       ),
     )
 
@@ -274,15 +293,21 @@ expand_call-returns t c =
 
 -- after a call nothing is held
 pub expand_list-finish_call-requires : goal.expand_list-finish_call-requires
-expand_list-finish_call-requires t c = (
-  omega arith,
-  call_free _ _ _ _ _ c.in-Ok-Call.call refl
-      (rw c.in-Ok-Call.field-0-is at c.in-Ok-Call.ensures.turns),
-)
+expand_list-finish_call-requires t c =
+    let on = reached_added _ _ _ _ _ _ c.args.items.now.items _ _ _ c.items.invariant.keeps c.items.invariant.reached c.in_ok-give_frames.ensures.gives in (
+      omega arith,
+      (
+        call_free _ _ _ _ _ c.in-Ok-Call.call refl (rw c.in-Ok-Call.field-0-is at c.in-Ok-Call.ensures.turns),
+        call_known 0 c.args.processor.now c.step_list.new.processor c.give_frames.new.self _ _ c.items.lexer c.step_list.new.list c.args.definitions.now
+            c.in-Ok-Call.call on.reached.sound
+            (turned _ _ _ _ _ (rw (c.in-Ok-Call.field-0-is, c.in_ok-give_frames.ensures.below) at c.in-Ok-Call.ensures.turns) refl)
+            c.items.invariant.same (c.step_list.ensures.below ∙ c.in_ok-give_frames.ensures.below ∙ c.items.invariant.below) c.requires.known,
+      ),
+    )
 
 -- an argument with a token that doesn't give itself
 pub expand_argument-expand_list-ended-requires : goal.expand_argument-expand_list-ended-requires
-expand_argument-expand_list-ended-requires t c = (omega arith, (record { idle = ap (λ (m : MacroProcessor). m.here) c.nest-around.ensures.is; argument = rw c.argument-lexer.ensures refl }, c.requires.before))
+expand_argument-expand_list-ended-requires t c = (omega arith, (record { idle = ap (λ (m : MacroProcessor). m.here) c.nest-around.ensures.is; argument = rw c.argument-lexer.ensures refl }, (c.requires.before, nested_known _ c.args.processor.now c.nest-around.new.self c.nest-around.ensures.is c.requires.known)))
 
 pub expand_argument-returns-clause-alone : goal.expand_argument-returns-clause-alone
 expand_argument-returns-clause-alone t c =

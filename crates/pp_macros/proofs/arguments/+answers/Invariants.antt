@@ -41,6 +41,7 @@ invariant-expand_list-items l = record {
       (addition l.fn.items.items l.items.items);
   holds : AllReadOrdinary l.items.items;
   below : l.processor.below ≡ l.fn.processor.below;
+  same : l.lexer.definitions ≡ l.definitions;
 }
 
 abbrev pub decreases-expand_list-items : goal.decreases-expand_list-items

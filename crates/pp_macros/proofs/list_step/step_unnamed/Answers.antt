@@ -8,5 +8,5 @@ use Rattle.pp_macros.proofs.list_step.step_unnamed.Goals as goal
 pub returns-clause-turns : goal.returns-clause-turns
 returns-clause-turns c =
     let idle = sym c.is_idle.ensures ∙ c.if-not-is_idle.false in
-    rw (c.paint.ensures ∙ ap (λ (names : List Name). painted_among names c.in_ok-read.read) (idle_names c.args.processor.now idle))
+    rw (c.paint_listed.ensures ∙ ap (λ (names : List Name). painted_among names c.in_ok-read.read) (idle_names c.args.processor.now idle))
     (unnamed_turns c.args.processor.now.here c.args.processor.now.below c.args.list.now _ c.in_ok-read.read idle (c.in_ok-read.ensures {u = tt}))

@@ -1,6 +1,7 @@
 use Rattle.std.specs.Prelude.{◌≡◌, IfOk}
 use Rattle.pp_macros.proofs.taking.Walk.{[], ◌∷◌, ◌++◌, ℕ, refl, MutBor, proved, full_share, common, id⊢, emp, wand, sep, apply∗, Lft, Incl, ftrue, flft, fdead, named, mut, ty_ref, ty_unit, vptr, fact, fact_i, tables, ⊑_meet, ⊑_refl, meet_⊑_left, meet_⊑_right, ‵, raw, ◌⊛◌, some, later, ◌$◌, ◌∵◌, !, qed, done, move, keep, use0, use1, use2, use3, split, join, fsplit, pick, await, suffices, frame, group, lft_new, lft_end, lft-common, agg, enter, addr, stop, no_more, and_then, returns, alloc_all, pass_all, free_all, look_at, get, through, sets, lands_as, vt_lit, lends_again, comes_back, LentAgain, MutRef, mut_vals, mut_Tells, mut_hides, MutAny, Includes-none, wide_val, table_at, plain, named_lft, nothing, heard, peeks, calls_at, lasts, triple_of, Stays, stay_ref, Goes-ref, ends_at, framed, hide_mut, Is, shows}
-use Rattle.pp_macros.specs.inner.Nesting.{MayWait, seen_by}
+use Rattle.pp_macros.specs.inner.Defined.{names_in}
+use Rattle.pp_macros.specs.inner.Nesting.{AreKnown, MayWait, seen_by}
 use Rattle.pp_macros.specs.inner.Reader.{of_list}
 use Rattle.pp_macros.specs.inner.Expander.{TakesNext}
 use Rattle.pp_macros.specs.Held.{HoldsOrdinary}
@@ -41,9 +42,9 @@ take_any_spec 𝓤 𝓛 𝓜 𝓡 wired =
     let RefP = λ (κ' : Lft) (x : MutBor P.Denot). (MutRef (named 0) κ' P).own_val x (mut_vals p) in
     let Ref = λ (κ' : Lft) (x : MutBor R.Denot). (MutRef (named 0) κ' R).own_val x (mut_vals r) in
     let Obj = λ (κ' : Lft). MutAny object.name (ty_ref (named 1) mut ty_unit) object.slots lists.own-1 (named 1) κ' in
-    qed 𝓛 (((‵ (flft κp qp) ⊛ ‵ (flft κ q) ⊛ ‵ (flft κ₁ q₁) ⊛ ‵ ftrue) ⊛ ‵ (RefP κp p) ⊛ ‵ (Ref κ r) ⊛ ‵ ftrue) ∷ ‵ ftrue ∷ []) ∵
+    qed 𝓛 (((‵ (flft κp qp) ⊛ ‵ (flft κ q) ⊛ ‵ (flft κ₁ q₁) ⊛ ‵ ftrue) ⊛ ‵ (RefP κp p) ⊛ ‵ (Ref κ r) ⊛ ‵ ftrue) ∷ raw (fact 𝓤 (AreKnown (names_in r.now.definitions) p.now)) ∷ []) ∵
     split ! $ split ! $ move ! (1 ∷ []) $ split ! $ move ! (1 ∷ []) $ split ! $ move ! (4 ∷ []) $ split ! $ move ! (1 ∷ []) $ split ! $ keep !
-    (0 ∷ 2 ∷ 3 ∷ 5 ∷ 6 ∷ []) $
+    (0 ∷ 2 ∷ 3 ∷ 5 ∷ 6 ∷ 7 ∷ []) $ move ! (5 ∷ []) $ heard ! _ (λ known.
     enter ! _ _ _ _ _ $ alloc_all ! (λ l. pass_all ! refl ((tt, tt), ((tt, tt), tt)) $
     -- [source; processor; the tokens of the source's borrow, of the source, of the processor]
     sets ! (addr ! (through ! refl (stop !))) refl (tt, tt) $
@@ -79,7 +80,8 @@ take_any_spec 𝓤 𝓛 𝓜 𝓡 wired =
     ) in
     move ! (2 ∷ []) $ nothing ! $ move ! (1 ∷ 0 ∷ []) $ join ! $ move ! (4 ∷ 0 ∷ []) $ join ! $
     nothing ! $ move ! (2 ∷ 0 ∷ []) $ join ! $ move ! (5 ∷ 0 ∷ []) $ join ! $ join ! $
-    use0 𝓛 (raw (fact 𝓤 (MayWait p.now.below (of_list r.now)))) (fact_i 𝓤 (MayWait p.now.below (of_list r.now)) (emp 𝓤) tt) $
+    use0 𝓛 (raw (fact 𝓤 (AreKnown (names_in r.now.definitions) p.now))) (fact_i 𝓤 (AreKnown (names_in r.now.definitions) p.now) (emp 𝓤) known) $
+    use0 𝓛 (raw (fact 𝓤 (MayWait p.now.below (of_list r.now)))) (fact_i 𝓤 (MayWait p.now.below (of_list r.now)) (emp 𝓤) tt) $ join ! $
     move ! (1 ∷ 0 ∷ []) $ use2 𝓛 (raw (G.pre z)) (id⊢ 𝓤 _) $
     calls_at ! (framed 𝓤 𝓛.H 𝓜 (tables 𝓤 𝓛.H 𝓜 𝓡 𝓡.env)) G
     (met 𝓤 𝓛 𝓜 𝓡 (code.calls-pp_macros::macro_processor::MacroProcessor::take_next 𝓡.env wired) T (Includes-none lists.own-1) (hidden.met-1 𝓤 𝓛 𝓜 𝓡 wired)) z
@@ -112,4 +114,4 @@ take_any_spec 𝓤 𝓛 𝓜 𝓡 wired =
     (fact_i 𝓤 (TakesNext p.now.here (seen_by p.now.below (of_list r.now)) u ws.0.here (seen_by ws.0.below (of_list ws.1.0))) (emp 𝓤) turns) $ frame ! $
     use0 𝓛 (raw (fact 𝓤 (ws.0.below ≡ p.now.below))) (fact_i 𝓤 (ws.0.below ≡ p.now.below) (emp 𝓤) below) $ frame ! $
     use0 𝓛 (raw (fact 𝓤 (IfOk u (λ (t : Read). HoldsOrdinary t.token.value))))
-    (fact_i 𝓤 (IfOk u (λ (t : Read). HoldsOrdinary t.token.value)) (emp 𝓤) holds) $ done !))))))))))))))
+    (fact_i 𝓤 (IfOk u (λ (t : Read). HoldsOrdinary t.token.value)) (emp 𝓤) holds) $ done !)))))))))))))))

@@ -8,5 +8,5 @@ use Rattle.pp_macros.proofs.list_step.take_list.Goals as goal
 pub returns-in-Some-clause-takes : goal.returns-in-Some-clause-takes
 returns-in-Some-clause-takes c =
     let idle = sym c.is_idle.ensures ∙ c.if-is_idle.true in
-    rw (c.paint.ensures ∙ ap (λ (names : List Name). painted_among names c.in-Some.read) (idle_names c.args.processor.now idle))
+    rw (c.paint_listed.ensures ∙ ap (λ (names : List Name). painted_among names c.in-Some.read) (idle_names c.args.processor.now idle))
     (apart_next c.args.processor.now.here c.args.processor.now.below c.args.list.now _ c.in-Some.read idle (rw c.in-Some.is at c.take_apart.ensures))

@@ -4,7 +4,6 @@ use Rattle.std.proofs.lemmas.List.{with_items_is}
 use Rattle.pp_lexer.specs.declared.token.Token.{Token}
 use Rattle.pp_model.specs.Definitions.{Definition}
 use Rattle.pp_macros.specs.inner.Bodies.{noted_in}
-use Rattle.pp_macros.specs.inner.Marks.{mark_of}
 use Rattle.pp_macros.proofs.defined_names.BodyLemmas.{numbers_changed}
 use Rattle.pp_macros.proofs.define.Macro.new.Goals as goal
 
@@ -14,7 +13,7 @@ invariant_of-result c =
     (omega (arith, c.define.inside.body.ok.0, c.note_numbers.auto.body, c.deref_mut.ensures.len)) in
     let same = numbers_changed c.define.inside.parameters.items c.define.inside.body.items c.note_numbers.new.body
     (rw c.deref_mut.ensures.value at c.note_numbers.ensures.same) in
-    (c.mark_of-mark.ensures ∙ ap mark_of (c.as_str.ensures ∙ c.deref.ensures), rw is (same.1 c.define.invariant.0))
+    rw is (same.1 c.define.invariant.0)
 
 pub returns-clause-is : goal.returns-clause-is
 returns-clause-is c =

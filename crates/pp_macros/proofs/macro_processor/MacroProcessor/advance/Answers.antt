@@ -2,6 +2,7 @@ use Rattle.std.proofs.Common.{◌∙◌, refl, Err}
 use Rattle.pp_macros.specs.inner.Giving.{at_once, after}
 use Rattle.pp_macros.specs.inner.Nesting.{seen_by}
 use Rattle.pp_macros.specs.declared.step.StepExit.TheVariants.{Continue}
+use Rattle.pp_macros.proofs.open_frames.KnownLemmas.{sound_known}
 use Rattle.pp_macros.proofs.work.CallFallsLemmas.{turn_falls}
 use Rattle.pp_macros.proofs.macro_processor.MacroProcessor.advance.Goals as goal
 
@@ -9,7 +10,12 @@ pub turns-init : goal.turns-init
 turns-init g c = record { pauses = at_once _ refl; sound = c.requires.sound; below = refl }
 
 pub turn-requires : goal.turn-requires
-turn-requires g c = rw c.turns.invariant.below (record { sound = c.turns.invariant.sound; waits = c.requires.waits })
+turn-requires g c =
+    record {
+      sound = rw c.turns.invariant.below c.turns.invariant.sound;
+      waits = rw c.turns.invariant.below c.requires.waits;
+      known = sound_known c.args.self.now c.turns.self (g.L.MeLexer.reader c.args.lexer.now) c.turns.invariant.sound c.turns.invariant.below c.requires.known;
+    }
 
 pub turns-preserved : goal.turns-preserved
 turns-preserved g c =

@@ -15,5 +15,6 @@ enter-requires g c =
     record {
       opens = opens_seen c.args.self.now.below _ c.args.read c.in-Ok-Some.opened.value (sym found.opened) found.numbered;
       waits = c.requires.waits;
+      known = c.requires.known;
       holds = c.requires.holds;
     }

@@ -3,10 +3,14 @@ use Rattle.std.proofs.lemmas.List.Elements.{All-push}
 use Rattle.pp_model.specs.Calls.{nesting}
 use Rattle.pp_model.specs.declared.read.Read.{Read}
 use Rattle.pp_macros.specs.Held.{HoldsOrdinary}
+use Rattle.pp_macros.proofs.open_frames.KnownLemmas.{run_known}
 use Rattle.pp_macros.proofs.taking.AnswerLemmas.{satisfies_fault}
 use Rattle.pp_macros.proofs.taking.ExpanderLemmas.{last_put, before_last, gathers_fault, gathers_end, gathers_never, gathers_closed, gathers_overfull, gathers_more, next_falls}
 use Rattle.pp_macros.proofs.taking.RunLemmas.{flat_gathers, flat_falls, flat_holds, place_put}
 use Rattle.pp_macros.proofs.macro_processor.MacroProcessor.gather_tokens.Goals as goal
+
+pub push_run-requires-clause-known : goal.push_run-requires-clause-known
+push_run-requires-clause-known g c = c.tokens.invariant.known
 
 pub returns-in-Err-Error : goal.returns-in-Err-Error
 returns-in-Err-Error g c =
@@ -74,4 +78,5 @@ tokens-preserved g c =
       holds = rw t.is (All-push (λ (read : Read). HoldsOrdinary read.token.value) _ _ (flat_holds _ _ _ _ _ run.flat c.tokens.invariant.holds) t.holds);
       below = c.push_run.ensures.below ∙ c.tokens.invariant.below;
       waits = (c.in-Ok.ensures {u = tt}).waits;
+      known = run_known c.tokens.self c.push_run.new.self _ _ _ _ _ _ run.flat t c.push_run.ensures.below c.tokens.invariant.known;
     }

@@ -1,8 +1,10 @@
 use Rattle.std.proofs.Common.{◌≡◌}
 use Rattle.pp_macros.specs.inner.Reading.{AllReadOrdinary}
 use Rattle.pp_macros.specs.inner.Expander.{place_after}
+use Rattle.pp_macros.specs.inner.Defined.{names_in}
 use Rattle.pp_macros.specs.inner.Left.{regions}
-use Rattle.pp_macros.specs.inner.Nesting.{MayWait, seen_by}
+use Rattle.pp_macros.specs.inner.Reader.{definitions_of}
+use Rattle.pp_macros.specs.inner.Nesting.{AreKnown, MayWait, seen_by}
 use Rattle.pp_macros.specs.inner.Reach.{total}
 use Rattle.pp_macros.proofs.taking.ExpanderLemmas.{Gathering}
 use Rattle.pp_macros.proofs.macro_processor.MacroProcessor.gather_tokens.Given as goal
@@ -15,6 +17,7 @@ invariant-tokens o l = record {
   holds : AllReadOrdinary l.tokens.items;
   below : l.self.below ≡ l.fn.self.below;
   waits : MayWait l.self.below ((goal.MeLexer-dyn o l.lexer.now).reader l.lexer.now.1);
+  known : AreKnown (names_in (definitions_of ((goal.MeLexer-dyn o l.lexer.now).reader l.lexer.now.1))) l.self;
 }
 
 abbrev pub decreases-tokens : goal.decreases-tokens

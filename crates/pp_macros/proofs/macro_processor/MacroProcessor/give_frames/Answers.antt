@@ -4,11 +4,17 @@ use Rattle.pp_model.specs.declared.read.Read.{Read}
 use Rattle.pp_macros.specs.Held.{HoldsOrdinary}
 use Rattle.pp_macros.specs.inner.Giving.{none}
 use Rattle.pp_macros.specs.inner.Nesting.{MacroProcessor}
+use Rattle.pp_macros.specs.inner.Reader.{of_list}
+use Rattle.pp_macros.proofs.open_frames.KnownLemmas.{sound_known}
 use Rattle.pp_macros.proofs.taking.GivingLemmas.{given_more, gives_pauses}
 use Rattle.pp_macros.proofs.macro_processor.MacroProcessor.give_frames.Goals as goal
 
 pub tokens-init : goal.tokens-init
 tokens-init c = record { gives = none _ _ refl refl; sound = c.requires.sound; holds = c.requires.ordinary; below = refl }
+
+pub advance-requires-clause-known : goal.advance-requires-clause-known
+advance-requires-clause-known c =
+    sound_known c.args.self.now c.tokens.self (of_list c.args.list.now) c.tokens.invariant.sound c.tokens.invariant.below c.requires.known
 
 pub tokens-preserved : goal.tokens-preserved
 tokens-preserved c =

@@ -1,15 +1,19 @@
-use Rattle.std.proofs.Common.{◌∙◌, List, ap, subst, sym}
-use Rattle.std.specs.Str.{chars}
-use Rattle.pp_model.specs.Names.{Name}
-use Rattle.pp_macros.specs.inner.Marks.{AreMarked}
-use Rattle.pp_macros.specs.inner.Nesting.{open_names}
-use Rattle.pp_macros.proofs.defined_names.MarksLemmas.{unmarked}
-use Rattle.pp_macros.proofs.open_frames.BaseLemmas.{all_names}
+use Rattle.std.proofs.Common.{◌∙◌, ap}
+use Rattle.std.specs.Prelude.{◌==◌}
+use Rattle.std.specs.List.{list_any}
+use Rattle.pp_macros.specs.inner.Frames.{Frame}
+use Rattle.pp_macros.proofs.open_frames.BaseLemmas.{shown_frames}
+use Rattle.pp_macros.proofs.open_frames.CountLemmas.{any_counted, past_counted}
 use Rattle.pp_macros.proofs.macro_processor.MacroProcessor.is_open.Goals as goal
 
-pub returns-else-has : goal.returns-else-has
-returns-else-has c =
-    let without = rw c.if-has.false at (sym c.has.ensures) in
-    let same = all_names c.self.inside.held c.self.inside.base c.self.inside.frames.items ∙ ap open_names c.self.view_is in
-    let marked = subst (λ (names : List Name). AreMarked c.self.inside.marks names) same c.self.invariant.1 in
-    c.if-has.false ∙ sym (unmarked c.self.inside.marks (open_names c.args.self.now) (chars c.args.name.now) marked without)
+pub returns-in-Some : goal.returns-in-Some
+returns-in-Some c =
+    any_counted c.self.inside.counts.items c.self.inside.frames.items c.args.id c.in-Some.count c.self.invariant.0
+    (rw (c.deref.ensures.value, c.number.ensures) at c.in-Some.ensures.lookup)
+    ∙ ap (list_any (λ (f : Frame). f.number == c.args.id)) (shown_frames c.self.inside.held c.self.inside.base c.self.inside.frames.items c.args.self.now c.self.view_is)
+
+pub returns-in-None : goal.returns-in-None
+returns-in-None c =
+    past_counted c.self.inside.counts.items c.self.inside.frames.items c.args.id c.self.invariant.0
+    (rw (c.deref.ensures.value, c.number.ensures) at c.in-None.ensures.lookup).3
+    ∙ ap (list_any (λ (f : Frame). f.number == c.args.id)) (shown_frames c.self.inside.held c.self.inside.base c.self.inside.frames.items c.args.self.now c.self.view_is)

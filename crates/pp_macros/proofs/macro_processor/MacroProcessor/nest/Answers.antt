@@ -9,4 +9,4 @@ returns-clause-is c =
 
 pub returns-clause-around : goal.returns-clause-around
 returns-clause-around c =
-    c.replace.ensures.value ∙ around_number c.self.inside.held c.self.inside.base c.self.inside.frames.items c.args.self.now c.self.view_is c.self.invariant.3
+    c.replace.ensures.value ∙ around_number c.self.inside.held c.self.inside.base c.self.inside.frames.items c.args.self.now c.self.view_is c.self.invariant.2

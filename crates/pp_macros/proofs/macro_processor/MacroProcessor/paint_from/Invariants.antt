@@ -5,4 +5,4 @@ use Rattle.pp_macros.proofs.macro_processor.MacroProcessor.paint_from.Given as g
 
 -- the tokens before this one are painted
 abbrev pub invariant-loop-at : goal.invariant-loop-at
-invariant-loop-at l = painted_from (open_names l.self) l.at l.tokens ≡ painted_from (open_names l.self) l.start l.fn.tokens
+invariant-loop-at o l = painted_from (open_names l.self) l.at l.tokens ≡ painted_from (open_names l.self) l.start l.fn.tokens

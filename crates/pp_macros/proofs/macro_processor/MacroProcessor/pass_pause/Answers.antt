@@ -12,8 +12,8 @@ pub invariant_of-self-then-pass_pause : goal.invariant_of-self-then-pass_pause
 invariant_of-self-then-pass_pause c =
     let kept = kept_here c.self.inside.held c.self.inside.base c.self.inside.frames.items c.args.self.now c.self.view_is
     (sym c.has_frames.ensures ∙ c.if-not-has_frames.false) c.in-Some.frame.now (vec_len c.self.inside.frames) c.self.inside.frames.ok.0 c.in-Some.ensures.value
-    c.pass_pause.new.self c.self.inside.open_names c.self.inside.marks c.pass_pause.ensures.name c.self.invariant.0 c.self.invariant.1 in
-    (kept.0, kept.1, c.self.invariant.2, kept.2)
+    c.pass_pause.new.self c.self.inside.counts.items c.pass_pause.ensures.number c.self.invariant.0 in
+    (kept.0, c.self.invariant.1, kept.1)
 
 pub returns-then-pass_pause : goal.returns-then-pass_pause
 returns-then-pass_pause c =
@@ -26,8 +26,8 @@ pub invariant_of-self-2 : goal.invariant_of-self-2
 invariant_of-self-2 c =
     let kept = kept_here c.self.inside.held c.self.inside.base c.self.inside.frames.items c.args.self.now c.self.view_is
     (sym c.has_frames.ensures ∙ c.if-not-has_frames.false) c.in-Some.frame.now (vec_len c.self.inside.frames) c.self.inside.frames.ok.0 c.in-Some.ensures.value
-    c.pass_pause.new.self c.self.inside.open_names c.self.inside.marks c.pass_pause.ensures.name c.self.invariant.0 c.self.invariant.1 in
-    (kept.0, kept.1, c.self.invariant.2, kept.2)
+    c.pass_pause.new.self c.self.inside.counts.items c.pass_pause.ensures.number c.self.invariant.0 in
+    (kept.0, c.self.invariant.1, kept.1)
 
 pub close-requires : goal.close-requires
 close-requires c =

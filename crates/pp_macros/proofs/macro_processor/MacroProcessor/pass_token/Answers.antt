@@ -17,8 +17,8 @@ pub invariant_of-self-2 : goal.invariant_of-self-2
 invariant_of-self-2 c =
     let kept = kept_here c.self.inside.held c.self.inside.base c.self.inside.frames.items c.args.self.now c.self.view_is
     (sym c.has_frames.ensures ∙ c.if-not-has_frames.false) c.in-Some.frame.now (vec_len c.self.inside.frames) c.self.inside.frames.ok.0 c.in-Some.ensures.value
-    c.pass_token.new.self c.self.inside.open_names c.self.inside.marks c.pass_token.ensures.name c.self.invariant.0 c.self.invariant.1 in
-    (kept.0, kept.1, c.self.invariant.2, kept.2)
+    c.pass_token.new.self c.self.inside.counts.items c.pass_token.ensures.number c.self.invariant.0 in
+    (kept.0, c.self.invariant.1, kept.1)
 
 pub returns : goal.returns
 returns c =

@@ -5,6 +5,8 @@ use Rattle.pp_model.specs.Names.{Name}
 use Rattle.pp_model.specs.declared.read.Read.{Read}
 use Rattle.pp_macros.specs.inner.Frames.{names_of}
 use Rattle.pp_macros.specs.inner.Reading.{painted_from}
+use Rattle.pp_macros.proofs.defined_names.GrowLemmas.{run_grow}
+use Rattle.pp_macros.proofs.open_frames.KnownLemmas.{known_more}
 use Rattle.pp_macros.proofs.taking.NestingLemmas.{idle_names}
 use Rattle.pp_macros.proofs.taking.PaintedRunLemmas.{painted_run}
 use Rattle.pp_macros.proofs.macro_processor.MacroProcessor.push_flat.Goals as goal
@@ -18,6 +20,10 @@ written n new old number same =
 painted_as : (names masks : List Name) (k n : ℕ) (new some all : List Read) → new ≡ painted_from names k some → names ≡ masks → k ≡ n → some ≡ all
     → new ≡ painted_from masks n all
 painted_as names masks k n new some all is same at value = rw (← same, ← at, ← value) is
+
+pub paint_from-requires : goal.paint_from-requires
+paint_from-requires g c =
+    record { known = known_more _ _ c.args.self.now (run_grow c.args.tokens.now.items _ _ c.in_ok-found.found _ (c.in_ok-found.ensures {u = tt})) c.requires.known }
 
 pub returns-clause-takes : goal.returns-clause-takes
 returns-clause-takes g c =

@@ -1,5 +1,6 @@
 use Rattle.std.proofs.Common.{◌∙◌, sym, ap, refl, Err}
 use Rattle.std.proofs.lemmas.Result.{err_from_is_err_and}
+use Rattle.pp_macros.proofs.open_frames.KnownLemmas.{paren_known}
 use Rattle.pp_macros.proofs.taking.SeekLemmas.{finds_nothing, finds_whole, finds_fault}
 use Rattle.pp_macros.proofs.macro_processor.MacroProcessor.seek.Goals as goal
 
@@ -8,6 +9,11 @@ returns-in_err-gathered-in-Some-clause-finds g c =
     let e = err_from_is_err_and c.from_residual.result c.from_residual.ensures.1 in
     finds_fault _ _ _ _ _ _ _ c.in-Some.paren c.in_err-gathered-in-Some.field-0.0 _ c.take_next-next.ensures.takes
     (sym c.paren_of.ensures ∙ c.in-Some.is) c.in_err-gathered-in-Some.ensures.gathers (e.1 ∙ ap Err e.2)
+
+pub gather-requires-clause-known : goal.gather-requires-clause-known
+gather-requires-clause-known g c =
+    paren_known _ c.in-Some.paren c.args.self.now c.take_next-next.new.self _ _ c.take_next-next.ensures.takes (sym c.paren_of.ensures ∙ c.in-Some.is)
+    c.take_next-next.ensures.below c.requires.known
 
 pub returns-in-None-clause-finds : goal.returns-in-None-clause-finds
 returns-in-None-clause-finds g c =

@@ -1,18 +1,16 @@
-use Rattle.std.proofs.Common.{◌∙◌, ap, sym, subst, refl, List}
+use Rattle.std.proofs.Common.{◌∙◌, ap, sym, refl, List}
 use Rattle.pp_model.specs.Names.{Name, is_identifier, line_name}
 use Rattle.pp_model.specs.Painting.{painted_among}
-use Rattle.pp_macros.specs.inner.Defined.{Defined, Macro, names_in}
-use Rattle.pp_macros.specs.inner.Left.{HaveNumbers}
+use Rattle.pp_macros.specs.inner.Defined.{Macro}
 use Rattle.pp_macros.specs.inner.Nesting.{seen_by}
 use Rattle.pp_macros.proofs.taking.FrameTurnLemmas.{refused_there, frame_pauses, frame_gives, frame_opens, frame_takes_some}
 use Rattle.pp_macros.proofs.taking.ExpanderLemmas.{none_held}
-use Rattle.pp_macros.proofs.taking.NestingLemmas.{definitions_seen, macro_seen, masks_seen, opens_seen}
+use Rattle.pp_macros.proofs.taking.NestingLemmas.{macro_seen, masks_seen, opens_seen}
 use Rattle.pp_macros.proofs.macro_processor.MacroProcessor.turn.Goals as goal
 
 -- the number of the token ahead is right
-pub opened_by-requires : goal.opened_by-requires
-opened_by-requires g c = c.in-Some.ensures.number _ (subst (λ (ds : List Defined). HaveNumbers (names_in ds) c.args.self.now.here.frames)
-    (definitions_seen c.args.self.now.below (g.L.MeLexer.reader c.args.lexer.now)) c.requires.sound.numbers)
+pub number_of-number-requires : goal.number_of-number-requires
+number_of-number-requires g c = c.in-Some.ensures.number _ c.requires.known.here
 
 -- a pause
 pub returns-in_default-clause-turns : goal.returns-in_default-clause-turns
@@ -31,11 +29,11 @@ returns-in_default-opened_by-clause-turns g c = (
       (none_held c.args.self.now.here.held (sym c.is_holding.ensures ∙ c.if-is_holding.false)) (sym c.has_frames.ensures ∙ c.if-not-has_frames.false)
       c.in-Some.ahead.read c.in-Some.ensures.ahead
       (ap (is_identifier line_name) (sym c.value.ensures) ∙ sym c.is_line_name.ensures ∙ c.if-is_line_name.false) c.paints-painted.result
-      (c.paints-painted.ensures ∙ ap (λ (names : List Name). (painted_among names c.in-Some.ahead.read).painted)
+      (c.paints-painted.ensures _ c.requires.known c.number_of-number.ensures ∙ ap (λ (names : List Name). (painted_among names c.in-Some.ahead.read).painted)
       (sym (masks_seen c.args.self.now (g.L.MeLexer.reader c.args.lexer.now) c.requires.waits)))
       c.in-Some.ensures.holds
       (macro_seen c.args.self.now.below (g.L.MeLexer.reader c.args.lexer.now)
-      (record { token = c.in-Some.ahead.read.token; painted = c.paints-painted.result }) ∙ sym (c.in_default-opened_by.ensures {u = tt}).opened),
+      (record { token = c.in-Some.ahead.read.token; painted = c.paints-painted.result }) ∙ sym ((c.in_default-opened_by.ensures {u = tt}).opened c.in-Some.ahead.read.token c.number_of-number.ensures)),
 )
 
 -- a name whose macro can't be shared, or not be opened
@@ -45,7 +43,7 @@ returns-in_err-opened-clause-refused g c = refused_there c.from_residual.result
     (none_held c.args.self.now.here.held (sym c.is_holding.ensures ∙ c.if-is_holding.false)) (sym c.has_frames.ensures ∙ c.if-not-has_frames.false)
     c.in-Some.ahead.read c.in-Some.ensures.ahead
     (ap (is_identifier line_name) (sym c.value.ensures) ∙ sym c.is_line_name.ensures ∙ c.if-is_line_name.false) c.paints-painted.result
-    (c.paints-painted.ensures ∙ ap (λ (names : List Name). (painted_among names c.in-Some.ahead.read).painted)
+    (c.paints-painted.ensures _ c.requires.known c.number_of-number.ensures ∙ ap (λ (names : List Name). (painted_among names c.in-Some.ahead.read).painted)
     (sym (masks_seen c.args.self.now (g.L.MeLexer.reader c.args.lexer.now) c.requires.waits))))
 
 pub returns-in_err-open_bare-clause-refused : goal.returns-in_err-open_bare-clause-refused
@@ -54,7 +52,7 @@ returns-in_err-open_bare-clause-refused g c = refused_there c.from_residual-in_e
     (none_held c.args.self.now.here.held (sym c.is_holding.ensures ∙ c.if-is_holding.false)) (sym c.has_frames.ensures ∙ c.if-not-has_frames.false)
     c.in-Some.ahead.read c.in-Some.ensures.ahead
     (ap (is_identifier line_name) (sym c.value.ensures) ∙ sym c.is_line_name.ensures ∙ c.if-is_line_name.false) c.paints-painted.result
-    (c.paints-painted.ensures ∙ ap (λ (names : List Name). (painted_among names c.in-Some.ahead.read).painted)
+    (c.paints-painted.ensures _ c.requires.known c.number_of-number.ensures ∙ ap (λ (names : List Name). (painted_among names c.in-Some.ahead.read).painted)
     (sym (masks_seen c.args.self.now (g.L.MeLexer.reader c.args.lexer.now) c.requires.waits))))
 
 -- a name whose macro opens
@@ -67,6 +65,6 @@ returns-clause-turns g c =
     (none_held c.args.self.now.here.held (sym c.is_holding.ensures ∙ c.if-is_holding.false)) (sym c.has_frames.ensures ∙ c.if-not-has_frames.false)
     c.in-Some.ahead.read c.in-Some.ensures.ahead
     (ap (is_identifier line_name) (sym c.value.ensures) ∙ sym c.is_line_name.ensures ∙ c.if-is_line_name.false) c.paints-painted.result
-    (c.paints-painted.ensures ∙ ap (λ (names : List Name). (painted_among names c.in-Some.ahead.read).painted)
+    (c.paints-painted.ensures _ c.requires.known c.number_of-number.ensures ∙ ap (λ (names : List Name). (painted_among names c.in-Some.ahead.read).painted)
     (sym (masks_seen c.args.self.now (g.L.MeLexer.reader c.args.lexer.now) c.requires.waits)))
-    _ (opens_seen c.args.self.now.below (g.L.MeLexer.reader c.args.lexer.now) _ _ (sym opened.opened) opened.numbered) bare)
+    _ (opens_seen c.args.self.now.below (g.L.MeLexer.reader c.args.lexer.now) _ _ (sym (opened.opened c.in-Some.ahead.read.token c.number_of-number.ensures)) opened.numbered) bare)

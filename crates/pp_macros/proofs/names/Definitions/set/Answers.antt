@@ -39,8 +39,8 @@ returns-in-Some-clause-ok c =
     let change = is_set c.self.inside.names c.self.inside.macros.items c.args.name c.id.inside.0 (Some c.in_ok-new.new) c.self.invariant.0 there.0 in
     rw (← c.self.view_is, ← ap (λ (m : Macro). m.definition) c.in_ok-new.ensures.is) change
 
-pub push-requires-clause-new : goal.push-requires-clause-new
-push-requires-clause-new c =
+pub push-requires : goal.push-requires
+push-requires c =
     let new = not_found c.args.name (names_in c.args.self.now) (sym (rw (c.as_str.ensures, c.deref.ensures, c.in_ok-text.ensures.ok) at c.in_default.ensures)) in
     rw c.in_ok-text.ensures.ok (rw (← c.self.view_is, names_as c.self.inside.names c.self.inside.macros.items c.self.invariant.0) at new)
 

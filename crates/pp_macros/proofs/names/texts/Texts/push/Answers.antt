@@ -8,7 +8,7 @@ pub invariant_of-self-2 : goal.invariant_of-self-2
 invariant_of-self-2 c =
     let names = names_of c.self.inside.texts.items in
     rw (c.push_reserved.ensures.items, c.in_ok-reserve.ensures.items, names_of-more c.self.inside.texts.items c.args.text) (
-      distinct_more names c.args.text.value (rw c.self.view_is c.requires.new) c.self.invariant.0,
+      distinct_more names c.args.text.value (rw c.self.view_is c.requires) c.self.invariant.0,
       rw (c.deref-2.ensures.value, c.in_ok-reserve.ensures.items, c.as_str.ensures, c.deref-3.ensures) at c.in_ok-put.ensures.ok,
-      rw (c.add.ensures, c.requires.marked) (marked_push c.self.inside.marks names c.args.text.value c.self.invariant.2),
+      rw (c.add.ensures, c.mark_of.ensures, c.as_str-2.ensures, c.deref-4.ensures) (marked_push c.self.inside.marks names c.args.text.value c.self.invariant.2),
     )
