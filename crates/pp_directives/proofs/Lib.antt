@@ -13,6 +13,7 @@ pub mod SourceStepLemmas
 pub mod ConditionActsLemmas
 pub mod LineTurnLemmas
 pub mod LineReadLemmas
+pub mod LineKnownLemmas
 pub mod LineOperandLemmas
 pub mod LineWordsLemmas
 pub mod ParametersLemmas

@@ -26,6 +26,7 @@ use pp_lexer::token::{Location, PreprocessorError, Text, Token, out_of_memory};
 use pp_macros::blocks::Blocks;
 use pp_macros::define::Define;
 use pp_macros::halt::Halt;
+use pp_macros::macro_processor::SpareCounts;
 use pp_macros::names::Definitions;
 use pp_macros::step::{Step, StepExit};
 use std::alloc::Global;
@@ -43,6 +44,8 @@ pub struct DirectiveProcessor<'a> {
     has_directive: bool,
     // Whether an `#elif` outside of all blocks made the rest of the source dead.
     dead_for_good: bool,
+    // those of the last line that was expanded alone
+    counts: SpareCounts,
 }
 
 impl<'a> Model for DirectiveProcessor<'a> {
@@ -81,6 +84,7 @@ impl<'a> DirectiveProcessor<'a> {
             has_text: false,
             has_directive: false,
             dead_for_good: false,
+            counts: SpareCounts::none(alloc),
         }
     }
 

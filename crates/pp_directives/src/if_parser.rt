@@ -13,6 +13,7 @@ use crate::line_words::line_words;
 use crate::token_list::LineReads;
 use pp_lexer::token::Location;
 use pp_macros::halt::Halt;
+use pp_macros::macro_processor::SpareCounts;
 use pp_macros::names::Definitions;
 use pp_model::line_value::unwanted_word;
 use pp_model::word::{LineKind, Word, Words};
@@ -46,6 +47,7 @@ impl IfParser {
         directive: Location,
         tokens: LineReads,
         definitions: &Definitions,
+        counts: &mut SpareCounts,
     ) -> Result<IfParser, AllocError>
         requires { AllHoldOrdinary tokens }
         ensures { IfOk result (IsAtFront kind directive tokens definitions.now) }
@@ -54,7 +56,7 @@ impl IfParser {
         Ok(IfParser {
             alloc,
             directive,
-            words: line_words(alloc, kind, directive, tokens, definitions, levels)?,
+            words: line_words(alloc, kind, directive, tokens, definitions, levels, counts)?,
         })
     }
 

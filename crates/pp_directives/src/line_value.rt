@@ -12,6 +12,7 @@ use crate::if_parser::IfParser;
 use crate::token_list::LineReads;
 use pp_lexer::token::{Location, PreprocessorError};
 use pp_macros::halt::Halt;
+use pp_macros::macro_processor::SpareCounts;
 use pp_macros::names::Definitions;
 use pp_model::word::LineKind;
 use std::alloc::{AllocError, Global};
@@ -25,12 +26,20 @@ pub fn condition(
     directive: Location,
     tokens: LineReads,
     definitions: &Definitions,
+    counts: &mut SpareCounts,
 ) -> Result<bool, Halt>
     requires { AllHoldOrdinary tokens }
     ensures { Satisfies result (IsCondition (answers_at expansion_limit) directive tokens
         (meaning_of definitions.now)) }
 {
-    let mut parser = IfParser::new(alloc, LineKind::Condition, directive, tokens, definitions)?;
+    let mut parser = IfParser::new(
+        alloc,
+        LineKind::Condition,
+        directive,
+        tokens,
+        definitions,
+        counts,
+    )?;
     let value = parser.evaluate_line()?;
     Ok(value != 0)
 }
@@ -84,12 +93,20 @@ pub fn line_number(
     directive: Location,
     tokens: LineReads,
     definitions: &Definitions,
+    counts: &mut SpareCounts,
 ) -> Result<u32, LineHalt>
     requires { AllHoldOrdinary tokens }
     ensures { Satisfies (without_number result) (IsLineNumber (answers_at expansion_limit) directive tokens
         (meaning_of definitions.now)) }
 {
-    let mut parser = IfParser::new(alloc, LineKind::LineNumber, directive, tokens, definitions)?;
+    let mut parser = IfParser::new(
+        alloc,
+        LineKind::LineNumber,
+        directive,
+        tokens,
+        definitions,
+        counts,
+    )?;
     let value = parser.evaluate_expression()?;
     let Some(number) = as_line_number(value) else {
         return Err(LineHalt::from(Halt::Fault((PreprocessorError::LineOverflow, directive))));

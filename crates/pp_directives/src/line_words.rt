@@ -17,7 +17,7 @@ use pp_macros::calls::Taken;
 use pp_macros::halt::{Halt, halt_of};
 use pp_macros::list_lexer::ListLexer;
 use pp_macros::list_step::{step_list, step_unnamed, take_list};
-use pp_macros::macro_processor::MacroProcessor;
+use pp_macros::macro_processor::{MacroProcessor, SpareCounts};
 use pp_macros::names::Definitions;
 use pp_macros::step::StepExit;
 use pp_model::outcome::Fault;
@@ -62,6 +62,11 @@ fn is_close_paren(found: &Option<Read>) -> bool
         Some(read) => is_right_paren(&read.token.value),
         None => false,
     }
+}
+
+// Ends the reading of a line, and gives back the counts of its processor.
+fn close_line(mut line: LineExpander<'_>) -> SpareCounts {
+    line.expander.take_counts()
 }
 
 impl<'a> WordReader<'a> {
@@ -228,6 +233,7 @@ impl<'a> WordReader<'a> {
         &self,
         tokens: LineReads,
         definitions: &Definitions,
+        counts: &mut SpareCounts,
     ) -> Result<Words, AllocError>
         requires holds { AllHoldOrdinary tokens }
         requires same { self.now.definitions.now ≡ definitions.now }
@@ -235,14 +241,12 @@ impl<'a> WordReader<'a> {
             (AreWordsOfLine self.now.kind self.now.directive self.now.levels tokens
             definitions.now) }
     {
+        let expander = MacroProcessor::with_counts(self.alloc, counts.take(self.alloc));
         let mut reads = tokens.into_reads();
         let lexer = ListLexer::line(&mut reads, definitions);
-        let mut line = LineExpander {
-            expander: MacroProcessor::new(self.alloc),
-            lexer,
-        };
+        let mut line = LineExpander { expander, lexer };
         let words = self.read_words(&mut line);
-        drop(line);
+        *counts = close_line(line);
         words
     }
 }
@@ -255,6 +259,7 @@ pub fn line_words(
     tokens: LineReads,
     definitions: &Definitions,
     levels: u32,
+    counts: &mut SpareCounts,
 ) -> Result<Words, AllocError>
     requires { AllHoldOrdinary tokens }
     ensures { IfOk result (AreWordsOfLine kind directive levels tokens definitions.now) }
@@ -266,5 +271,5 @@ pub fn line_words(
         definitions,
         levels,
     };
-    reader.words_of_line(tokens, definitions)
+    reader.words_of_line(tokens, definitions, counts)
 }

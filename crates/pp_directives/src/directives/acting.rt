@@ -95,7 +95,13 @@ impl<'a> DirectiveProcessor<'a> {
             (moves.renumbers word) self.old.rest) self.old result self.new }
     {
         let tokens = line_reads(self.alloc, &mut self.lexer)?;
-        match line_number(self.alloc, word, tokens, &self.definitions) {
+        match line_number(
+            self.alloc,
+            word,
+            tokens,
+            &self.definitions,
+            &mut self.counts,
+        ) {
             Ok(number) => {
                 self.count_from(word.line, number);
                 Ok(())

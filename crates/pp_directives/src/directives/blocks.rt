@@ -38,7 +38,13 @@ impl<'a> DirectiveProcessor<'a> {
             self.old result self.new }
     {
         let tokens = line_reads(self.alloc, &mut self.lexer)?;
-        let holds = condition(self.alloc, word, tokens, &self.definitions)?;
+        let holds = condition(
+            self.alloc,
+            word,
+            tokens,
+            &self.definitions,
+            &mut self.counts,
+        )?;
         self.blocks.push(OpenBlock::opened(word, holds))?;
         Ok(())
     }
@@ -73,7 +79,13 @@ impl<'a> DirectiveProcessor<'a> {
     {
         self.blocks.replace_last(block.skipped());
         let tokens = line_reads(self.alloc, &mut self.lexer)?;
-        let holds = condition(self.alloc, word, tokens, &self.definitions)?;
+        let holds = condition(
+            self.alloc,
+            word,
+            tokens,
+            &self.definitions,
+            &mut self.counts,
+        )?;
         self.blocks.replace_last(block.decided(holds));
         Ok(())
     }

@@ -5,10 +5,14 @@ use Rattle.pp_macros.specs.inner.Finishing.{Finishes}
 use Rattle.pp_macros.specs.inner.Frames.{names_of}
 use Rattle.pp_macros.proofs.work.CallFallsLemmas.{call_free}
 use Rattle.pp_directives.proofs.LineReadLemmas.{items_start, items_token, items_token_less, items_end, items_pause, items_pause_less, items_fault, items_call, items_call_less, items_call_fault}
+use Rattle.pp_directives.proofs.LineKnownLemmas.{line_call_known, line_known}
 use Rattle.pp_directives.proofs.line_words.WordReader.next_expanded.Goals as goal
 
 pub items-init : goal.items-init
 items-init c = items_start _ _ _ _ c.requires
+
+pub step_list-requires : goal.step_list-requires
+step_list-requires c = line_known _ c.items.line.expander c.items.line.lexer c.items.invariant.stands
 
 pub returns-in-Ok-Token-clause-reads : goal.returns-in-Ok-Token-clause-reads
 returns-in-Ok-Token-clause-reads c = items_token _ _ _ _ _ _ c.items.invariant _ _ c.in-Ok-Token.read
@@ -49,5 +53,8 @@ returns-in-Err-Error-clause-reads c = items_fault _ _ _ _ _ _ c.items.invariant 
 
 -- after a call nothing is held
 pub finish_call-requires : goal.finish_call-requires
-finish_call-requires c = call_free _ _ _ _ _ c.in-Ok-Call.call refl
-    (rw c.in-Ok-Call.field-0-is at c.in-Ok-Call.ensures.turns)
+finish_call-requires c = record {
+  free = call_free _ _ _ _ _ c.in-Ok-Call.call refl (rw c.in-Ok-Call.field-0-is at c.in-Ok-Call.ensures.turns);
+  known = line_call_known _ c.items.line.expander c.step_list.new.processor c.items.line.lexer c.step_list.new.list c.in-Ok-Call.call
+      c.items.invariant.stands (rw c.in-Ok-Call.field-0-is at c.in-Ok-Call.ensures.turns) c.in-Ok-Call.ensures.below;
+}

@@ -4,7 +4,11 @@ use Rattle.pp_macros.specs.declared.step.StepExit.TheVariants.{Continue, Finishe
 use Rattle.pp_directives.proofs.LineReadLemmas.{taken_fault}
 use Rattle.pp_directives.proofs.LineTurnLemmas.{next_read}
 use Rattle.pp_macros.proofs.taking.ExpanderLemmas.{next_no_pause}
+use Rattle.pp_directives.proofs.LineKnownLemmas.{line_known}
 use Rattle.pp_directives.proofs.line_words.WordReader.take.Goals as goal
+
+pub take_list-requires : goal.take_list-requires
+take_list-requires c = line_known _ c.args.line.now.expander c.args.line.now.lexer c.requires
 
 pub returns-in-Ok : goal.returns-in-Ok
 returns-in-Ok c = next_read _ _ _ _ _ _ c.requires (Ok c.in-Ok.read) c.in-Ok.ensures.takes refl
