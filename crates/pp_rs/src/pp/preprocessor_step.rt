@@ -2,6 +2,8 @@
 
 ghost use Rattle.std.specs.Prelude.{◌≡◌, [], IfOk};
 ghost use Rattle.pp_macros.specs.inner.CallTurns.{TurnsOrRefuses, TakenHoldsOrdinary};
+ghost use Rattle.pp_macros.specs.inner.Defined.{names_in};
+ghost use Rattle.pp_macros.specs.inner.Nesting.{AreKnown};
 ghost use Rattle.pp_macros.specs.inner.Reader.{of_source};
 
 use pp_directives::directives::DirectiveProcessor;
@@ -14,7 +16,8 @@ pub fn step_source(
     expander: &mut MacroProcessor,
     source: &mut DirectiveProcessor<'_>,
 ) -> Step<Taken>
-    requires { expander.old.below ≡ [] }
+    requires alone { expander.old.below ≡ [] }
+    requires known { AreKnown (names_in source.old.definitions) expander.old }
     ensures turns { TurnsOrRefuses expander.old.here (of_source source.old) result expander.new.here
         (of_source source.new) }
     ensures below { expander.new.below ≡ expander.old.below }

@@ -7,7 +7,9 @@ ghost use Rattle.pp_model.specs.Emitting.{expansion_limit};
 ghost use Rattle.pp_model.specs.Painting.{unpainted};
 ghost use Rattle.pp_model.specs.declared.read.Taken.TheVariants as given;
 ghost use Rattle.pp_macros.specs.Held.{HoldsOrdinary};
+ghost use Rattle.pp_macros.specs.inner.Defined.{names_in};
 ghost use Rattle.pp_macros.specs.inner.Idle.{HoldsWord};
+ghost use Rattle.pp_macros.specs.inner.Nesting.{AreKnown};
 ghost use Rattle.pp_macros.specs.inner.Reader.{of_source};
 ghost use Rattle.pp_rs.specs.inner.SourceTurns.{FollowsCall, StepsOver};
 ghost use Rattle.pp_macros.specs.inner.Turns.{taken_in};
@@ -37,6 +39,7 @@ fn follow_call(
 ) -> Step<Token>
     requires alone { expander.old.below ≡ [] }
     requires free { expander.old.here.held ≡ None }
+    requires known { AreKnown (names_in source.now.definitions) expander.old }
     ensures follows { FollowsCall expansion_limit source.now.definitions call expander.old.here result
         expander.new.here ⊎ (result ≡ Err (Error out_of_memory)) }
     ensures below { expander.new.below ≡ expander.old.below }
@@ -59,7 +62,8 @@ fn turn_expander(
     expander: &mut MacroProcessor,
     source: &mut DirectiveProcessor<'_>,
 ) -> Step<Token>
-    requires { expander.old.below ≡ [] }
+    requires alone { expander.old.below ≡ [] }
+    requires known { AreKnown (names_in source.old.definitions) expander.old }
     ensures turns { StepsOver expansion_limit expander.old.here source.old result expander.new.here source.new }
     ensures below { expander.new.below ≡ expander.old.below }
     ensures holds { IfOk result (λ token. HoldsOrdinary token.value) }
@@ -116,7 +120,8 @@ pub fn turn_source(
     expander: &mut MacroProcessor,
     source: &mut DirectiveProcessor<'_>,
 ) -> Step<Token>
-    requires { expander.old.below ≡ [] }
+    requires alone { expander.old.below ≡ [] }
+    requires known { AreKnown (names_in source.old.definitions) expander.old }
     ensures turns { StepsOver expansion_limit expander.old.here source.old result expander.new.here source.new }
     ensures below { expander.new.below ≡ expander.old.below }
     ensures holds { IfOk result (λ token. HoldsOrdinary token.value) }

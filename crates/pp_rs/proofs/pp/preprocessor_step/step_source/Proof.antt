@@ -29,6 +29,8 @@ use denote.Triple.Walked.{Stays, stay_ref, Goes-ref, ends_at}
 use denote.Triple.Table.{framed}
 use borrow.Pointer.Hide.{hide_mut}
 use denote.Laws.{Is, shows}
+use Rattle.pp_macros.specs.inner.Defined.{names_in}
+use Rattle.pp_macros.specs.inner.Nesting.{AreKnown}
 use Rattle.pp_macros.specs.inner.Reader.{of_source}
 use Rattle.pp_macros.specs.inner.CallTurns.{TurnsOrRefuses, TakenHoldsOrdinary}
 use Rattle.pp_rs.specs.contracts.pp.preprocessor_step.step_source as f
@@ -67,8 +69,8 @@ step_source_spec 𝓤 𝓛 𝓜 𝓡 wired =
     let RefP = λ (κ' : Lft) (x : MutBor P.Denot). (MutRef (named 0) κ' P).own_val x (mut_vals p) in
     let Ref = λ (κ' : Lft) (x : MutBor R.Denot). (MutRef (named 0) κ' R).own_val x (mut_vals r) in
     let Obj = λ (κ' : Lft). MutAny object.name (ty_ref (named 1) mut ty_unit) object.slots lists.own-1 (named 1) κ' in
-    qed 𝓛 (((‵ (flft κp qp) ⊛ ‵ (flft κ q) ⊛ ‵ (flft κ₁ q₁) ⊛ ‵ ftrue) ⊛ ‵ (RefP κp p) ⊛ ‵ (Ref κ r) ⊛ ‵ ftrue) ∷ raw (fact 𝓤 (p.now.below ≡ [])) ∷ []) ∵
-    move ! (1 ∷ []) $ heard ! _ (λ alone. nothing ! $ move ! (1 ∷ []) $
+    qed 𝓛 (((‵ (flft κp qp) ⊛ ‵ (flft κ q) ⊛ ‵ (flft κ₁ q₁) ⊛ ‵ ftrue) ⊛ ‵ (RefP κp p) ⊛ ‵ (Ref κ r) ⊛ ‵ ftrue) ∷ (raw (fact 𝓤 (p.now.below ≡ [])) ⊛ raw (fact 𝓤 (AreKnown (names_in r.now.definitions) p.now))) ∷ []) ∵
+    move ! (1 ∷ []) $ split ! $ heard ! _ (λ alone. heard ! _ (λ known. nothing ! $ move ! (1 ∷ []) $
     split ! $ split ! $ move ! (1 ∷ []) $ split ! $ move ! (1 ∷ []) $ split ! $ move ! (4 ∷ []) $ split ! $ move ! (1 ∷ []) $ split ! $ keep !
     (0 ∷ 2 ∷ 3 ∷ 5 ∷ 6 ∷ []) $
     enter ! _ _ _ _ _ $ alloc_all ! (λ l. pass_all ! refl ((tt, tt), ((tt, tt), tt)) $
@@ -106,7 +108,8 @@ step_source_spec 𝓤 𝓛 𝓜 𝓡 wired =
     ) in
     move ! (2 ∷ []) $ nothing ! $ move ! (1 ∷ 0 ∷ []) $ join ! $ move ! (4 ∷ 0 ∷ []) $ join ! $
     nothing ! $ move ! (2 ∷ 0 ∷ []) $ join ! $ move ! (5 ∷ 0 ∷ []) $ join ! $ join ! $
-    use0 𝓛 (raw (fact 𝓤 (p.now.below ≡ []))) (fact_i 𝓤 (p.now.below ≡ []) (emp 𝓤) alone) $
+    use0 𝓛 (raw (fact 𝓤 (AreKnown (names_in r.now.definitions) p.now))) (fact_i 𝓤 (AreKnown (names_in r.now.definitions) p.now) (emp 𝓤) known) $
+    use0 𝓛 (raw (fact 𝓤 (p.now.below ≡ []))) (fact_i 𝓤 (p.now.below ≡ []) (emp 𝓤) alone) $ join ! $
     move ! (1 ∷ 0 ∷ []) $ use2 𝓛 (raw (G.pre z)) (id⊢ 𝓤 _) $
     calls_at ! (framed 𝓤 𝓛.H 𝓜 (tables 𝓤 𝓛.H 𝓜 𝓡 𝓡.env)) G
     (met 𝓤 𝓛 𝓜 𝓡 (code.calls-pp_macros::macro_processor::MacroProcessor::step 𝓡.env wired) T (Includes-none lists.own-1) (hidden.met-1 𝓤 𝓛 𝓜 𝓡 wired)) z
@@ -138,4 +141,4 @@ step_source_spec 𝓤 𝓛 𝓜 𝓡 wired =
     group ! 3 $ frame ! $ use0 𝓛 (raw (fact 𝓤 (TurnsOrRefuses p.now.here (of_source r.now) u ws.0.here (of_source ws.1.0))))
     (fact_i 𝓤 (TurnsOrRefuses p.now.here (of_source r.now) u ws.0.here (of_source ws.1.0)) (emp 𝓤) turns) $ frame ! $
     use0 𝓛 (raw (fact 𝓤 (ws.0.below ≡ p.now.below))) (fact_i 𝓤 (ws.0.below ≡ p.now.below) (emp 𝓤) below) $ frame ! $
-    use0 𝓛 (raw (fact 𝓤 (IfOk u TakenHoldsOrdinary))) (fact_i 𝓤 (IfOk u TakenHoldsOrdinary) (emp 𝓤) holds) $ done !))))))))))))))
+    use0 𝓛 (raw (fact 𝓤 (IfOk u TakenHoldsOrdinary))) (fact_i 𝓤 (IfOk u TakenHoldsOrdinary) (emp 𝓤) holds) $ done !)))))))))))))))

@@ -3,6 +3,8 @@ use Rattle.std.proofs.lemmas.Result.{err_from_is_err_and}
 use Rattle.pp_model.specs.Emitting.{expansion_limit}
 use Rattle.pp_macros.specs.inner.Nesting.{MacroProcessor}
 use Rattle.pp_rs.proofs.runs.IdleLemmas.{idle_exit, idle_token, idle_fault, idle_word}
+use Rattle.pp_macros.specs.inner.Expander.{Expander}
+use Rattle.pp_macros.proofs.open_frames.KnownLemmas.{idle_known}
 use Rattle.pp_macros.proofs.taking.ExpanderLemmas.{is_idle-idle}
 use Rattle.pp_rs.proofs.pp.source_turn.turn_source.Goals as goal
 use Rattle.pp_rs.proofs.pp.source_turn.turn_source.Goals.{then-is_idle+in_ok-token+else-gives_itself+in_ok-hold_word, else-is_idle}
@@ -42,8 +44,14 @@ returns-clause-turns c = elim c.if-is_idle.branch [
 -- nothing is around
 pub turn_expander-requires : goal.turn_expander-requires
 turn_expander-requires c = elim c.if-is_idle.branch [
-  | then-is_idle+in_ok-token+else-gives_itself+in_ok-hold_word w ↦ rw w.expander-is (w.hold_word.ensures.below ∙ c.requires)
-  | else-is_idle w ↦ rw w.expander-is c.requires
+  | then-is_idle+in_ok-token+else-gives_itself+in_ok-hold_word w ↦
+      let idle = is_idle-idle _ (sym c.is_idle.ensures ∙ w.if-is_idle.true) in
+      let alone = w.hold_word.ensures.below ∙ c.requires.alone in
+      rw (w.expander-is, w.source-is) (record {
+        alone = alone;
+        known = idle_known _ w.hold_word.new.expander (ap (λ (m : Expander). m.frames) w.in_ok-hold_word.ensures.holds.holds ∙ ap (λ (m : Expander). m.frames) idle) alone;
+      })
+  | else-is_idle w ↦ rw (w.expander-is, w.source-is) c.requires
 ]
 
 pub returns-clause-below : goal.returns-clause-below

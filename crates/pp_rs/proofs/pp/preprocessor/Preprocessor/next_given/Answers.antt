@@ -2,7 +2,8 @@ use Rattle.std.proofs.Common.{◌≡◌, ◌∙◌, ℕ, List, Option, Some, Non
 use Rattle.pp_model.specs.declared.read.Read.{Read}
 use Rattle.pp_macros.specs.Item.{Step}
 use Rattle.pp_macros.specs.inner.Expander.{Expander}
-use Rattle.pp_macros.specs.inner.Frames.{Frame, outermost_frame_line}
+use Rattle.pp_macros.specs.inner.Frames.{Frame, names_of, outermost_frame_line}
+use Rattle.pp_macros.proofs.open_frames.KnownLemmas.{alone_known}
 use Rattle.pp_rs.specs.Kept.{is_spent, kept_line}
 use Rattle.pp_rs.proofs.runs.NextLemmas.{reached_first, token_fits, next_token, next_refused}
 use Rattle.pp_rs.proofs.runs.PausesLemmas.{reached_on, given_over}
@@ -18,7 +19,8 @@ unfolding is_spent
 give_next-requires c =
     let fresh : c.args.self.now.spent ≡ false = c.requires in
     let now_fresh : c.self.inside.spent ≡ false = ap (λ p. p.spent) c.self.view_is ∙ fresh in
-    record { sound = (c.self.invariant.0 now_fresh).0.sound; waits = c.self.invariant.2 }
+    let sound = (c.self.invariant.0 now_fresh).0.sound in
+    record { sound = sound; waits = c.self.invariant.2; known = alone_known _ c.self.inside.expander sound.numbers (ap names_of c.self.invariant.2) }
 
 pub invariant_of-self : goal.invariant_of-self
 invariant_of-self c = (

@@ -2,7 +2,8 @@ use Rattle.std.proofs.Common.{◌≡◌, ◌∙◌, refl, ap, sym, false, arith,
 use Rattle.std.proofs.lemmas.Bool.{false≢true}
 use Rattle.pp_macros.specs.Item.{is_out_of_memory}
 use Rattle.pp_macros.specs.inner.Expander.{Expander}
-use Rattle.pp_macros.specs.inner.Frames.{Frame, outermost_frame_line}
+use Rattle.pp_macros.specs.inner.Frames.{Frame, names_of, outermost_frame_line}
+use Rattle.pp_macros.proofs.open_frames.KnownLemmas.{alone_known}
 use Rattle.pp_macros.specs.Item.{Step}
 use Rattle.pp_model.specs.declared.read.Read.{Read}
 use Rattle.pp_rs.specs.Kept.{kept_line}
@@ -22,6 +23,11 @@ loop-token-init c = record {
   alone = c.self.invariant.2;
   reached = reached_first _ _ _ _ (ap (λ p. p.expander) c.self.view_is) (ap (λ p. p.source) c.self.view_is) (c.self.invariant.0 c.if-self.false);
 }
+
+pub turn_source-requires-clause-known : goal.turn_source-requires-clause-known
+turn_source-requires-clause-known c =
+    let on = reached_on _ _ _ _ c.loop-token.invariant.reached _ (rw c.in-Ok-None.field-0-is at (c.in-Ok-None.ensures {u = tt}).gives) in
+    alone_known _ c.give_next.new.self on.reached.fit.sound.numbers (ap names_of (c.give_next.ensures.below ∙ c.loop-token.invariant.alone))
 
 pub loop-token-smaller : goal.loop-token-smaller
 loop-token-smaller c =
