@@ -1,23 +1,19 @@
 //! Calls of function-like macros: taking, and the search for their arguments.
 
-ghost use Rattle.std.specs.Prelude.{◌≡◌, ◌⊎◌, ◌∷◌, ◌++◌, if◌then◌else◌, [], OnOk, true, false, IfOk, IfSome};
-ghost use Rattle.std.specs.Prelude.{Ok, Err, Some, None, IsSome, is_some, option_map};
+ghost use Rattle.std.specs.Prelude.{◌≡◌, ◌⊎◌, if◌then◌else◌, [], OnOk, true, IfOk, IfSome};
+ghost use Rattle.std.specs.Prelude.{Err, None, option_map};
 ghost use Rattle.pp_lexer.specs.PreprocessorError.{out_of_memory};
-ghost use Rattle.pp_model.specs.Painting.{unpainted};
-ghost use Rattle.pp_macros.specs.inner.Seeking.{FindsBy, Enters, FollowsToken};
-ghost use Rattle.pp_macros.specs.inner.Frames.{new_frame, names_of, outermost_frame_line};
+ghost use Rattle.pp_macros.specs.inner.Seeking.{Enters, FollowsToken};
 ghost use Rattle.pp_macros.specs.Held.{HoldsOrdinary};
 ghost use Rattle.pp_macros.specs.inner.Reading.{AllReadOrdinary};
-ghost use Rattle.pp_macros.specs.inner.Idle.{is_idle};
 ghost use Rattle.pp_macros.specs.inner.CallTurns.{TurnsOrRefuses, is_out_of_memory_step, paren_of, TakenHoldsOrdinary};
-ghost use Rattle.pp_macros.specs.inner.Expander.{StepsFetching, StepsTaking, TakesNext, TakesOnto, TakesRun, TakesUpTo};
-ghost use Rattle.pp_macros.specs.inner.Expander.{GathersNext, Satisfies, place_after, gathered_to, taken_as, is_pause};
+ghost use Rattle.pp_macros.specs.inner.Expander.{StepsFetching, StepsTaking, TakesNext, TakesOnto, TakesRun};
+ghost use Rattle.pp_macros.specs.inner.Expander.{GathersNext, Satisfies, place_after, gathered_to, is_pause};
 ghost use Rattle.pp_macros.specs.inner.Defined.{AreNumbered, names_in, numbered_by};
 ghost use Rattle.pp_macros.specs.inner.Nesting.{AreKnown, MayWait, seen_by};
 ghost use Rattle.pp_macros.specs.inner.Reader.{definitions_of};
 ghost use Rattle.pp_macros.specs.inner.Turns.{macro_of, macro_of_value, Opens};
-ghost use Rattle.pp_lexer.specs.declared.token.TokenValue.TheVariants as value;
-ghost use Rattle.pp_macros.specs.declared.step.StepExit.TheVariants.{Error, Continue, Finished};
+ghost use Rattle.pp_macros.specs.declared.step.StepExit.TheVariants.{Error, Finished};
 ghost use Rattle.pp_macros.specs.declared.halt.Halt.TheVariants as halt;
 ghost use Rattle.pp_lexer.specs.declared.token.PreprocessorError.TheVariants.{UnexpectedEndOfInput};
 
@@ -25,7 +21,7 @@ mod giving;
 
 use crate::define::Macro;
 use crate::halt::{Halt, halt_of};
-use crate::macro_processor::{MacroProcessor, gives_line_name};
+use crate::macro_processor::MacroProcessor;
 use crate::reader::MeLexer;
 use crate::step::{Step, StepExit, is_out_of_memory};
 use pp_lexer::token::{Location, PreprocessorError, Text, Token, TokenValue, out_of_memory};
@@ -103,33 +99,6 @@ pub enum Taken {
     Call(MacroCall),
 }
 
-/// The tokens between the parentheses of a call, and the place of the closing one.
-#[derive(Drop)]
-pub struct Gathered {
-    tokens: Vec<Read>,
-    closing: Location,
-}
-
-impl Model for Gathered {
-    ghost use Rattle.pp_model.specs.Calls as spec;
-    ghost use Rattle.pp_macros.specs.inner.Reading.{AllReadOrdinary};
-
-    ghost Value = { spec.Gathered };
-
-    ghost view = { λ g. record { tokens = g.tokens.items; closing = g.closing } };
-
-    ghost invariant = { λ g. AllReadOrdinary g.tokens.items };
-}
-
-/// What follows the name of a function-like macro.
-#[derive(Drop)]
-pub enum AfterName {
-    /// No call.
-    NoCall,
-    /// A call, with the place of its `(`.
-    Whole(Location, Gathered),
-}
-
 // Whether an allocation failed.
 fn is_out_of_memory_step(step: &Step<Read>) -> bool
     ensures { result ≡ is_out_of_memory_step step.now }
@@ -168,14 +137,6 @@ fn is_pause(step: &Step<Read>) -> bool
         Err(StepExit::Finished) => false,
         Ok(_) => false,
     }
-}
-
-// The step `OutOfMemory`. It is a function of its own, so that a token is moved without it.
-#[inline(never)]
-fn out_of_memory_step() -> Step<Taken>
-    ensures { result ≡ Err (Error out_of_memory) }
-{
-    Err(StepExit::Error(out_of_memory()))
 }
 
 // The macro that a token with this value opens when it is taken, painted or not.
@@ -248,24 +209,8 @@ impl MacroProcessor {
         if self.is_holding() {
             return self.take_held();
         }
-        let step = self.step_frames(lexer);
-        if gives_line_name(&step) {
-            return self.show_line(&*lexer, step);
-        }
-        step
-    }
-
-    // Turns a `__LINE__` that was read into a number.
-    #[inline(never)]
-    fn show_line(&self, lexer: &dyn MeLexer, step: Step<Read>) -> Step<Read>
-        requires { IfOk step (λ read. HoldsOrdinary read.token.value) }
-        ensures shows { result ≡ taken_as step self.now.here.frames (reader lexer.now) }
-        ensures holds { IfOk result (λ read. HoldsOrdinary read.token.value) }
-    {
-        match step {
-            Ok(read) => self.take_in(lexer, read),
-            Err(exit) => Err(exit),
-        }
+        let read = self.step_frames(lexer)?;
+        self.take_in(&*lexer, read)
     }
 
     /// Takes the next step that isn't a pause.
@@ -298,26 +243,8 @@ impl MacroProcessor {
         ensures kept { result ≡ Err Finished → tokens.new.items ≡ tokens.old.items }
     {
         let read = self.take_next(lexer)?;
-        match tokens.push(read) {
-            Ok(()) => Ok(()),
-            Err(_) => Err(StepExit::Error(out_of_memory())),
-        }
-    }
-
-    // Puts tokens that are no parentheses after the tokens, and then a parenthesis if one follows, while the reader has
-    // them at once. Returns whether it came to one.
-    fn push_flat(&self, lexer: &mut dyn MeLexer, tokens: &mut Vec<Read>) -> Result<bool, AllocError>
-        requires waits { MayWait self.now.below (reader lexer.old) }
-        requires known { AreKnown (names_in (definitions_of (reader lexer.old))) self.now }
-        requires idle { is_idle self.now.here ≡ true }
-        ensures takes { IfOk result (λ found. TakesUpTo self.now.here (seen_by self.now.below (reader lexer.old))
-            tokens.old.items found (seen_by self.now.below (reader lexer.new)) tokens.new.items) }
-        ensures waits { IfOk result (λ _. MayWait self.now.below (reader lexer.new)) }
-    {
-        let start = tokens.len();
-        let found = lexer.push_flat(tokens)?;
-        self.paint_from(&*lexer, tokens, start);
-        Ok(found)
+        tokens.push(read)?;
+        Ok(())
     }
 
     // Takes tokens that are no parentheses, and then one more, and puts them after the tokens. If no macro is open and
@@ -333,34 +260,18 @@ impl MacroProcessor {
         if !self.is_idle() {
             return self.push_next(lexer, tokens);
         }
-        match self.push_flat(lexer, tokens) {
-            Ok(true) => Ok(()),
-            Ok(false) => self.push_next(lexer, tokens),
-            Err(_) => Err(StepExit::Error(out_of_memory())),
+        let start = tokens.len();
+        let found = lexer.push_flat(tokens)?;
+        self.paint_from(&*lexer, tokens, start);
+        if found {
+            return Ok(());
         }
+        self.push_next(lexer, tokens)
     }
 
-    // The tokens up to the `)` of a call whose `(` is at `paren`, or the first fault before it.
+    // Gathers the tokens of a call whose `(` is at `paren`, and returns the place of its `)`, or the first fault before
+    // it.
     fn gather(
-        &mut self,
-        lexer: &mut dyn MeLexer,
-        room: usize,
-        paren: Location,
-    ) -> Result<Gathered, Halt>
-        requires waits { MayWait self.old.below (reader lexer.old) }
-        requires known { AreKnown (names_in (definitions_of (reader lexer.old))) self.old }
-        ensures gathers { Satisfies result (λ g. GathersNext 0 paren
-            self.old.here (seen_by self.old.below (reader lexer.old)) g
-            self.new.here (seen_by self.new.below (reader lexer.new))) }
-        ensures below { self.new.below ≡ self.old.below }
-    {
-        let mut tokens = self.take_tokens(room)?;
-        let closing = self.gather_tokens(lexer, paren, &mut tokens)?;
-        Ok(Gathered { tokens, closing })
-    }
-
-    // Gathers the tokens of a call, and returns the place of its `)`.
-    fn gather_tokens(
         &mut self,
         lexer: &mut dyn MeLexer,
         paren: Location,
@@ -400,86 +311,43 @@ impl MacroProcessor {
         }
     }
 
-    // Looks for a call after the name of a function-like macro. Anything else is held.
-    fn seek(&mut self, lexer: &mut dyn MeLexer, room: usize) -> Result<AfterName, Halt>
-        requires waits { MayWait self.old.below (reader lexer.old) }
-        requires known { AreKnown (names_in (definitions_of (reader lexer.old))) self.old }
-        ensures finds { FindsBy self.old.here (seen_by self.old.below (reader lexer.old)) result
-            self.new.here (seen_by self.new.below (reader lexer.new)) }
-        ensures below { self.new.below ≡ self.old.below }
-    {
-        let next = self.take_next(lexer);
-        if is_out_of_memory_step(&next) {
-            drop(next);
-            return Err(Halt::OutOfMemory);
-        }
-        match paren_of(&next) {
-            None => {
-                self.put_back(next);
-                Ok(AfterName::NoCall)
-            }
-            Some(paren) => {
-                drop(next);
-                let gathered = self.gather(lexer, room, paren)?;
-                Ok(AfterName::Whole(paren, gathered))
-            }
-        }
-    }
-
-    // Opens the frame of an object-like macro, as a step.
-    fn open_plain(&mut self, opened: Rc<Macro>, line: u32) -> Step<Taken>
-        ensures opens { ((result ≡ Err Continue) × (self.new.here ≡ record self.old.here {
-          frames = new_frame opened.value line []
-              ∷ self.old.here.frames;
-        }))
-            ⊎ (result ≡ Err (Error out_of_memory)) }
-        ensures below { self.new.below ≡ self.old.below }
-        ensures holds { IfOk result TakenHoldsOrdinary }
-    {
-        match self.open_bare(opened, line) {
-            Ok(()) => Err(StepExit::Continue),
-            Err(_) => Err(StepExit::Error(out_of_memory())),
-        }
-    }
-
-    // Looks for the call of a function-like macro after its name.
+    // Looks for the call of a function-like macro after its name. Anything else is held, and the name is given.
     fn enter_call(
         &mut self,
         lexer: &mut dyn MeLexer,
-        name: Text,
-        location: Location,
+        read: Read,
         opened: Rc<Macro>,
     ) -> Step<Taken>
         requires function { opened.value.definition.function_like ≡ true }
         requires waits { MayWait self.old.below (reader lexer.old) }
         requires known { AreKnown (names_in (definitions_of (reader lexer.old))) self.old }
-        ensures enters { Enters (unpainted (record {
-          value = value.Ident name;
-          location = location;
-        })) opened.value
+        requires holds { HoldsOrdinary read.token.value }
+        ensures enters { Enters read opened.value
             self.old.here (seen_by self.old.below (reader lexer.old)) result
             self.new.here (seen_by self.new.below (reader lexer.new))
             ⊎ (result ≡ Err (Error out_of_memory)) }
         ensures below { self.new.below ≡ self.old.below }
         ensures holds { IfOk result TakenHoldsOrdinary }
     {
-        let room = room_for(&opened);
-        match self.seek(lexer, room)? {
-            AfterName::NoCall => Ok(Taken::Token(Read::unpainted(Token {
-                value: TokenValue::Ident(name),
-                location,
-            }))),
-            AfterName::Whole(paren, gathered) => {
-                let Gathered { tokens, closing } = gathered;
-                drop(name);
-                Ok(Taken::Call(MacroCall {
-                    opened,
-                    paren,
-                    closing,
-                    tokens,
-                }))
-            }
+        let next = self.take_next(lexer);
+        if is_out_of_memory_step(&next) {
+            drop(next);
+            return Err(StepExit::Error(out_of_memory()));
         }
+        let Some(paren) = paren_of(&next) else {
+            self.put_back(next);
+            return Ok(Taken::Token(read));
+        };
+        drop(next);
+        drop(read);
+        let mut tokens = self.take_tokens(room_for(&opened))?;
+        let closing = self.gather(lexer, paren, &mut tokens)?;
+        Ok(Taken::Call(MacroCall {
+            opened,
+            paren,
+            closing,
+            tokens,
+        }))
     }
 
     // Opens the macro of a name that is taken, or begins its call.
@@ -496,18 +364,13 @@ impl MacroProcessor {
         ensures below { self.new.below ≡ self.old.below }
         ensures holds { IfOk result TakenHoldsOrdinary }
     {
-        let Token { value, location } = read.token;
-        match value {
-            TokenValue::Ident(name) => {
-                if opened.is_function_like() {
-                    self.enter_call(lexer, name, location, opened)
-                } else {
-                    drop(name);
-                    self.open_plain(opened, location.line)
-                }
-            }
-            value => Ok(Taken::Token(Read::unpainted(Token { value, location }))),
+        if opened.is_function_like() {
+            return self.enter_call(lexer, read, opened);
         }
+        let line = read.token.location.line;
+        drop(read);
+        self.open_bare(opened, line)?;
+        Err(StepExit::Continue)
     }
 
     // Follows a token that is taken: it opens its macro, begins its call, or is given.
@@ -523,11 +386,10 @@ impl MacroProcessor {
         ensures below { self.new.below ≡ self.old.below }
         ensures holds { IfOk result TakenHoldsOrdinary }
     {
-        match find_macro(&*lexer, &read.token.value, read.painted) {
-            Ok(None) => Ok(Taken::Token(read)),
-            Ok(Some(opened)) => self.enter(lexer, read, opened),
-            Err(_) => out_of_memory_step(),
-        }
+        let Some(opened) = find_macro(&*lexer, &read.token.value, read.painted)? else {
+            return Ok(Taken::Token(read));
+        };
+        self.enter(lexer, read, opened)
     }
 
     /// One step: takes a token, which is given, opens its macro, or begins a call that is gathered.
@@ -539,9 +401,7 @@ impl MacroProcessor {
         ensures below { self.new.below ≡ self.old.below }
         ensures holds { IfOk result TakenHoldsOrdinary }
     {
-        match self.take(lexer) {
-            Ok(read) => self.follow(lexer, read),
-            Err(exit) => Err(exit),
-        }
+        let read = self.take(lexer)?;
+        self.follow(lexer, read)
     }
 }

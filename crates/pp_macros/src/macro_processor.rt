@@ -2,13 +2,12 @@
 
 ghost use Rattle.std.specs.Prelude.{List, ◌≡◌, ◌==◌, ◌≤◌, ◌<◌, ◌∷◌, ◌++◌, [], ℕ, drop, length, IfOk, IfSome, OnErr};
 ghost use Rattle.std.specs.Prelude.{OnOk, MatchOption, MatchResult, Ok, Err, Some, None, IsSome, option_map, is_some};
-ghost use Rattle.std.specs.Prelude.{pos, false, true, slice_index_or};
+ghost use Rattle.std.specs.Prelude.{pos, false, true, slice_index_or, unwrap_or};
 ghost use Rattle.std.specs.List.{list_any};
-ghost use Rattle.pp_lexer.specs.declared.token.PreprocessorError.TheVariants.{LineOverflow};
 ghost use Rattle.pp_lexer.specs.declared.token.TokenValue.TheVariants as value;
 ghost use Rattle.pp_model.specs.Names.{Name};
 ghost use Rattle.pp_model.specs.Painting.{is_one_of, painted_among, unpainted};
-ghost use Rattle.pp_model.specs.declared.read.Taken.TheVariants as given;
+ghost use Rattle.pp_model.specs.Taking.{line_number};
 ghost use Rattle.pp_macros.specs.inner.Frames as spec;
 ghost use Rattle.pp_macros.specs.inner.Frames.{new_frame, outermost_frame_line};
 ghost use Rattle.pp_macros.specs.Held.{HoldsOrdinary};
@@ -18,10 +17,10 @@ ghost use Rattle.pp_macros.specs.inner.Defined.{AreNumbered, names_in, number_in
 ghost use Rattle.pp_macros.specs.inner.Left.{HaveNumbers};
 ghost use Rattle.pp_macros.specs.inner.Idle.{is_idle};
 ghost use Rattle.pp_macros.specs.inner.Nesting.{AreKnown, nothing_open, open_names, stepped, with_frames};
-ghost use Rattle.pp_macros.specs.inner.Reader.{definitions_of};
+ghost use Rattle.pp_macros.specs.inner.Reader.{definitions_of, shown_line};
 ghost use Rattle.pp_macros.specs.inner.Reading.{painted_from};
-ghost use Rattle.pp_macros.specs.inner.Turns.{Moves, taken_in, gives_line_name};
-ghost use Rattle.pp_macros.specs.declared.step.StepExit.TheVariants.{Error, Continue};
+ghost use Rattle.pp_macros.specs.inner.Expander.{step_of_outcome, taken_as};
+ghost use Rattle.pp_macros.specs.inner.Turns.{Moves};
 
 use crate::argument_lists::{ArgumentLists, Part};
 use crate::calls::MacroCall;
@@ -137,16 +136,6 @@ fn keep_lists(spares: &mut Spares, frame: Frame) {
     }
     spares.keep_tokens(tokens);
     spares.keep_parts(parts);
-}
-
-/// Whether the step gives `__LINE__`.
-pub fn gives_line_name(step: &Step<Read>) -> bool
-    ensures { result ≡ gives_line_name step.now }
-{
-    match step {
-        Ok(read) => is_line_name(&read.token.value),
-        Err(_) => false,
-    }
 }
 
 /// A line number as an unsigned integer at this place.
@@ -489,13 +478,10 @@ impl MacroProcessor {
     }
 
     /// Takes a token: `__LINE__` becomes a number at once.
+    #[inline(always)]
     pub fn take_in(&self, lexer: &dyn MeLexer, read: Read) -> Step<Read>
         requires { HoldsOrdinary read.token.value }
-        ensures taken { MatchResult result
-            (λ taken. taken_in self.now.here.frames (reader lexer.now) read ≡ given.Token taken)
-            (λ exit. (exit ≡ Error (LineOverflow, read.token.location))
-            × (taken_in self.now.here.frames (reader lexer.now) read
-            ≡ given.Fault (LineOverflow, read.token.location))) }
+        ensures taken { result ≡ taken_as (Ok read) self.now.here.frames (reader lexer.now) }
         ensures holds { IfOk result (λ read. HoldsOrdinary read.token.value) }
     {
         if !is_line_name(&read.token.value) {
@@ -503,6 +489,17 @@ impl MacroProcessor {
         }
         let location = read.token.location;
         drop(read);
+        self.show_line(lexer, location)
+    }
+
+    // The number that `__LINE__` at this place becomes. It is a function of its own, so that other tokens are moved
+    // without it.
+    #[inline(never)]
+    fn show_line(&self, lexer: &dyn MeLexer, location: Location) -> Step<Read>
+        ensures shows { result ≡ step_of_outcome (line_number location (shown_line (reader lexer.now)
+            (unwrap_or (outermost_frame_line self.now.here.frames) location.line))) }
+        ensures holds { IfOk result (λ read. HoldsOrdinary read.token.value) }
+    {
         let line = self.outermost_line().unwrap_or(location.line);
         let shown = lexer.apply_line_offset(line, location)?;
         Ok(Read::unpainted(make_line_number(shown, location)))

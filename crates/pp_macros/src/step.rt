@@ -4,8 +4,8 @@ ghost use Rattle.std.specs.Prelude.{◌≡◌, MatchResult};
 ghost use Rattle.pp_lexer.specs.PreprocessorError.{out_of_memory};
 ghost use Rattle.pp_macros.specs.Item.{is_out_of_memory};
 
-use pp_lexer::token::{Location, PreprocessorError};
-use std::alloc::Global;
+use pp_lexer::token::{Location, PreprocessorError, out_of_memory};
+use std::alloc::{AllocError, AllocFailed, Global};
 
 /// A value, or the reason why a step gives none.
 pub type Step<T> = Result<T, StepExit>;
@@ -26,6 +26,33 @@ pub fn is_out_of_memory(error: &PreprocessorError) -> bool
     ensures { result ≡ is_out_of_memory error.now }
 {
     matches!(error, PreprocessorError::OutOfMemory)
+}
+
+impl From<AllocError> for StepExit {
+    ghost use Rattle.std.specs.Prelude.{◌≡◌};
+    ghost use Rattle.pp_lexer.specs.PreprocessorError.{out_of_memory};
+    ghost use Rattle.pp_macros.specs.declared.step.StepExit.TheVariants.{Error};
+
+    ghost from_gives = { λ error exit. exit ≡ Error out_of_memory };
+
+    // It is a function of its own, so that a token is moved without it.
+    #[inline(never)]
+    fn from(_error: AllocError) -> Self {
+        StepExit::Error(out_of_memory())
+    }
+}
+
+impl<T: Drop> From<AllocFailed<T>> for StepExit {
+    ghost use Rattle.std.specs.Prelude.{◌≡◌};
+    ghost use Rattle.pp_lexer.specs.PreprocessorError.{out_of_memory};
+    ghost use Rattle.pp_macros.specs.declared.step.StepExit.TheVariants.{Error};
+
+    ghost from_gives = { λ error exit. exit ≡ Error out_of_memory };
+
+    #[inline(never)]
+    fn from(_error: AllocFailed<T>) -> Self {
+        StepExit::Error(out_of_memory())
+    }
 }
 
 impl StepExit {

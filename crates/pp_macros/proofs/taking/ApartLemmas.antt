@@ -54,7 +54,7 @@ list_ends m l waits none =
     let reads : Reads (of_list l) (Err Finished) (of_list l) = inl (ap listed_step (sym none), same) in
     let steps : StepsTaking m (of_list l) (Err Finished) m (of_list l) = record {
       first = Err Finished;
-      fetches = fetches_step m m.held m.held m.frames m.frames (Err Finished) (of_list l) (of_list l) refl held held
+      fetches = fetches_step m m.held m.held m.frames m.frames (Err Finished) (Err Finished) (of_list l) (of_list l) refl held held
           (subst (λ (fs : List Frame). Moves fs (of_list l) (Err Finished) fs (of_list l)) (sym frames) (refl, reads)) refl;
       paints = refl;
     } in

@@ -22,7 +22,7 @@ use Rattle.pp_model.specs.Names.{is_identifier, line_name}
 use Rattle.pp_model.specs.Painting.{painted_among}
 use Rattle.pp_macros.specs.inner.Reading.{painted_step}
 use Rattle.pp_macros.proofs.work.SpendLemmas.{step_spends, next_spends, total_one_more}
-use Rattle.pp_macros.specs.inner.Turns.{Moves, taken_in, gives_line_name, masks}
+use Rattle.pp_macros.specs.inner.Turns.{Moves, masks}
 use Rattle.pp_macros.specs.declared.step.StepExit.TheVariants.{Error, Continue, Finished}
 
 -- what is held comes first
@@ -33,33 +33,13 @@ pub none_held : (o : Option (Step Read)) → is_some o ≡ false → o ≡ None
 none_held None e = refl
 none_held (Some step) e = cc
 
--- a step of the frames or the reader that gives no `__LINE__`
-pub fetches_step : (m : Expander) (old new : Option (Step Read)) (frames after : List Frame) (move : Step Read) (r s : Reader)
-    → m ≡ record { held = old; frames = frames } → old ≡ None → new ≡ None
-    → Moves frames r move after s → gives_line_name move ≡ false → StepsFetching m r move (record { held = new; frames = after }) s
-fetches_step m old new frames after move r s e f g moves is =
-    moved move move m (record { held = new; frames = after }) r s (ap (λ (k : Expander). k.held) e ∙ f)
-    (subst (λ (fs : List Frame). Moves fs r move after s) (sym (ap (λ (k : Expander). k.frames) e)) moves) (same move is) g
-  where
-    same : (step : Step Read) → gives_line_name step ≡ false → step ≡ taken_as step after s
-    same (Ok read) apart = rw apart refl
-    same (Err exit) apart = refl
-
 -- what a step of the frames or the reader is once it comes first
-pub fetches_shown : (m : Expander) (old new : Option (Step Read)) (frames after : List Frame) (move step : Step Read) (r s : Reader)
+pub fetches_step : (m : Expander) (old new : Option (Step Read)) (frames after : List Frame) (move step : Step Read) (r s : Reader)
     → m ≡ record { held = old; frames = frames } → old ≡ None → new ≡ None
     → Moves frames r move after s → step ≡ taken_as move after s → StepsFetching m r step (record { held = new; frames = after }) s
-fetches_shown m old new frames after move step r s e f g moves is =
+fetches_step m old new frames after move step r s e f g moves is =
     moved move step m (record { held = new; frames = after }) r s (ap (λ (k : Expander). k.held) e ∙ f)
     (subst (λ (fs : List Frame). Moves fs r move after s) (sym (ap (λ (k : Expander). k.frames) e)) moves) is g
-
--- a token that is taken
-pub shows_token : (frames : List Frame) (reader : Reader) (read : Read) (step : Step Read)
-    → MatchResult step (λ taken. taken_in frames reader read ≡ given.Token taken)
-    (λ exit. (exit ≡ Error (LineOverflow, read.token.location)) × (taken_in frames reader read ≡ given.Fault (LineOverflow, read.token.location)))
-    → step ≡ taken_as (Ok read) frames reader
-shows_token frames reader read (Ok t) h = ap step_of_outcome (sym h)
-shows_token frames reader read (Err exit) h = ap Err h.0 ∙ ap step_of_outcome (sym h.1)
 
 abbrev pub idle : Expander
 idle = record { held = None; frames = [] }
@@ -82,8 +62,8 @@ idle_paints m r s read waits reads apart =
     let frames = ap (λ (k : Expander). k.frames) none in
     record {
       first = Ok read;
-      fetches = fetches_step m m.held m.held m.frames m.frames (Ok read) r s refl held held
-          (subst (λ (fs : List Frame). Moves fs r (Ok read) fs s) (sym frames) (refl, reads)) apart;
+      fetches = fetches_step m m.held m.held m.frames m.frames (Ok read) (Ok read) r s refl held held
+          (subst (λ (fs : List Frame). Moves fs r (Ok read) fs s) (sym frames) (refl, reads)) (rw apart refl);
       paints = subst (λ (fs : List Frame). Ok (painted_among (hidden_of s) read) ≡ painted_step (masks fs s) (Ok read)) (sym frames) refl;
     }
 

@@ -16,8 +16,8 @@ use Rattle.pp_macros.specs.inner.Frames.{Frame, names_of, outermost_frame_line}
 use Rattle.pp_macros.specs.inner.Idle.{is_idle}
 use Rattle.pp_macros.specs.inner.Nesting.{MacroProcessor, MayWait, listed_in, open_names, seen_by, with_frames}
 use Rattle.pp_macros.specs.inner.Reader.{Reader, Reads, of_source, of_list, hidden_of, shown_line, definitions_of}
-use Rattle.pp_macros.specs.inner.Turns.{Moves, Opens, gives_line_name, macro_of, macro_of_value, masks}
-use Rattle.pp_macros.proofs.taking.ExpanderLemmas.{fetches_held, fetches_shown, fetches_step, is_idle-idle}
+use Rattle.pp_macros.specs.inner.Turns.{Moves, Opens, macro_of, macro_of_value, masks}
+use Rattle.pp_macros.proofs.taking.ExpanderLemmas.{fetches_held, fetches_step, is_idle-idle}
 
 -- what is read doesn't depend on what is around
 pub reads_seen : (below : List Frame) (r s : Reader) (step : Step Read) → Reads r step s → Reads (seen_by below r) step (seen_by below s)
@@ -106,18 +106,10 @@ held_fetched m n step r holds left =
     subst (λ (p : MacroProcessor). StepsFetching m.here (seen_by m.below r) step p.here (seen_by p.below r)) (sym left)
     (fetches_held m.here (record m.here { held = None }) step (seen_by m.below r) holds refl)
 
--- a step of the frames or the reader comes first, if it gives no `__LINE__`
-pub step_fetched : (m n : MacroProcessor) (step : Step Read) (r s : Reader) → m.here.held ≡ None → Moves m.here.frames r step n.here.frames s
-    → n ≡ with_frames m n.here.frames → gives_line_name step ≡ false → StepsFetching m.here (seen_by m.below r) step n.here (seen_by n.below s)
-step_fetched m n step r s free moves others apart =
-    subst (λ (p : MacroProcessor). StepsFetching m.here (seen_by m.below r) step p.here (seen_by p.below s)) (sym others)
-    (fetches_step m.here m.here.held m.here.held m.here.frames n.here.frames step (seen_by m.below r) (seen_by m.below s) refl free free
-    (moves_seen m.below m.here.frames n.here.frames r s step moves) apart)
-
--- or what it is once it is taken
-pub shown_fetched : (m n : MacroProcessor) (move step : Step Read) (r s : Reader) → m.here.held ≡ None → Moves m.here.frames r move n.here.frames s
+-- a step of the frames or the reader comes first, as it is once it is taken
+pub step_fetched : (m n : MacroProcessor) (move step : Step Read) (r s : Reader) → m.here.held ≡ None → Moves m.here.frames r move n.here.frames s
     → n ≡ with_frames m n.here.frames → step ≡ taken_as move n.here.frames s → StepsFetching m.here (seen_by m.below r) step n.here (seen_by n.below s)
-shown_fetched m n move step r s free moves others shows =
+step_fetched m n move step r s free moves others shows =
     subst (λ (p : MacroProcessor). StepsFetching m.here (seen_by m.below r) step p.here (seen_by p.below s)) (sym others)
-    (fetches_shown m.here m.here.held m.here.held m.here.frames n.here.frames move step (seen_by m.below r) (seen_by m.below s) refl free free
+    (fetches_step m.here m.here.held m.here.held m.here.frames n.here.frames move step (seen_by m.below r) (seen_by m.below s) refl free free
     (moves_seen m.below m.here.frames n.here.frames r s move moves) (shows ∙ sym (taken_seen m.below n.here.frames s move)))

@@ -1,6 +1,6 @@
 -- The search after a name, as the code makes it.
 use Rattle.std.proofs.Common.{◌≡◌, ◌∙◌, ◌⊎◌, inl, inr, refl, sym, ap, subst, Option, Some, None, true, false, [], ◌∷◌}
-use Rattle.std.specs.Prelude.{Bool, Result, Ok, Err, if◌then◌else◌}
+use Rattle.std.specs.Prelude.{Bool, List, Ok, Err, if◌then◌else◌}
 use Rattle.pp_lexer.specs.declared.token.Location.{Location}
 use Rattle.pp_model.specs.declared.read.Read.{Read}
 use Rattle.pp_model.specs.Painting.{unpainted}
@@ -25,49 +25,35 @@ use Rattle.pp_macros.specs.declared.calls.Taken.{Taken}
 use Rattle.pp_macros.specs.declared.calls.Taken.TheVariants as taken
 use Rattle.pp_macros.specs.declared.step.StepExit.{StepExit}
 use Rattle.pp_macros.specs.declared.step.StepExit.TheVariants.{Error, Continue}
-use Rattle.pp_macros.specs.inner.Expander.{Expander, StepsTaking, TakesNext, GathersNext, Satisfies}
+use Rattle.pp_macros.specs.inner.Expander.{Expander, StepsTaking, TakesNext, GathersNext, Satisfies, gathered_to}
 use Rattle.pp_macros.specs.inner.Reader.{Reader}
-use Rattle.pp_macros.specs.inner.Seeking.{FindsNothing, FindsBy}
-use Rattle.pp_macros.specs.declared.calls.AfterName.{AfterName}
 use Rattle.pp_macros.specs.declared.halt.Halt.{Halt}
 use Rattle.pp_macros.specs.declared.halt.Halt.TheVariants as halt
-
-pub finds_nothing : (m n p : Expander) (r s : Reader) (next : Step Read) → TakesNext m r next n s → is_out_of_memory_step next ≡ false → paren_of next ≡ None
-    → p ≡ record n { held = Some next } → FindsNothing m r p s
-finds_nothing m n p r s next takes reported none is = record {
-  next = next;
-  before = n;
-  seeks = alone next m n r s (no_call next) takes none reported refl;
-  holds = is;
-}
-
-pub finds_whole : (m n p : Expander) (r s t : Reader) (next : Step Read) (paren : Location) (g : Gathered) → TakesNext m r next n s
-    → paren_of next ≡ Some paren → GathersNext 0 paren n s (Ok g) p t → Seeks m r (gathered paren g) p t
-finds_whole m n p r s t next paren g takes at gathers = called next paren m n p r s t (Ok g) (gathered paren g) takes at gathers refl
-
-pub finds_fault : (m n p : Expander) (r s t : Reader) (next : Step Read) (paren : Location) (h : Halt) (result : Result AfterName Halt)
-    → TakesNext m r next n s → paren_of next ≡ Some paren → Satisfies {A = Gathered} (Err h) (λ g. GathersNext 0 paren n s g p t) → result ≡ Err h
-    → FindsBy m r result p t
-finds_fault m n p r s t next paren (halt.Fault fault) result takes at gathers is =
-    subst (λ (x : Result AfterName Halt). FindsBy m r x p t) (sym is) (called next paren m n p r s t (Err fault) (refused fault) takes at gathers refl)
-finds_fault m n p r s t next paren halt.OutOfMemory result takes at gathers is = subst (λ (x : Result AfterName Halt). FindsBy m r x p t) (sym is) tt
 
 abbrev Refused : Step Taken → Type 0
 Refused step = step ≡ Err (Error out_of_memory)
 
 -- after a name: no call, a call, or its fault
-module _ (read : Read) (opened : Macro) (m n : Expander) (r s : Reader) (function : opened.definition.function_like ≡ true) where
-  pub enters_nothing : FindsNothing m r n s → Enters read opened m r (Ok (taken.Token read)) n s
-  enters_nothing h = e.called (no_call h.next) (Ok (taken.Token read)) m h.before n r s function h.seeks (refl, h.holds)
+module _ (read : Read) (opened : Macro) (m n : Expander) (r s : Reader) (next : Step Read) (function : opened.definition.function_like ≡ true)
+    (takes : TakesNext m r next n s) where
+  pub enters_nothing : (p : Expander) → paren_of next ≡ None → is_out_of_memory_step next ≡ false → p ≡ record n { held = Some next }
+      → Enters read opened m r (Ok (taken.Token read)) p s
+  enters_nothing p none reported is =
+      e.called (no_call next) (Ok (taken.Token read)) m n p r s function (alone next m n r s (no_call next) takes none reported refl) (refl, is)
 
-  pub enters_whole : (paren : Location) (g : Gathered) (c : MacroCall) → Seeks m r (gathered paren g) n s
-      → c ≡ record { opened = opened; paren = paren; closing = g.closing; tokens = g.tokens }
-      → Enters read opened m r (Ok (taken.Call c)) n s
-  enters_whole paren g c h is = e.called (gathered paren g) (Ok (taken.Call c)) m n n r s function h (ap (λ (x : MacroCall). Ok (taken.Call x)) is, refl)
+  module _ (paren : Location) (at : paren_of next ≡ Some paren) (p : Expander) (t : Reader) where
+    pub enters_whole : (g : Gathered) → GathersNext 0 paren n s (Ok g) p t
+        → Enters read opened m r (Ok (taken.Call (record { opened = opened; paren = paren; closing = g.closing; tokens = g.tokens }))) p t
+    enters_whole g gathers =
+        e.called (gathered paren g) (Ok (taken.Call (record { opened = opened; paren = paren; closing = g.closing; tokens = g.tokens }))) m p p r t function
+        (called next paren m n p r s t (Ok g) (gathered paren g) takes at gathers refl) (refl, refl)
 
-  pub enters_halt : (h : Halt) (step : Step Taken) → FindsBy m r (Err h) n s → step ≡ Err (exit_of h) → Enters read opened m r step n s ⊎ Refused step
-  enters_halt (halt.Fault fault) step h is = inl (e.called (refused fault) step m n n r s function h (is, refl))
-  enters_halt halt.OutOfMemory step h is = inr is
+    pub enters_halt : (h : Halt) (tokens : List Read) (step : Step Taken)
+        → Satisfies {A = Location} (Err h) (λ end. GathersNext 0 paren n s (gathered_to tokens end) p t) → step ≡ Err (exit_of h)
+        → Enters read opened m r step p t ⊎ Refused step
+    enters_halt (halt.Fault fault) tokens step gathers is =
+        inl (e.called (refused fault) step m p p r t function (called next paren m n p r s t (Err fault) (refused fault) takes at gathers refl) (is, refl))
+    enters_halt halt.OutOfMemory tokens step gathers is = inr is
 
 pub follows_plain : (read : Read) (opened : Macro) (m n : Expander) (r : Reader) (step : Step Taken)
     → Opens r read opened → opened.definition.function_like ≡ false
@@ -78,27 +64,11 @@ follows_plain read opened m n r step opens plain (inl h) =
 follows_plain read opened m n r step opens plain (inr h) = inr h
 
 -- the name of a function-like macro
-pub follows_called : (read given : Read) (opened : Macro) (m n : Expander) (r s : Reader) (step : Step Taken) → Opens r read opened
-    → given ≡ read → Enters given opened m r step n s ⊎ Refused step → FollowsToken (macro_of r read) read m r step n s ⊎ Refused step
-follows_called read given opened m n r s step opens same (inl h) =
-    let enters : Enters read opened m r step n s = subst (λ (x : Read). Enters x opened m r step n s) same h in
-    inl (rw opens.is (record { opened = opened; is = refl; numbered = opens.numbered; enters = enters }))
-follows_called read given opened m n r s step opens same (inr h) = inr h
-
--- what opens is unpainted
-pub opening_bare : (r : Reader) (read : Read) (opening : Name × Definition) → macro_of r read ≡ Some opening → read.painted ≡ false
-opening_bare r read opening is = by_paint read.painted is
-  where
-    by_paint : (painted : Bool) → (if painted then None else macro_of_value r read.token.value) ≡ Some opening → painted ≡ false
-    by_paint true e = cc
-    by_paint false e = refl
-
--- an unpainted token whose value is a name
-pub taken_whole : (read : Read) (name : Name) → read.painted ≡ false → read.token.value ≡ Ident name
-    → unpainted (record { value = Ident name; location = read.token.location }) ≡ read
-taken_whole read name bare is =
-    ap (λ (v : TokenValue). unpainted (record { value = v; location = read.token.location })) (sym is)
-    ∙ ap (λ (b : Bool). record { token = read.token; painted = b }) (sym bare)
+pub follows_called : (read : Read) (opened : Macro) (m n : Expander) (r s : Reader) (step : Step Taken) → Opens r read opened
+    → Enters read opened m r step n s ⊎ Refused step → FollowsToken (macro_of r read) read m r step n s ⊎ Refused step
+follows_called read opened m n r s step opens (inl h) =
+    inl (rw opens.is (record { opened = opened; is = refl; numbered = opens.numbered; enters = h }))
+follows_called read opened m n r s step opens (inr h) = inr h
 
 -- a turn, by what is taken
 pub turns_token : (m n p : Expander) (r s t : Reader) (read : Read) (step : Step Taken) → StepsTaking m r (Ok read) n s

@@ -1,5 +1,5 @@
--- What the code finds after the name of a function-like macro.
-use Rattle.std.specs.Prelude.{◌≡◌, true, false, [], ◌∷◌, Option, Some, None, Result, Ok, Err, ⊤}
+-- What the code does with a token that is taken.
+use Rattle.std.specs.Prelude.{◌≡◌, true, false, [], ◌∷◌, Option, Some, None, Ok, Err}
 use Rattle.pp_model.specs.Names.{Name}
 use Rattle.pp_model.specs.Definitions.{Definition}
 use Rattle.pp_macros.specs.inner.Defined.{Macro, AreNumbered, names_in, numbered_by}
@@ -8,27 +8,10 @@ use Rattle.pp_macros.specs.declared.calls.Taken.{Taken}
 use Rattle.pp_macros.specs.declared.calls.Taken.TheVariants as taken
 use Rattle.pp_macros.specs.declared.step.StepExit.TheVariants.{Continue}
 use Rattle.pp_model.specs.declared.read.Read.{Read}
-use Rattle.pp_macros.specs.inner.CallTurns.{Seeks, Sought, Finds, no_call, refused, gathered}
+use Rattle.pp_macros.specs.inner.CallTurns.{Seeks, Sought, Finds}
 use Rattle.pp_macros.specs.Item.{Step}
 use Rattle.pp_macros.specs.inner.Expander.{Expander}
 use Rattle.pp_macros.specs.inner.Reader.{Reader, definitions_of}
-use Rattle.pp_macros.specs.declared.calls.AfterName.{AfterName}
-use Rattle.pp_macros.specs.declared.calls.AfterName.TheVariants.{NoCall, Whole}
-use Rattle.pp_macros.specs.declared.halt.Halt.{Halt}
-use Rattle.pp_macros.specs.declared.halt.Halt.TheVariants as halt
-
--- no call: what was found in place of the `(` is held
-pub record FindsNothing (m : Expander) (r : Reader) (n : Expander) (s : Reader) : Type 0 where
-  pub next : Step Read
-  pub before : Expander
-  pub seeks : Seeks m r (no_call next) before s
-  pub holds : n ≡ record before { held = Some next }
-
-abbrev pub FindsBy : Expander → Reader → Result AfterName Halt → Expander → Reader → Type 0
-FindsBy m r (Ok NoCall) n s = FindsNothing m r n s
-FindsBy m r (Ok (Whole paren g)) n s = Seeks m r (gathered paren g) n s
-FindsBy m r (Err (halt.Fault fault)) n s = Seeks m r (refused fault) n s
-FindsBy m r (Err halt.OutOfMemory) n s = ⊤
 
 -- a token opens its macro, begins its call, or, if there is no call, is given
 pub data Enters (read : Read) (opened : Macro) : Expander → Reader → Step Taken → Expander → Reader → Type 0 where

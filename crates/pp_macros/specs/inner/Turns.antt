@@ -49,11 +49,6 @@ taken_in frames reader read =
 abbrev pub masks : List Frame → Reader → List Name
 masks frames reader = names_of frames ++ hidden_of reader
 
--- the step gives `__LINE__`
-abbrev pub gives_line_name : Step Read → Bool
-gives_line_name (Ok read) = is_identifier line_name read.token.value
-gives_line_name (Err exit) = false
-
 abbrev pub macro_of_value : Reader → TokenValue → Option (Name × Definition)
 macro_of_value reader (Ident name) = opened_by name (visible reader name)
 macro_of_value reader _ = None

@@ -7,7 +7,7 @@ use Rattle.pp_macros.proofs.open_frames.KnownLemmas.{run_known}
 use Rattle.pp_macros.proofs.taking.AnswerLemmas.{satisfies_fault}
 use Rattle.pp_macros.proofs.taking.ExpanderLemmas.{last_put, before_last, gathers_fault, gathers_end, gathers_never, gathers_closed, gathers_overfull, gathers_more, next_falls}
 use Rattle.pp_macros.proofs.taking.RunLemmas.{flat_gathers, flat_falls, flat_holds, place_put}
-use Rattle.pp_macros.proofs.macro_processor.MacroProcessor.gather_tokens.Goals as goal
+use Rattle.pp_macros.proofs.macro_processor.MacroProcessor.gather.Goals as goal
 
 pub push_run-requires-clause-known : goal.push_run-requires-clause-known
 push_run-requires-clause-known g c = c.tokens.invariant.known

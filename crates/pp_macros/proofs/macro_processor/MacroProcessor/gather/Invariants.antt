@@ -7,7 +7,7 @@ use Rattle.pp_macros.specs.inner.Reader.{definitions_of}
 use Rattle.pp_macros.specs.inner.Nesting.{AreKnown, MayWait, seen_by}
 use Rattle.pp_macros.specs.inner.Reach.{total}
 use Rattle.pp_macros.proofs.taking.ExpanderLemmas.{Gathering}
-use Rattle.pp_macros.proofs.macro_processor.MacroProcessor.gather_tokens.Given as goal
+use Rattle.pp_macros.proofs.macro_processor.MacroProcessor.gather.Given as goal
 
 -- each token that is gathered stands before those that follow
 abbrev pub invariant-tokens : goal.invariant-tokens
