@@ -1,165 +1,34 @@
 //! Frames: macros that are open, each with the positions up to which its body and its arguments
 //! were read.
 
-ghost use Rattle.std.specs.Prelude.{◌≡◌, ◌⊎◌, ◌++◌, ◌∷◌, [], IfOk, OnOk, IfSome, MatchOption};
-ghost use Rattle.std.specs.Prelude.{List, Some, None, Ok, Err, IsSome, is_some, option_map};
-ghost use Rattle.pp_lexer.specs.PreprocessorError.{out_of_memory};
+ghost use Rattle.std.specs.Prelude.{◌≡◌, [], IfOk, IfSome, MatchResult};
+ghost use Rattle.std.specs.Prelude.{List, Some, None, IsSome, is_some, option_map};
 ghost use Rattle.pp_model.specs.Names.{Name};
 ghost use Rattle.pp_macros.specs.inner.Bodies.{noted_by};
 ghost use Rattle.pp_macros.specs.inner.Defined.{AreNumbered};
 ghost use Rattle.pp_macros.specs.inner.Frames.{new_frame, advance};
 ghost use Rattle.pp_macros.specs.inner.Parts.{lists_of};
 ghost use Rattle.pp_macros.specs.Held.{HoldsOrdinary};
-ghost use Rattle.pp_macros.specs.inner.Ahead.{given_by, frame_after};
-ghost use Rattle.pp_macros.specs.declared.step.StepExit.TheVariants.{Error};
+ghost use Rattle.pp_macros.specs.inner.Ahead.{read_of, token_given, given_by, frame_after};
 
 use crate::argument_lists::{ArgumentLists, OpenArguments, Part};
 use crate::define::{BodyEntry, Macro};
 use crate::names::NameId;
-use crate::step::{Step, StepExit};
-use pp_lexer::token::{Token, TokenValue, out_of_memory};
+use pp_lexer::token::{Token, TokenValue};
 use pp_model::read::Read;
 use std::alloc::{AllocError, Global};
 use std::marker::Model;
 use std::rc::Rc;
 
-/// A token that a frame gives, in its list, and whether it is painted.
+/// The token that a frame has next in its list, and whether it is painted there.
 #[derive(Drop)]
 pub struct Ahead<'a> {
-    token: &'a Token,
-    painted: bool,
-    // the number that was noted for it, in its body, if it is of one
-    noted: Option<&'a Option<NameId>>,
-}
-
-impl<'a> Model for Ahead<'a> {
-    ghost use Rattle.pp_macros.specs.inner.Ahead as spec;
-    ghost use Rattle.pp_macros.specs.inner.Ahead.{number_at};
-
-    ghost Value = { spec.Ahead };
-
-    ghost view = { λ a. record {
-      read = record { token = a.token.now; painted = a.painted };
-      number = number_at a.noted;
-    } };
-}
-
-impl<'a> Ahead<'a> {
-    /// The token, as it is in its list.
-    #[inline(always)]
-    pub fn token(&self) -> &'a Token
-        ensures { result.now ≡ self.now.read.token }
-    {
-        self.token
-    }
-
-    /// Its value.
-    pub fn value(&self) -> &'a TokenValue
-        ensures { result.now ≡ self.now.read.token.value }
-    {
-        &self.token.value
-    }
-
-    /// The line of its place.
-    pub fn line(&self) -> u32
-        ensures { result ≡ self.now.read.token.location.line }
-    {
-        self.token.location.line
-    }
-
+    /// The token.
+    pub token: &'a Token,
     /// Whether it is painted.
-    pub fn is_painted(&self) -> bool
-        ensures { result ≡ self.now.read.painted }
-    {
-        self.painted
-    }
-
+    pub painted: bool,
     /// The number that was noted for it, if it is of a body.
-    #[inline(always)]
-    pub(crate) fn number(&self) -> Option<NameId>
-        ensures { result ≡ self.now.number }
-    {
-        *self.noted?
-    }
-
-    /// Whether a copy of the token takes memory.
-    #[inline(always)]
-    pub(crate) fn takes_memory(&self) -> bool {
-        match self.value() {
-            TokenValue::Punct(_) | TokenValue::Integer(_) => false,
-            _ => true,
-        }
-    }
-
-    /// A copy of the token, painted or not.
-    pub fn copied_as(&self, alloc: Global, painted: bool) -> Result<Read, AllocError>
-        ensures { IfOk result (λ copy. copy ≡ record { token = self.now.read.token; painted = painted }) }
-    {
-        Ok(Read {
-            token: copy_of(alloc, self.token)?,
-            painted,
-        })
-    }
-
-    /// A copy of the token, without its paint. A punctuator is made without a call.
-    #[inline(always)]
-    pub fn copied_token(&self, alloc: Global) -> Result<Token, AllocError>
-        ensures { IfOk result (λ copy. copy ≡ self.now.read.token) }
-    {
-        if let TokenValue::Punct(punct) = self.value() {
-            return Ok(Token {
-                value: TokenValue::Punct(*punct),
-                location: self.token.location,
-            });
-        }
-        copy_of(alloc, self.token)
-    }
-
-    /// Puts a copy of the token after the items, painted or not. A punctuator is made where it is put.
-    #[inline(always)]
-    pub fn put_copy(
-        &self,
-        alloc: Global,
-        painted: bool,
-        items: &mut Vec<Read>,
-    ) -> Result<(), AllocError>
-        ensures { OnOk result (items.new.items
-            ≡ items.old.items ++ record { token = self.now.read.token; painted = painted } ∷ []) }
-    {
-        if let TokenValue::Punct(punct) = self.value() {
-            items.push(Read {
-                token: Token {
-                    value: TokenValue::Punct(*punct),
-                    location: self.token.location,
-                },
-                painted,
-            })?;
-            return Ok(());
-        }
-        self.put_other(alloc, painted, items)
-    }
-
-    // Does the same with any token. It is a function of its own, so that a punctuator is put without it.
-    #[inline(never)]
-    fn put_other(
-        &self,
-        alloc: Global,
-        painted: bool,
-        items: &mut Vec<Read>,
-    ) -> Result<(), AllocError>
-        ensures { OnOk result (items.new.items
-            ≡ items.old.items ++ record { token = self.now.read.token; painted = painted } ∷ []) }
-    {
-        items.push(self.copied_as(alloc, painted)?)?;
-        Ok(())
-    }
-
-    /// A copy of the token, with its paint.
-    pub fn copied(&self, alloc: Global) -> Result<Read, AllocError>
-        ensures { IfOk result (λ copy. copy ≡ self.now.read) }
-    {
-        self.copied_as(alloc, self.painted)
-    }
+    pub(crate) number: Option<NameId>,
 }
 
 /// A macro that is open.
@@ -189,44 +58,34 @@ impl Model for Frame {
     } };
 }
 
-/// A copy of a token.
-pub fn copy_of(alloc: Global, token: &Token) -> Result<Token, AllocError>
+// A copy of a token. A punctuator is copied without a call.
+#[inline(always)]
+fn copy_of(alloc: Global, token: &Token) -> Result<Token, AllocError>
     ensures { IfOk result (λ copy. copy ≡ token.now) }
 {
+    if let TokenValue::Punct(punct) = &token.value {
+        return Ok(Token {
+            value: TokenValue::Punct(*punct),
+            location: token.location,
+        });
+    }
+    copy_of_other(alloc, token)
+}
+
+// Does the same with any token. It is a function of its own, so that a punctuator is copied without it.
+#[inline(never)]
+fn copy_of_other(alloc: Global, token: &Token) -> Result<Token, AllocError>
+    ensures { IfOk result (λ copy. copy ≡ token.now) }
+{
+    let value = match &token.value {
+        TokenValue::Integer(integer) => TokenValue::Integer(*integer),
+        TokenValue::Ident(name) => TokenValue::Ident(name.try_clone(alloc)?),
+        other => other.clone(alloc).map_err(|_| AllocError)?,
+    };
     Ok(Token {
-        value: copy_of_value(alloc, &token.value)?,
+        value,
         location: token.location,
     })
-}
-
-// A copy of a value. A punctuator and an integer are copied without an allocation.
-fn copy_of_value(alloc: Global, value: &TokenValue) -> Result<TokenValue, AllocError>
-    ensures { IfOk result (λ copy. copy ≡ value.now) }
-{
-    match value {
-        TokenValue::Punct(punct) => Ok(TokenValue::Punct(*punct)),
-        TokenValue::Integer(integer) => Ok(TokenValue::Integer(*integer)),
-        TokenValue::Ident(name) => Ok(TokenValue::Ident(name.try_clone(alloc)?)),
-        other => other.clone(alloc).map_err(|_| AllocError),
-    }
-}
-
-/// The step that gives a copy of a token.
-pub fn give(alloc: Global, ahead: Ahead<'_>) -> Step<Read>
-    ensures { (result ≡ Err (Error out_of_memory)) ⊎ (result ≡ Ok ahead.entry.read) }
-{
-    match ahead.copied(alloc) {
-        Ok(read) => Ok(read),
-        Err(_) => out_of_memory_step(),
-    }
-}
-
-// The step `OutOfMemory`. It is a function of its own, so that a token is moved without it.
-#[inline(never)]
-fn out_of_memory_step() -> Step<Read>
-    ensures { result ≡ Err (Error out_of_memory) }
-{
-    Err(StepExit::Error(out_of_memory()))
 }
 
 impl Frame {
@@ -283,46 +142,53 @@ impl Frame {
     /// argument and at the end of the body.
     #[inline(always)]
     pub fn token(&self) -> Option<Ahead<'_>>
-        ensures token { option_map (λ ahead. ahead.read) result ≡ given_by (advance self.now) }
+        ensures token { option_map read_of result ≡ given_by (advance self.now) }
         ensures number { IfSome result (λ ahead. (names : List Name) → AreNumbered names self.now.noted
-            → AreNumbered names (noted_by ahead.number ahead.read.token.value)) }
-        ensures holds { IfSome result (λ ahead. HoldsOrdinary ahead.read.token.value) }
+            → AreNumbered names (noted_by ahead.number ahead.token.now.value)) }
+        ensures holds { IfSome result (λ ahead. HoldsOrdinary ahead.token.now.value) }
     {
         if self.arguments.is_reading() {
             let read = self.arguments.token()?;
             return Some(Ahead {
                 token: &read.token,
                 painted: read.painted,
-                noted: None,
+                number: None,
             });
         }
         match self.opened.entry_at(self.position) {
             Some(BodyEntry::Token(token, number)) => Some(Ahead {
                 token,
                 painted: false,
-                noted: Some(number),
+                number: *number,
             }),
             _ => None,
         }
     }
 
-    /// Whether an argument is being read for the last time.
+    /// Makes the token that its next step gives, and advances by that step. The token is moved out if its list gives it
+    /// for the last time, and copied otherwise.
     #[inline(always)]
-    pub(crate) fn reads_last(&self) -> bool {
-        self.arguments.is_last()
-    }
-
-    /// Moves out the token that its next step gives, and advances by that step, if its list gives the token for the
-    /// last time. Otherwise nothing changes.
-    #[inline(always)]
-    pub fn take_token(&mut self) -> Option<Read>
-        ensures takes { MatchOption result (self.new ≡ self.old) (λ read. (given_by (advance self.old) ≡ Some read)
-            × (self.new ≡ frame_after self.old (advance self.old))) }
+    pub fn make_token(&mut self, alloc: Global) -> Result<Token, AllocError>
+        requires { IsSome (token_given (given_by (advance self.old))) }
+        ensures makes { MatchResult result
+            (λ token. (token_given (given_by (advance self.old)) ≡ Some token)
+            × (self.new ≡ frame_after self.old (advance self.old)))
+            (λ _. self.new ≡ self.old) }
         ensures name { self.new.name ≡ self.old.name }
         ensures number { self.new.number ≡ self.old.number }
-        ensures holds { IfSome result (λ read. HoldsOrdinary read.token.value) }
+        ensures holds { IfOk result (λ token. HoldsOrdinary token.value) }
     {
-        self.arguments.take()
+        if self.arguments.is_last() {
+            if let Some(read) = self.arguments.take() {
+                return Ok(read.token);
+            }
+        }
+        let Some(ahead) = self.token() else {
+            unreachable!();
+        };
+        let token = copy_of(alloc, ahead.token)?;
+        self.pass_token();
+        Ok(token)
     }
 
     /// Advances by a step that gives a token.

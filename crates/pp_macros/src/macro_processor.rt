@@ -1,7 +1,7 @@
 //! The macros that are open, over a reader.
 
 ghost use Rattle.std.specs.Prelude.{List, ◌≡◌, ◌==◌, ◌≤◌, ◌<◌, ◌∷◌, ◌++◌, [], ℕ, drop, length, IfOk, IfSome, OnErr};
-ghost use Rattle.std.specs.Prelude.{OnOk, MatchOption, MatchResult, Ok, Err, Some, None, IsSome, option_map, is_some};
+ghost use Rattle.std.specs.Prelude.{OnOk, MatchResult, Ok, Some, None, IsSome, option_map, is_some};
 ghost use Rattle.std.specs.Prelude.{pos, false, true, slice_index_or, unwrap_or};
 ghost use Rattle.std.specs.List.{list_any};
 ghost use Rattle.pp_lexer.specs.declared.token.TokenValue.TheVariants as value;
@@ -11,10 +11,11 @@ ghost use Rattle.pp_model.specs.Taking.{line_number};
 ghost use Rattle.pp_macros.specs.inner.Frames as spec;
 ghost use Rattle.pp_macros.specs.inner.Frames.{new_frame, outermost_frame_line};
 ghost use Rattle.pp_macros.specs.Held.{HoldsOrdinary};
-ghost use Rattle.pp_macros.specs.inner.Ahead.{given_next};
+ghost use Rattle.pp_macros.specs.inner.Ahead.{read_of, given_next};
 ghost use Rattle.pp_macros.specs.inner.Bodies.{noted_by};
 ghost use Rattle.pp_macros.specs.inner.Defined.{AreNumbered, names_in, number_in};
 ghost use Rattle.pp_macros.specs.inner.Left.{HaveNumbers};
+ghost use Rattle.pp_macros.specs.inner.Giving.{token_ahead};
 ghost use Rattle.pp_macros.specs.inner.Idle.{is_idle};
 ghost use Rattle.pp_macros.specs.inner.Nesting.{AreKnown, nothing_open, open_names, stepped, with_frames};
 ghost use Rattle.pp_macros.specs.inner.Reader.{definitions_of, shown_line};
@@ -25,12 +26,12 @@ ghost use Rattle.pp_macros.specs.inner.Turns.{Moves};
 use crate::argument_lists::{ArgumentLists, Part};
 use crate::calls::MacroCall;
 use crate::define::Macro;
-use crate::frames::{Ahead, Frame, give};
+use crate::frames::{Ahead, Frame};
 use crate::names::NameId;
 use crate::reader::{MeLexer, number_of};
 use crate::spares::Spares;
 use crate::step::{Step, StepExit};
-use pp_lexer::token::{Integer, Location, Text, Token, TokenValue};
+use pp_lexer::token::{Integer, Location, Token, TokenValue, out_of_memory};
 use pp_model::names::is_line_name;
 use pp_model::read::Read;
 use std::alloc::{AllocError, Global};
@@ -239,12 +240,6 @@ impl MacroProcessor {
         self.spares.keep_parts(parts);
     }
 
-    /// Where its lists are allocated.
-    #[inline(always)]
-    pub(crate) fn alloc(&self) -> Global {
-        self.alloc
-    }
-
     /// Whether a macro is open here.
     #[inline(always)]
     pub fn has_frames(&self) -> bool
@@ -369,10 +364,10 @@ impl MacroProcessor {
 
     /// What the innermost frame gives next, or `None` if its next step is a pause.
     pub fn ahead(&self) -> Option<Ahead<'_>>
-        ensures ahead { option_map (λ ahead. ahead.read) result ≡ given_next self.now.here.frames }
+        ensures ahead { option_map read_of result ≡ given_next self.now.here.frames }
         ensures number { IfSome result (λ ahead. (names : List Name) → HaveNumbers names self.now.here.frames
-            → AreNumbered names (noted_by ahead.number ahead.read.token.value)) }
-        ensures holds { IfSome result (λ ahead. HoldsOrdinary ahead.read.token.value) }
+            → AreNumbered names (noted_by ahead.number ahead.token.now.value)) }
+        ensures holds { IfSome result (λ ahead. HoldsOrdinary ahead.token.now.value) }
     {
         if !self.has_frames() {
             return None;
@@ -386,57 +381,31 @@ impl MacroProcessor {
     /// Passes the pause that the innermost frame has next. A frame at its end is closed.
     #[inline(always)]
     pub fn pass_pause(&mut self)
-        requires { given_next self.old.here.frames ≡ None }
+        requires open { is_some (outermost_frame_line self.old.here.frames) ≡ true }
+        requires pauses { given_next self.old.here.frames ≡ None }
         ensures { self.new ≡ stepped self.old }
     {
-        if !self.has_frames() {
-            return;
-        }
         let Some(frame) = self.frames.last_mut() else {
-            return;
+            unreachable!();
         };
-        if frame.pass_pause() {
-            return;
+        if !frame.pass_pause() {
+            self.close();
         }
-        self.close();
     }
 
-    // Advances the innermost frame by one step. A frame at its end is closed.
+    /// Makes the token that the innermost frame gives next, and passes it.
     #[inline(always)]
-    fn pass(&mut self)
-        ensures { self.new ≡ stepped self.old }
+    pub fn make_token(&mut self) -> Result<Token, AllocError>
+        requires { IsSome (token_ahead self.old.here) }
+        ensures makes { MatchResult result
+            (λ token. (token_ahead self.old.here ≡ Some token) × (self.new ≡ stepped self.old))
+            (λ _. self.new ≡ self.old) }
+        ensures holds { IfOk result (λ token. HoldsOrdinary token.value) }
     {
-        if self.ahead().is_some() {
-            self.pass_token();
-        } else {
-            self.pass_pause();
+        match self.frames.last_mut() {
+            Some(frame) => frame.make_token(self.alloc),
+            None => unreachable!(),
         }
-    }
-
-    /// Whether the innermost frame reads an argument for the last time, so that `take_token` moves a token out.
-    #[inline(always)]
-    pub(crate) fn reads_last(&self) -> bool {
-        match self.frames.last() {
-            Some(frame) => frame.reads_last(),
-            None => false,
-        }
-    }
-
-    /// Moves out the token that the innermost frame gives next, and passes it, if its list gives it for the last time.
-    /// Otherwise nothing changes.
-    #[inline(always)]
-    pub fn take_token(&mut self) -> Option<Read>
-        ensures takes { MatchOption result (self.new ≡ self.old) (λ read. (given_next self.old.here.frames ≡ Some read)
-            × (self.new ≡ stepped self.old)) }
-        ensures holds { IfSome result (λ read. HoldsOrdinary read.token.value) }
-    {
-        if !self.has_frames() {
-            return None;
-        }
-        let Some(frame) = self.frames.last_mut() else {
-            return None;
-        };
-        frame.take_token()
     }
 
     /// Passes the token that the innermost frame gives next.
@@ -445,13 +414,10 @@ impl MacroProcessor {
         requires { IsSome (given_next self.old.here.frames) }
         ensures { self.new ≡ stepped self.old }
     {
-        if !self.has_frames() {
-            return;
+        match self.frames.last_mut() {
+            Some(frame) => frame.pass_token(),
+            None => unreachable!(),
         }
-        let Some(frame) = self.frames.last_mut() else {
-            return;
-        };
-        frame.pass_token();
     }
 
     /// One step of the innermost frame, or of the reader if no macro is open. A frame at its end is
@@ -464,17 +430,15 @@ impl MacroProcessor {
         if !self.has_frames() {
             return lexer.step();
         }
-        if self.reads_last() {
-            if let Some(read) = self.take_token() {
-                return Ok(read);
-            }
-        }
-        let step = match self.ahead() {
-            Some(ahead) => give(self.alloc, ahead),
-            None => Err(StepExit::Continue),
+        let Some(ahead) = self.ahead() else {
+            self.pass_pause();
+            return Err(StepExit::Continue);
         };
-        self.pass();
-        step
+        let painted = ahead.painted;
+        match self.make_token() {
+            Ok(token) => Ok(Read { token, painted }),
+            Err(_) => Err(StepExit::Error(out_of_memory())),
+        }
     }
 
     /// Takes a token: `__LINE__` becomes a number at once.

@@ -1,20 +1,23 @@
 -- The frames of a processor: those from a base on are the innermost expander's, and those before it are around.
-use Rattle.std.proofs.Common.{◌≡◌, ◌∙◌, ◌⊎◌, inl, inr, ℕ, zero, suc, ◌+◌, ◌-◌, ◌<◌, ◌≤◌, true, false, List, [], ◌∷◌, ◌++◌, length, get_or, take, drop, reverse, set, refl, ap, sym, subst, arith, Option, Some, None, slice_get, length-drop, length-append}
-use Rattle.std.specs.Prelude.{is_none, is_some, MatchOption, IfSome}
+use Rattle.std.proofs.Common.{◌≡◌, ◌∙◌, ◌⊎◌, inl, inr, ℕ, zero, suc, ◌+◌, ◌-◌, ◌<◌, ◌≤◌, true, false, List, [], ◌∷◌, ◌++◌, length, get_or, take, drop, reverse, set, refl, ap, sym, subst, arith, Option, Some, None, Ok, Err, slice_get, length-drop, length-append}
+use Rattle.std.specs.Prelude.{is_none, is_some, IfSome, MatchResult, Result}
 use Rattle.std.proofs.Math.ListN.{drop_of_length-le}
 use Rattle.std.proofs.Math.Seq.{take-append_seam, drop-append_seam}
 use Rattle.std.proofs.lemmas.List.{reverse-append, reverse-reverse, length-reverse, length-set, take-append-drop, take-append-le, drop-append-le, take-set-le, drop-set-add, get_or-drop, drop-take, take-take, take_all, length-take-le}
 use Rattle.std.proofs.lemmas.Bool.{cases_lt}
+use Rattle.pp_lexer.specs.declared.token.Token.{Token}
 use Rattle.pp_model.specs.Names.{Name}
 use Rattle.pp_model.specs.declared.read.Read.{Read}
 use Rattle.pp_macros.specs.Item.{Step}
-use Rattle.pp_macros.specs.inner.Ahead.{Ahead, given_by, given_next, frame_after, frames_after}
+use Rattle.pp_macros.specs.declared.frames.Ahead.{Ahead}
+use Rattle.pp_macros.specs.inner.Ahead.{token_given, given_by, given_next, frame_after}
 use Rattle.pp_macros.specs.inner.Bodies.{noted_by}
 use Rattle.pp_macros.specs.inner.Defined.{AreNumbered}
 use Rattle.pp_macros.specs.inner.Frames.{Frame, AreCounted, advance, names_of, outermost_frame_line}
+use Rattle.pp_macros.specs.inner.Giving.{token_ahead}
 use Rattle.pp_macros.specs.inner.Left.{HaveNumbers}
 use Rattle.pp_macros.specs.inner.Nesting.{MacroProcessor, open_names, stepped, with_frames}
-use Rattle.pp_macros.proofs.open_frames.OpenMacroLemmas.{names_of-append, outermost_first, reverse_last, reverse_set_last, last_gives, last_passes, last_closes, last_takes, has_given, ahead_numbered}
+use Rattle.pp_macros.proofs.open_frames.OpenMacroLemmas.{names_of-append, outermost_first, reverse_last, reverse_set_last, last_gives, last_passes, last_closes, last_stays, has_token, ahead_numbered}
 use Rattle.pp_macros.proofs.open_frames.CountLemmas.{counted_kept}
 
 -- a processor with these frames
@@ -63,12 +66,6 @@ some_frame (f ∷ fs) some = omega arith
 pub none_given : (fs : List Frame) → is_some (outermost_frame_line fs) ≡ false → given_next fs ≡ None
 none_given fs none = ap given_next (none_here fs none)
 
--- and a step changes nothing
-pub nothing_steps : (m : MacroProcessor) → is_some (outermost_frame_line m.here.frames) ≡ false → m ≡ stepped m
-nothing_steps m none =
-    let empty = none_here m.here.frames none in
-    ap (with_frames m) (empty ∙ sym (ap frames_after empty))
-
 -- the outermost frame here is the one at the base
 at_base : {X : Type 0} (base : ℕ) (xs : List X) (d : X) → base < length xs → slice_get xs base ≡ Some (get_or xs base d)
 at_base base [] d within = absurd (omega (arith, within))
@@ -86,32 +83,23 @@ line_here base fs f within is = outermost_first (drop base fs) f (get_above base
 pub no_line_here : (base : ℕ) (fs : List Frame) → length fs ≤ base → outermost_frame_line (reverse (drop base fs)) ≡ None
 no_line_here base fs past = ap (λ (gs : List Frame). outermost_frame_line (reverse gs)) (drop_of_length-le fs past)
 
-module _ (fs : List Frame) (base n : ℕ) (number : n ≡ length fs) (above : base < n) where
-  last_at : base + (length (drop base fs) - 1) ≡ n - 1
-  last_at = omega (arith, number, above, length-drop base fs)
+-- a macro is open here
+module _ (held : Option (Step Read)) (base : ℕ) (fs : List Frame) (m : MacroProcessor) (view : processor_of held base fs ≡ m)
+    (some : is_some (outermost_frame_line m.here.frames) ≡ true) where
+  there_here : base < length fs
+  there_here = above_base base fs (ap (λ (k : MacroProcessor). is_some (outermost_frame_line k.here.frames)) view ∙ some)
 
   some_here : 0 < length (drop base fs)
-  some_here = omega (arith, number, above, length-drop base fs)
+  some_here = let there = there_here in omega (arith, there, length-drop base fs)
 
-  -- the innermost frame is that of the innermost expander
-  last_here : (f : Frame) → f ≡ get_or fs (n - 1) f → f ≡ get_or (drop base fs) (length (drop base fs) - 1) f
-  last_here f last = last ∙ ap (λ (k : ℕ). get_or fs k f) (sym last_at) ∙ sym (get_or-drop base fs (length (drop base fs) - 1) f)
+  last_at : base + (length (drop base fs) - 1) ≡ length fs - 1
+  last_at = let there = there_here in omega (arith, there, length-drop base fs)
 
-  -- it changes
-  here_set : (v : Frame) → drop base (set fs (n - 1) v) ≡ set (drop base fs) (length (drop base fs) - 1) v
-  here_set v = ap (λ (k : ℕ). drop base (set fs k v)) (sym last_at) ∙ drop-set-add base fs (length (drop base fs) - 1) v
-
-  below_set : (v : Frame) → take base (set fs (n - 1) v) ≡ take base fs
-  below_set v = take-set-le base fs (n - 1) v (omega (arith, above))
-
-  within_set : (v : Frame) → base ≤ length (set fs (n - 1) v)
-  within_set v = omega (arith, number, above, length-set fs (n - 1) v)
-
-  -- it closes
-  here_popped : reverse (drop base (take (n - 1) fs)) ≡ drop 1 (reverse (drop base fs))
+  -- the innermost frame closes
+  here_popped : reverse (drop base (take (length fs - 1) fs)) ≡ drop 1 (reverse (drop base fs))
   here_popped =
       let xs = drop base fs in
-      let rest : drop base (take (n - 1) fs) ≡ take (length xs - 1) xs =
+      let rest : drop base (take (length fs - 1) fs) ≡ take (length xs - 1) xs =
       ap (λ (k : ℕ). drop base (take k fs)) (sym last_at) ∙ drop-take base (length xs - 1) fs in
       ap reverse rest ∙ sym (shorter xs some_here)
     where
@@ -119,19 +107,10 @@ module _ (fs : List Frame) (base n : ℕ) (number : n ≡ length fs) (above : ba
       shorter [] some = absurd (omega (arith, some))
       shorter (x ∷ xs) some = ap (drop 1) (reverse_last (x ∷ xs) x some)
 
-  below_popped : take base (take (n - 1) fs) ≡ take base fs
-  below_popped = take-take base (n - 1) fs (omega (arith, above))
-
--- a macro is open here
-module _ (held : Option (Step Read)) (base : ℕ) (fs : List Frame) (m : MacroProcessor) (view : processor_of held base fs ≡ m)
-    (some : is_some (outermost_frame_line m.here.frames) ≡ true) where
-  pub there_here : base < length fs
-  there_here = above_base base fs (ap (λ (k : MacroProcessor). is_some (outermost_frame_line k.here.frames)) view ∙ some)
-
-  -- the innermost frame closes
   pub closed_here : (gs : List Frame) → gs ≡ take (length fs - 1) fs → processor_of held base gs ≡ with_frames m (drop 1 m.here.frames)
   closed_here gs rest =
-      rw (rest, ← view) (alike held _ _ _ _ (here_popped fs base (length fs) refl there_here) (ap reverse (below_popped fs base (length fs) refl there_here)))
+      let there = there_here in
+      rw (rest, ← view) (alike held _ _ _ _ here_popped (ap reverse (take-take base (length fs - 1) fs (omega (arith, there)))))
 
   pub closed_within : (gs : List Frame) → gs ≡ take (length fs - 1) fs → base ≤ length gs
   closed_within gs rest =
@@ -140,60 +119,68 @@ module _ (held : Option (Step Read)) (base : ℕ) (fs : List Frame) (m : MacroPr
 
   -- the innermost frame
   module _ (f : Frame) (n : ℕ) (number : n ≡ length fs) (last : f ≡ get_or fs (n - 1) f) where
-    above : base < n
-    above = let there = there_here in omega (arith, number, there)
+    at_end : base + (length (drop base fs) - 1) ≡ n - 1
+    at_end = rw number last_at
+
+    last_here : f ≡ get_or (drop base fs) (length (drop base fs) - 1) f
+    last_here = last ∙ ap (λ (k : ℕ). get_or fs k f) (sym at_end) ∙ sym (get_or-drop base fs (length (drop base fs) - 1) f)
+
+    -- it changes
+    here_set : (v : Frame) → drop base (set fs (n - 1) v) ≡ set (drop base fs) (length (drop base fs) - 1) v
+    here_set v = ap (λ (k : ℕ). drop base (set fs k v)) (sym at_end) ∙ drop-set-add base fs (length (drop base fs) - 1) v
+
+    changed_here : (v : Frame) (frames : List Frame) → reverse (set (drop base fs) (length (drop base fs) - 1) v) ≡ frames
+        → processor_of held base (set fs (n - 1) v) ≡ with_frames (processor_of held base fs) frames
+    changed_here v frames is =
+        let there = there_here in
+        alike held _ _ _ _ (ap reverse (here_set v) ∙ is) (ap reverse (take-set-le base fs (n - 1) v (omega (arith, number, there))))
 
     -- what it gives
     pub gives_here : given_next m.here.frames ≡ given_by (advance f)
-    gives_here = rw (← view) (last_gives (drop base fs) f (length (drop base fs)) refl (some_here fs base n number above) (last_here fs base n number above f last))
+    gives_here = rw (← view) (last_gives (drop base fs) f some_here last_here)
 
     pub numbered_here : (o : Option Ahead)
-        → IfSome o (λ a. (names : List Name) → AreNumbered names f.noted → AreNumbered names (noted_by a.number a.read.token.value))
-        → IfSome o (λ a. (names : List Name) → HaveNumbers names m.here.frames → AreNumbered names (noted_by a.number a.read.token.value))
+        → IfSome o (λ a. (names : List Name) → AreNumbered names f.noted → AreNumbered names (noted_by a.number a.token.now.value))
+        → IfSome o (λ a. (names : List Name) → HaveNumbers names m.here.frames → AreNumbered names (noted_by a.number a.token.now.value))
     numbered_here o tells =
         subst (λ (k : MacroProcessor). IfSome o (λ (a : Ahead). (names : List Name) → HaveNumbers names k.here.frames
-        → AreNumbered names (noted_by a.number a.read.token.value))) view
-        (ahead_numbered o (drop base fs) f (length (drop base fs)) refl (some_here fs base n number above) (last_here fs base n number above f last) tells)
+        → AreNumbered names (noted_by a.number a.token.now.value))) view
+        (ahead_numbered (drop base fs) f some_here last_here o tells)
 
     -- it advances, and stays open
     pub passes_here : (v : Frame) → is_none (advance f) ≡ false → v ≡ frame_after f (advance f) → processor_of held base (set fs (n - 1) v) ≡ stepped m
     passes_here v goes is =
-        rw (← view) (alike held _ _ _ _
-        (ap reverse (here_set fs base n number above v) ∙ last_passes (drop base fs) f v (length (drop base fs)) refl (some_here fs base n number above)
-        (last_here fs base n number above f last) goes is)
-        (ap reverse (below_set fs base n number above v)))
+        rw (← view) (changed_here v _ (last_passes (drop base fs) f some_here last_here v goes is))
 
-    -- what it moves out
-    pub takes_here : (v : Frame) (taken : Option Read)
-        → MatchOption taken (v ≡ f) (λ read. (given_by (advance f) ≡ Some read) × (v ≡ frame_after f (advance f)))
-        → MatchOption taken (processor_of held base (set fs (n - 1) v) ≡ m)
-        (λ read. (given_next m.here.frames ≡ Some read) × (processor_of held base (set fs (n - 1) v) ≡ stepped m))
-    takes_here v None same =
-        rw (← view) (alike held _ _ _ _
-        (ap reverse (here_set fs base n number above v) ∙ last_takes (drop base fs) f v (length (drop base fs)) None refl (some_here fs base n number above)
-        (last_here fs base n number above f last) same)
-        (ap reverse (below_set fs base n number above v)))
-    takes_here v (Some read) takes = (gives_here ∙ takes.0, passes_here v (has_given (advance f) read takes.0) takes.1)
+    -- it gives a token, or stays as it is
+    pub makes_here : {E : Type 0} (v : Frame) (made : Result Token E)
+        → MatchResult made (λ token. (token_given (given_by (advance f)) ≡ Some token) × (v ≡ frame_after f (advance f))) (λ _. v ≡ f)
+        → MatchResult made (λ token. (token_ahead m.here ≡ Some token) × (processor_of held base (set fs (n - 1) v) ≡ stepped m))
+        (λ _. processor_of held base (set fs (n - 1) v) ≡ m)
+    makes_here v (Ok token) makes = (ap token_given gives_here ∙ makes.0, passes_here v (has_token (advance f) token makes.0) makes.1)
+    makes_here v (Err refused) same =
+        rw (← view) (changed_here v _ (last_stays (drop base fs) f some_here last_here v same))
 
     -- it is at its end, and closes
     pub stays_here : (v : Frame) → is_some (outermost_frame_line (reverse (drop base (set fs (n - 1) v)))) ≡ true
-    stays_here v = rw (here_set fs base n number above v, reverse_set_last (drop base fs) v (some_here fs base n number above)) refl
+    stays_here v = rw (here_set v, reverse_set_last (drop base fs) v some_here) refl
 
     pub closes_here : (v : Frame) (p : MacroProcessor) → is_some (advance f) ≡ false
         → p ≡ with_frames (processor_of held base (set fs (n - 1) v)) (drop 1 (reverse (drop base (set fs (n - 1) v)))) → p ≡ stepped m
     closes_here v p ends is =
+        let there = there_here in
         is ∙ rw (← view) (alike held _ _ _ _
-        (ap (λ (gs : List Frame). drop 1 (reverse gs)) (here_set fs base n number above v)
-        ∙ last_closes (drop base fs) f v (length (drop base fs)) refl (some_here fs base n number above) (last_here fs base n number above f last) ends)
-        (ap reverse (below_set fs base n number above v)))
+        (ap (λ (gs : List Frame). drop 1 (reverse gs)) (here_set v) ∙ last_closes (drop base fs) f some_here last_here v ends)
+        (ap reverse (take-set-le base fs (n - 1) v (omega (arith, number, there)))))
 
     -- the counts of all frames stay
     pub kept_here : (v : Frame) (counts : List ℕ) → v.number ≡ f.number → AreCounted counts fs
         → AreCounted counts (set fs (n - 1) v) × (base ≤ length (set fs (n - 1) v))
-    kept_here v counts same are = (
-      counted_kept counts fs f v (n - 1) (let there = above in omega (arith, number, there)) last same are,
-      within_set fs base n number above v,
-    )
+    kept_here v counts same are =
+        let there = there_here in (
+          counted_kept counts fs f v (n - 1) (omega (arith, number, there)) last same are,
+          omega (arith, there, length-set fs (n - 1) v),
+        )
 
 -- one more frame opens
 pub pushed_here : (held : Option (Step Read)) (base : ℕ) (fs gs : List Frame) (m : MacroProcessor) (f : Frame) → processor_of held base fs ≡ m → base ≤ length fs

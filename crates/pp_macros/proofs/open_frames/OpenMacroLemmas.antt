@@ -1,12 +1,14 @@
 -- Open macros, which the expander keeps with the innermost last.
-use Rattle.std.proofs.Common.{◌≡◌, ◌∙◌, ℕ, ◌+◌, ◌-◌, ◌<◌, true, false, List, [], ◌∷◌, ◌++◌, length, get_or, take, drop, reverse, set, refl, ap, sym, subst, arith, Option, Some, None, slice_get, get_or-set_same}
-use Rattle.std.specs.Prelude.{is_none, is_some, IfSome, IsSome, MatchOption}
+use Rattle.std.proofs.Common.{◌≡◌, ◌∙◌, ◌+◌, ◌-◌, ◌<◌, true, false, List, [], ◌∷◌, ◌++◌, length, get_or, take, drop, reverse, set, refl, ap, sym, subst, arith, Option, Some, None, slice_get, get_or-set_same}
+use Rattle.std.specs.Prelude.{is_none, is_some, IfSome, IsSome}
 use Rattle.std.proofs.Math.Seq.{take-length}
 use Rattle.std.proofs.lemmas.List.{reverse-append, take_more, length-set, take-set, set-get_or}
+use Rattle.pp_lexer.specs.declared.token.Token.{Token}
 use Rattle.pp_model.specs.Names.{Name}
 use Rattle.pp_model.specs.declared.read.Read.{Read}
 use Rattle.pp_macros.specs.inner.Frames.{Frame, Advance, advance, names_of, outermost_frame_line}
-use Rattle.pp_macros.specs.inner.Ahead.{Ahead, given_by, given_next, frame_after, frames_after}
+use Rattle.pp_macros.specs.declared.frames.Ahead.{Ahead}
+use Rattle.pp_macros.specs.inner.Ahead.{token_given, given_by, given_next, frame_after, frames_after}
 use Rattle.pp_macros.specs.inner.Bodies.{noted_by}
 use Rattle.pp_macros.specs.inner.Defined.{AreNumbered}
 use Rattle.pp_macros.specs.inner.Left.{HaveNumbers}
@@ -53,58 +55,25 @@ frame_passes : (advanced : Option Advance) (f v : Frame) (fs : List Frame) → i
 frame_passes (Some a) f v fs goes is = ap (λ w. w ∷ fs) is
 frame_passes None f v fs goes is = cc
 
--- the last of them gives what the frames give
-pub last_gives : (fs : List Frame) (f : Frame) (n : ℕ) → n ≡ length fs → 0 < n → f ≡ get_or fs (n - 1) f
-    → given_next (reverse fs) ≡ given_by (advance f)
-last_gives fs f n e some last =
-    let more = rw e at some in
-    let is = rw e at last in
-    rw (reverse_last fs f more) (ap (λ g. given_by (advance g)) (sym is))
-
--- the numbers that are noted for the last of them are right if they all are
-last_numbered : (names : List Name) (fs : List Frame) (f : Frame) (n : ℕ) → n ≡ length fs → 0 < n → f ≡ get_or fs (n - 1) f
-    → HaveNumbers names (reverse fs) → AreNumbered names f.noted
-last_numbered names fs f n e some last right =
-    let more = rw e at some in
-    let is = rw e at last in
-    let there : HaveNumbers names (get_or fs (length fs - 1) f ∷ reverse (take (length fs - 1) fs)) = subst (HaveNumbers names) (reverse_last fs f more) right in
-    subst (λ (g : Frame). AreNumbered names g.noted) (sym is) there.0.1
-
--- so is that of the token that the last of them gives
-pub ahead_numbered : (o : Option Ahead) (fs : List Frame) (f : Frame) (n : ℕ) → n ≡ length fs → 0 < n → f ≡ get_or fs (n - 1) f
-    → IfSome o (λ a. (names : List Name) → AreNumbered names f.noted → AreNumbered names (noted_by a.number a.read.token.value))
-    → IfSome o (λ a. (names : List Name) → HaveNumbers names (reverse fs) → AreNumbered names (noted_by a.number a.read.token.value))
-ahead_numbered None fs f n e some last tells = tt
-ahead_numbered (Some a) fs f n e some last tells = λ names right. tells names (last_numbered names fs f n e some last right)
-
 -- what gives a token isn't at its end
 pub goes_on : (advanced : Option Advance) → IsSome (given_by advanced) → is_none advanced ≡ false
 goes_on (Some a) some = refl
 goes_on None some = gives_something None refl some
 
--- a step of the last of them is a step of the frames
-pub last_passes : (fs : List Frame) (f v : Frame) (n : ℕ) → n ≡ length fs → 0 < n → f ≡ get_or fs (n - 1) f
-    → is_none (advance f) ≡ false → v ≡ frame_after f (advance f) → reverse (set fs (n - 1) v) ≡ frames_after (reverse fs)
-last_passes fs f v n e some last goes passes =
-    let more = rw e at some in
-    let is = rw e at last in
-    rw (e, reverse_last fs f more, ← is, reverse_set_last fs v more) (frame_passes (advance f) f v (reverse (take (length fs - 1) fs)) goes passes)
-
 -- nor is what gives this token
-pub has_given : (advanced : Option Advance) (read : Read) → given_by advanced ≡ Some read → is_none advanced ≡ false
-has_given (Some a) read gives = refl
-has_given None read gives = cc
+pub has_token : (advanced : Option Advance) (token : Token) → token_given (given_by advanced) ≡ Some token → is_none advanced ≡ false
+has_token (Some a) token gives = refl
+has_token None token gives = cc
 
--- what the last of them moves out is given by the frames
-pub last_takes : (fs : List Frame) (f v : Frame) (n : ℕ) (taken : Option Read) → n ≡ length fs → 0 < n → f ≡ get_or fs (n - 1) f
-    → MatchOption taken (v ≡ f) (λ read. (given_by (advance f) ≡ Some read) × (v ≡ frame_after f (advance f)))
-    → MatchOption taken (reverse (set fs (n - 1) v) ≡ reverse fs)
-    (λ read. (given_next (reverse fs) ≡ Some read) × (reverse (set fs (n - 1) v) ≡ frames_after (reverse fs)))
-last_takes fs f v n None e some last same = ap reverse (ap (set fs (n - 1)) (same ∙ last) ∙ set-get_or fs (n - 1) f)
-last_takes fs f v n (Some read) e some last takes = (
-  last_gives fs f n e some last ∙ takes.0,
-  last_passes fs f v n e some last (has_given (advance f) read takes.0) takes.1,
-)
+-- where a token is given, a macro is open
+pub given_open : (fs : List Frame) → IsSome (given_next fs) → is_some (outermost_frame_line fs) ≡ true
+given_open [] some = gives_something None refl some
+given_open (f ∷ fs) some = refl
+
+-- what gives a token gives what is read
+pub some_given : (given : Option Read) → IsSome (token_given given) → IsSome given
+some_given (Some read) some = some
+some_given None some = some
 
 -- what has a step isn't at its end
 pub has_step : (advanced : Option Advance) → is_some advanced ≡ true → is_none advanced ≡ false
@@ -116,9 +85,35 @@ frame_closes : (advanced : Option Advance) (fs : List Frame) → is_some advance
 frame_closes (Some a) fs ends = cc
 frame_closes None fs ends = refl
 
-pub last_closes : (fs : List Frame) (f v : Frame) (n : ℕ) → n ≡ length fs → 0 < n → f ≡ get_or fs (n - 1) f
-    → is_some (advance f) ≡ false → drop 1 (reverse (set fs (n - 1) v)) ≡ frames_after (reverse fs)
-last_closes fs f v n e some last ends =
-    let more = rw e at some in
-    let is = rw e at last in
-    rw (e, reverse_last fs f more, ← is, reverse_set_last fs v more) (frame_closes (advance f) (reverse (take (length fs - 1) fs)) ends)
+-- the last of some frames is the innermost
+module _ (fs : List Frame) (f : Frame) (some : 0 < length fs) (last : f ≡ get_or fs (length fs - 1) f) where
+  innermost_first : reverse fs ≡ f ∷ reverse (take (length fs - 1) fs)
+  innermost_first = reverse_last fs f some ∙ ap (λ (g : Frame). g ∷ reverse (take (length fs - 1) fs)) (sym last)
+
+  -- it gives what the frames give
+  pub last_gives : given_next (reverse fs) ≡ given_by (advance f)
+  last_gives = ap given_next innermost_first
+
+  -- the number that is noted for the token that it gives is right if those of the frames are
+  pub ahead_numbered : (o : Option Ahead)
+      → IfSome o (λ a. (names : List Name) → AreNumbered names f.noted → AreNumbered names (noted_by a.number a.token.now.value))
+      → IfSome o (λ a. (names : List Name) → HaveNumbers names (reverse fs) → AreNumbered names (noted_by a.number a.token.now.value))
+  ahead_numbered None tells = tt
+  ahead_numbered (Some a) tells = λ names right.
+      let all : HaveNumbers names (f ∷ reverse (take (length fs - 1) fs)) = subst (HaveNumbers names) innermost_first right in
+      tells names all.0.1
+
+  -- its step is a step of the frames
+  pub last_passes : (v : Frame) → is_none (advance f) ≡ false → v ≡ frame_after f (advance f)
+      → reverse (set fs (length fs - 1) v) ≡ frames_after (reverse fs)
+  last_passes v goes passes =
+      rw (innermost_first, reverse_set_last fs v some) (frame_passes (advance f) f v (reverse (take (length fs - 1) fs)) goes passes)
+
+  -- if it stays as it is, so do the frames
+  pub last_stays : (v : Frame) → v ≡ f → reverse (set fs (length fs - 1) v) ≡ reverse fs
+  last_stays v same = ap reverse (ap (set fs (length fs - 1)) (same ∙ last) ∙ set-get_or fs (length fs - 1) f)
+
+  -- at its end it closes
+  pub last_closes : (v : Frame) → is_some (advance f) ≡ false → drop 1 (reverse (set fs (length fs - 1) v)) ≡ frames_after (reverse fs)
+  last_closes v ends =
+      rw (innermost_first, reverse_set_last fs v some) (frame_closes (advance f) (reverse (take (length fs - 1) fs)) ends)

@@ -1,19 +1,19 @@
 -- What the innermost frame gives next, and the frames after its step.
-use Rattle.std.specs.Prelude.{ℕ, List, [], ◌∷◌, Option, Some, None}
-use denote.Ref.{Bor}
+use Rattle.std.specs.Prelude.{List, [], ◌∷◌, Option, Some, None}
+use Rattle.std.specs.Option.{option_map}
+use Rattle.pp_lexer.specs.declared.token.Token.{Token}
 use Rattle.pp_model.specs.declared.read.Read.{Read}
+use Rattle.pp_macros.specs.declared.frames.Ahead.{Ahead}
 use Rattle.pp_macros.specs.inner.Frames.{Frame, Advance, advance}
 use Rattle.pp_macros.specs.inner.Turns.{frame_move}
 
--- a token that a frame gives, and the number that is noted for it
-pub record Ahead : Type 0 where
-  pub read : Read
-  pub number : Option ℕ
+-- what is ahead, as it is read
+abbrev pub read_of : Ahead → Read
+read_of ahead = record { token = ahead.token.now; painted = ahead.painted }
 
--- the number that is noted at an entry of a body, if the token is of one
-abbrev pub number_at : Option (Bor (Option ℕ)) → Option ℕ
-number_at None = None
-number_at (Some noted) = noted.now
+-- its token
+abbrev pub token_given : Option Read → Option Token
+token_given given = option_map (λ read. read.token) given
 
 -- what a frame gives in its step: nothing if it pauses or is at its end
 abbrev pub given_by : Option Advance → Option Read

@@ -2,11 +2,10 @@
 -- that are given.
 use Rattle.std.specs.Prelude.{◌≡◌, Bool, List, [], ◌∷◌, ◌++◌, Option, Some, None, Ok, Err, IfSome}
 use Rattle.std.specs.Prelude.{MatchOption}
-use Rattle.std.specs.Option.{option_map}
 use Rattle.pp_lexer.specs.declared.token.Token.{Token}
 use Rattle.pp_model.specs.declared.read.Read.{Read}
 use Rattle.pp_macros.specs.Held.{HoldsOrdinary}
-use Rattle.pp_macros.specs.inner.Ahead.{given_next, frames_after}
+use Rattle.pp_macros.specs.inner.Ahead.{token_given, given_next, frames_after}
 use Rattle.pp_macros.specs.inner.CallTurns.{TurnsTo, TakesSomething}
 use Rattle.pp_macros.specs.inner.Expander.{Expander}
 use Rattle.pp_macros.specs.inner.Reader.{Reader}
@@ -21,7 +20,7 @@ passed m = record m { frames = frames_after m.frames }
 
 -- the token that the innermost frame gives next
 abbrev pub token_ahead : Expander → Option Token
-token_ahead m = option_map (λ read. read.token) (given_next m.frames)
+token_ahead m = token_given (given_next m.frames)
 
 -- nothing is held, the innermost frame has this token next, and it is given as it is, painted or not
 pub record GivesAhead (r : Reader) (m : Expander) (token : Token) (painted : Bool) : Type 0 where

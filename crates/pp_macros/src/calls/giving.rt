@@ -1,14 +1,13 @@
 //! What the open macros of an expander give, without a step of its reader.
 
-ghost use Rattle.std.specs.Prelude.{◌≡◌, ◌∷◌, ◌++◌, [], List, OnOk, OnErr, true, false, IfOk, IfSome};
-ghost use Rattle.std.specs.Prelude.{MatchOption, Ok, Some, None, IsSome, is_some, option_map};
+ghost use Rattle.std.specs.Prelude.{◌≡◌, ◌∷◌, ◌++◌, [], List, OnOk, OnErr, IfOk, IfSome, Some, IsSome, option_map};
 ghost use Rattle.pp_model.specs.Names.{Name};
 ghost use Rattle.pp_model.specs.Painting.{painted_among};
 ghost use Rattle.pp_macros.specs.Held.{HoldsOrdinary};
+ghost use Rattle.pp_macros.specs.inner.Ahead.{read_of};
 ghost use Rattle.pp_macros.specs.inner.Reading.{AllReadOrdinary};
 ghost use Rattle.pp_macros.specs.inner.Giving.{AdvancesTo, GivesEach, GivesNext, RefusesWithin};
 ghost use Rattle.pp_macros.specs.inner.Giving.{TurnsFrames, token_ahead};
-ghost use Rattle.pp_macros.specs.inner.Idle.{is_idle};
 ghost use Rattle.pp_macros.specs.inner.CallTurns.{TakesSomething};
 ghost use Rattle.pp_macros.specs.inner.Left.{IsSound};
 ghost use Rattle.pp_macros.specs.inner.Bodies.{noted_by};
@@ -34,11 +33,11 @@ use std::rc::Rc;
 #[inline(always)]
 fn number_of<L: MeLexer>(lexer: &L, ahead: &Ahead<'_>) -> Option<NameId>
     requires { AreNumbered (names_in (definitions_of (L.reader lexer.now)))
-        (noted_by ahead.now.number ahead.now.read.token.value) }
-    ensures { result ≡ number_in (names_in (definitions_of (L.reader lexer.now))) ahead.now.read.token.value }
+        (noted_by ahead.now.number ahead.now.token.now.value) }
+    ensures { result ≡ number_in (names_in (definitions_of (L.reader lexer.now))) ahead.now.token.now.value }
 {
-    match ahead.value() {
-        TokenValue::Ident(name) => match ahead.number() {
+    match &ahead.token.value {
+        TokenValue::Ident(name) => match ahead.number {
             Some(id) => Some(id),
             None => lexer.find(name.as_str()),
         },
@@ -85,10 +84,10 @@ impl MacroProcessor {
     #[inline(always)]
     fn paints(&self, ahead: &Ahead<'_>, number: &Option<NameId>) -> bool
         ensures { (names : List Name) → AreKnown names self.now
-            → number.now ≡ number_in names ahead.now.read.token.value
-            → result ≡ (painted_among (open_names self.now) ahead.now.read).painted }
+            → number.now ≡ number_in names ahead.now.token.now.value
+            → result ≡ (painted_among (open_names self.now) (read_of ahead.now)).painted }
     {
-        ahead.is_painted() || self.is_open_name(number)
+        ahead.painted || self.is_open_name(number)
     }
 
     // One step of the open macros, if it is a pause or opens a macro without parentheses; otherwise nothing changes.
@@ -109,7 +108,7 @@ impl MacroProcessor {
             self.pass_pause();
             return Ok(Turn::Passed);
         };
-        if is_line_name(ahead.value()) {
+        if is_line_name(&ahead.token.value) {
             return Ok(Turn::Other);
         }
         let number = number_of(lexer, &ahead);
@@ -120,7 +119,7 @@ impl MacroProcessor {
         if found.is_function_like() {
             return Ok(Turn::Other);
         }
-        let line = ahead.line();
+        let line = ahead.token.location.line;
         let opened = found.clone()?;
         self.pass_token();
         self.open_bare(opened, line)?;
@@ -155,7 +154,7 @@ impl MacroProcessor {
         ensures token { option_map (λ token. token.now) result ≡ token_ahead self.now.here }
     {
         match self.ahead() {
-            Some(ahead) => Some(ahead.token()),
+            Some(ahead) => Some(ahead.token),
             None => None,
         }
     }
@@ -175,88 +174,14 @@ impl MacroProcessor {
         if self.is_idle() {
             return Ok(None);
         }
-        self.give_ahead(lexer)
-    }
-
-    // Does the same if something is open or held.
-    #[inline(always)]
-    fn give_ahead<L: MeLexer>(&mut self, lexer: &L) -> Result<Option<Token>, AllocError>
-        requires sound { IsSound self.old.here (seen_by self.old.below (L.reader lexer.now)) }
-        requires waits { MayWait self.old.below (L.reader lexer.now) }
-        requires known { AreKnown (names_in (definitions_of (L.reader lexer.now))) self.old }
-        ensures gives { IfOk result (λ given. GivesNext (seen_by self.old.below (L.reader lexer.now))
-            self.old.here given self.new.here) }
-        ensures below { self.new.below ≡ self.old.below }
-        ensures holds { IfOk result (λ given. IfSome given (λ token. HoldsOrdinary token.value)) }
-        ensures refused { OnErr result (RefusesWithin (seen_by self.old.below (L.reader lexer.now)) self.old.here) }
-    {
-        let Some(_) = self.advance(lexer)? else {
-            return Ok(None);
-        };
-        if self.reads_last() {
-            if let Some(token) = self.take_last() {
-                return Ok(Some(token));
-            }
-        }
-        let Some(ahead) = self.ahead() else {
-            unreachable!();
-        };
-        let token = ahead.copied_token(self.alloc())?;
-        self.pass_token();
-        Ok(Some(token))
-    }
-
-    // Moves out the token that `token` gives, and passes it, if its list gives it for the last time. Otherwise nothing
-    // changes. It is a function of its own, so that the room for the token is cleared only if there may be one.
-    #[inline(always)]
-    fn take_last(&mut self) -> Option<Token>
-        ensures takes { MatchOption result (self.new ≡ self.old) (λ token. (token_ahead self.old.here ≡ Some token)
-            × (self.new ≡ stepped self.old)) }
-        ensures holds { IfSome result (λ token. HoldsOrdinary token.value) }
-    {
-        match self.take_token() {
-            Some(read) => Some(read.token),
-            None => None,
+        match self.advance(lexer)? {
+            Some(_) => self.make_token().map(Some),
+            None => Ok(None),
         }
     }
 
-    // Moves that token to the end of the items, painted or not, and passes it, if its list gives it for the last time.
-    // Returns whether it did. Otherwise nothing changes. It is a function of its own for the same reason.
-    #[inline(never)]
-    fn put_last(&mut self, painted: bool, items: &mut Vec<Read>) -> Result<bool, AllocError>
-        ensures passes { IfOk result (λ put. put ≡ true → self.new ≡ stepped self.old) }
-        ensures below { self.new.below ≡ self.old.below }
-        ensures puts { IfOk result (λ put. put ≡ true → (token : Token) → token_ahead self.old.here ≡ Some token
-            → items.new.items ≡ items.old.items ++ record { token = token; painted = painted } ∷ []) }
-        ensures stays { IfOk result (λ put. put ≡ false → (self.new ≡ self.old)
-            × (items.new.items ≡ items.old.items)) }
-    {
-        match self.take_token() {
-            Some(read) => {
-                items.push(Read {
-                    token: read.token,
-                    painted,
-                })?;
-                Ok(true)
-            }
-            None => Ok(false),
-        }
-    }
-
-    // Whether `token` gives its token for the last time, and copying would allocate.
-    #[inline(always)]
-    fn moves_next(&self) -> bool {
-        if !self.reads_last() {
-            return false;
-        }
-        match self.ahead() {
-            Some(ahead) => ahead.takes_memory(),
-            None => false,
-        }
-    }
-
-    // Puts the token that `token` gives after the items, painted or not, and passes it. It is copied, unless its list
-    // gives it for the last time and a copy would take memory.
+    // Puts the token that `token` gives after the items, painted or not, and passes it. A punctuator is made where it
+    // is put.
     #[inline(always)]
     fn put_token(&mut self, painted: bool, items: &mut Vec<Read>) -> Result<(), AllocError>
         requires { IsSome (token_ahead self.old.here) }
@@ -265,14 +190,34 @@ impl MacroProcessor {
         ensures puts { OnOk result ((token : Token) → token_ahead self.old.here ≡ Some token
             → items.new.items ≡ items.old.items ++ record { token = token; painted = painted } ∷ []) }
     {
-        if self.moves_next() && self.put_last(painted, items)? {
-            return Ok(());
-        }
-        let Some(ahead) = self.ahead() else {
+        let Some(token) = self.token() else {
             unreachable!();
         };
-        ahead.put_copy(self.alloc(), painted, items)?;
-        self.pass_token();
+        if let TokenValue::Punct(punct) = &token.value {
+            items.push(Read {
+                token: Token {
+                    value: TokenValue::Punct(*punct),
+                    location: token.location,
+                },
+                painted,
+            })?;
+            self.pass_token();
+            return Ok(());
+        }
+        self.put_other(painted, items)
+    }
+
+    // Does the same with any token. It is a function of its own, so that a punctuator is put without it.
+    #[inline(never)]
+    fn put_other(&mut self, painted: bool, items: &mut Vec<Read>) -> Result<(), AllocError>
+        requires { IsSome (token_ahead self.old.here) }
+        ensures passes { OnOk result (self.new ≡ stepped self.old) }
+        ensures below { self.new.below ≡ self.old.below }
+        ensures puts { OnOk result ((token : Token) → token_ahead self.old.here ≡ Some token
+            → items.new.items ≡ items.old.items ++ record { token = token; painted = painted } ∷ []) }
+    {
+        let token = self.make_token()?;
+        items.push(Read { token, painted })?;
         Ok(())
     }
 

@@ -1,30 +1,26 @@
-use Rattle.std.proofs.Common.{◌∙◌, sym, vec_len}
-use Rattle.pp_macros.proofs.open_frames.BaseLemmas.{nothing_steps, gives_here, passes_here, kept_here}
-use Rattle.pp_macros.proofs.open_frames.OpenMacroLemmas.{goes_on}
+use Rattle.std.proofs.Common.{vec_len}
+use Rattle.pp_macros.proofs.open_frames.BaseLemmas.{gives_here, passes_here, kept_here}
+use Rattle.pp_macros.proofs.open_frames.OpenMacroLemmas.{given_open, goes_on}
 use Rattle.pp_macros.proofs.macro_processor.MacroProcessor.pass_token.Goals as goal
-
--- nothing is open here
-pub returns-then-not-has_frames : goal.returns-then-not-has_frames
-returns-then-not-has_frames c = nothing_steps c.args.self.now (sym c.has_frames.ensures ∙ c.if-not-has_frames.true)
 
 pub pass_token-requires : goal.pass_token-requires
 pass_token-requires c =
     rw (gives_here c.self.inside.held c.self.inside.base c.self.inside.frames.items c.args.self.now c.self.view_is
-    (sym c.has_frames.ensures ∙ c.if-not-has_frames.false) c.in-Some.frame.now (vec_len c.self.inside.frames) c.self.inside.frames.ok.0 c.in-Some.ensures.value)
+    (given_open _ c.requires) c.in-Some.frame.now (vec_len c.self.inside.frames) c.self.inside.frames.ok.0 c.in-Some.ensures.value)
     at c.requires
 
-pub invariant_of-self-2 : goal.invariant_of-self-2
-invariant_of-self-2 c =
+pub invariant_of-self : goal.invariant_of-self
+invariant_of-self c =
     let kept = kept_here c.self.inside.held c.self.inside.base c.self.inside.frames.items c.args.self.now c.self.view_is
-    (sym c.has_frames.ensures ∙ c.if-not-has_frames.false) c.in-Some.frame.now (vec_len c.self.inside.frames) c.self.inside.frames.ok.0 c.in-Some.ensures.value
+    (given_open _ c.requires) c.in-Some.frame.now (vec_len c.self.inside.frames) c.self.inside.frames.ok.0 c.in-Some.ensures.value
     c.pass_token.new.self c.self.inside.counts.items c.pass_token.ensures.number c.self.invariant.0 in
     (kept.0, c.self.invariant.1, kept.1)
 
 pub returns : goal.returns
 returns c =
     let gives = rw (gives_here c.self.inside.held c.self.inside.base c.self.inside.frames.items c.args.self.now c.self.view_is
-    (sym c.has_frames.ensures ∙ c.if-not-has_frames.false) c.in-Some.frame.now (vec_len c.self.inside.frames) c.self.inside.frames.ok.0 c.in-Some.ensures.value)
+    (given_open _ c.requires) c.in-Some.frame.now (vec_len c.self.inside.frames) c.self.inside.frames.ok.0 c.in-Some.ensures.value)
     at c.requires in
     passes_here c.self.inside.held c.self.inside.base c.self.inside.frames.items c.args.self.now c.self.view_is
-    (sym c.has_frames.ensures ∙ c.if-not-has_frames.false) c.in-Some.frame.now (vec_len c.self.inside.frames) c.self.inside.frames.ok.0 c.in-Some.ensures.value
+    (given_open _ c.requires) c.in-Some.frame.now (vec_len c.self.inside.frames) c.self.inside.frames.ok.0 c.in-Some.ensures.value
     c.pass_token.new.self (goes_on _ gives) c.pass_token.ensures.step
