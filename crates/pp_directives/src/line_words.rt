@@ -16,7 +16,7 @@ use pp_macros::arguments::finish_call;
 use pp_macros::calls::Taken;
 use pp_macros::halt::{Halt, halt_of};
 use pp_macros::list_lexer::ListLexer;
-use pp_macros::list_step::{step_list, step_unnamed, take_list};
+use pp_macros::list_step::{step_list, take_list};
 use pp_macros::macro_processor::{MacroProcessor, SpareCounts};
 use pp_macros::names::Definitions;
 use pp_macros::step::StepExit;
@@ -73,19 +73,6 @@ impl<'a> WordReader<'a> {
     // The next item of the line, or `None` at its end.
     #[inline(always)]
     fn next_item(&self, line: &mut LineExpander<'_>) -> Result<Option<Read>, Halt>
-        requires { IsReading self.now line.old }
-        ensures reads { GivesItem self.now line.old result line.new }
-        ensures less { TakesOff self.now line.old result line.new }
-    {
-        if let Some(read) = step_unnamed(&line.expander, &mut line.lexer) {
-            return Ok(Some(read));
-        }
-        self.next_expanded(line)
-    }
-
-    // Does the same with any item. It is a function of its own, so that other items are moved less.
-    #[inline(never)]
-    fn next_expanded(&self, line: &mut LineExpander<'_>) -> Result<Option<Read>, Halt>
         requires { IsReading self.now line.old }
         ensures reads { GivesItem self.now line.old result line.new }
         ensures less { TakesOff self.now line.old result line.new }

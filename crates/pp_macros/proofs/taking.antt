@@ -10,7 +10,7 @@ pub mod ExpanderLemmas
 pub mod RunLemmas
 pub mod NestingLemmas
 pub mod PaintedRunLemmas
-pub mod ApartLemmas
+pub mod IdleListLemmas
 pub mod SearchSimulates
 pub mod LineStaysLemmas
 pub mod TurnLeadsLemmas
@@ -20,4 +20,3 @@ pub mod AnswerLemmas
 pub mod SeekLemmas
 pub mod FrameTurnLemmas
 pub mod GivingLemmas
-pub mod ListedLemmas

@@ -16,7 +16,6 @@ pub mod Giving
 pub mod Parts
 pub mod Nesting
 pub mod Turns
-pub mod Apart
 pub mod Ahead
 pub mod Work
 pub mod LineReading

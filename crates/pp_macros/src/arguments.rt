@@ -1,9 +1,8 @@
 //! Arguments of calls, each expanded alone.
 
-ghost use Rattle.std.specs.Prelude.{◌≡◌, ◌++◌, ◌-◌, ◌&&◌, [], IfOk, None, OnOk, is_none, length, not, Ok, Err};
+ghost use Rattle.std.specs.Prelude.{◌≡◌, ◌++◌, ◌-◌, [], IfOk, None, OnOk, length, Ok, Err};
 ghost use Rattle.std.specs.List.{list_all};
 ghost use Rattle.pp_model.specs.Calls.{arguments_of, misfit};
-ghost use Rattle.pp_model.specs.Names.{is_in};
 ghost use Rattle.pp_model.specs.Emitting.{Alone, Each, answers_at};
 ghost use Rattle.pp_macros.specs.inner.Defined.{meaning_of, names_in};
 ghost use Rattle.pp_macros.specs.inner.Finishing.{Finishes, IsAtStart, IsShort, AreShort, AreOfCall, read_to_end};
@@ -20,12 +19,11 @@ use crate::argument_lists::{ArgumentLists, Part};
 use crate::calls::{MacroCall, Taken};
 use crate::halt::{Halt, halt_of};
 use crate::list_lexer::{ListLexer, take_out};
-use crate::list_step::step_list;
+use crate::list_step::{is_plain, step_list};
 use crate::macro_processor::MacroProcessor;
 use crate::names::Definitions;
 use crate::step::StepExit;
-use pp_lexer::token::{PreprocessorError, Text, TokenValue};
-use pp_model::names::is_line_name;
+use pp_lexer::token::{PreprocessorError, Text};
 use pp_model::parentheses::{ends_argument, nesting_after};
 use pp_model::read::Read;
 use std::alloc::{AllocError, Global};
@@ -203,37 +201,6 @@ fn expand_parts(
         })?;
     }
     Ok(ArgumentLists::new(items, expanded))
-}
-
-// Whether no macro has this name: it is neither defined nor open, here or around.
-fn opens_none(name: &Text, definitions: &Definitions, processor: &MacroProcessor) -> bool
-    requires { AreKnown (names_in definitions.now) processor.now }
-    ensures { result ≡ (is_none (meaning_of definitions.now name.now)
-        && not (is_in name.now (open_names processor.now))) }
-{
-    let Some(id) = definitions.find(name.as_str()) else {
-        return true;
-    };
-    match definitions.get_define(id) {
-        Some(_) => false,
-        None => !processor.is_open(id),
-    }
-}
-
-// Whether the token gives itself, with its paint: it isn't `__LINE__`, and it is painted, or is not
-// a name that is defined, or open here or around.
-fn is_plain(read: &Read, definitions: &Definitions, processor: &MacroProcessor) -> bool
-    requires { AreKnown (names_in definitions.now) processor.now }
-    ensures { result ≡ is_plain definitions.now (open_names processor.now) read.now }
-{
-    let value = &read.token.value;
-    if read.painted {
-        return !is_line_name(value);
-    }
-    match value {
-        TokenValue::Ident(name) => !is_line_name(value) && opens_none(name, definitions, processor),
-        _ => true,
-    }
 }
 
 // Whether each token gives itself.

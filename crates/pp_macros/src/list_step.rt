@@ -1,49 +1,54 @@
 //! Steps over a list of tokens.
 
-ghost use Rattle.std.specs.Prelude.{◌≡◌, Ok, IfOk, IfSome, MatchOption};
-ghost use Rattle.pp_macros.specs.inner.CallTurns.{TurnsTo, TurnsOrRefuses, TakenHoldsOrdinary};
+ghost use Rattle.std.specs.Prelude.{◌≡◌, ◌&&◌, IfOk, is_none, not};
+ghost use Rattle.pp_macros.specs.inner.CallTurns.{TurnsOrRefuses, TakenHoldsOrdinary};
 ghost use Rattle.pp_macros.specs.Held.{HoldsOrdinary};
 ghost use Rattle.pp_macros.specs.inner.Expander.{TakesNext};
 ghost use Rattle.pp_macros.specs.inner.Nesting.{AreKnown, open_names, seen_by};
-ghost use Rattle.pp_macros.specs.inner.Defined.{names_in};
-ghost use Rattle.pp_model.specs.Painting.{painted_among};
+ghost use Rattle.pp_macros.specs.inner.Defined.{meaning_of, names_in};
+ghost use Rattle.pp_macros.specs.inner.Plain.{is_plain};
+ghost use Rattle.pp_model.specs.Names.{is_in};
 ghost use Rattle.pp_macros.specs.inner.Reader.{of_list};
-ghost use Rattle.pp_macros.specs.declared.calls.Taken.TheVariants as taken;
 
 use crate::calls::Taken;
 use crate::list_lexer::ListLexer;
 use crate::macro_processor::MacroProcessor;
+use crate::names::Definitions;
 use crate::step::{Step, StepExit};
+use pp_lexer::token::{Text, TokenValue};
+use pp_model::names::is_line_name;
 use pp_model::read::Read;
 
-// Paints a token that was taken from the list.
-#[inline(always)]
-fn paint_listed(processor: &MacroProcessor, list: &ListLexer<'_>, read: &mut Read)
-    requires { AreKnown (names_in list.now.definitions) processor.now }
-    ensures { read.new ≡ painted_among (open_names processor.now) read.old }
+// Whether no macro has this name: it is neither defined nor open, here or around.
+fn opens_none(name: &Text, definitions: &Definitions, processor: &MacroProcessor) -> bool
+    requires { AreKnown (names_in definitions.now) processor.now }
+    ensures { result ≡ (is_none (meaning_of definitions.now name.now)
+        && not (is_in name.now (open_names processor.now))) }
 {
-    if processor.is_alone() {
-        return;
+    let Some(id) = definitions.find(name.as_str()) else {
+        return true;
+    };
+    match definitions.get_define(id) {
+        Some(_) => false,
+        None => !processor.is_open(id),
     }
-    processor.paint_by(list.number_of(&read.token.value), read);
 }
 
-/// One step of the processor, with a list as what follows the frames, if nothing is open or held and the list's next
-/// token is no name that may open a macro: the token. Otherwise nothing changes.
+/// Whether the token gives itself, with its paint: it isn't `__LINE__`, and it is painted, or is not a name that is
+/// defined, or open here or around.
 #[inline(always)]
-pub fn step_unnamed(processor: &MacroProcessor, list: &mut ListLexer<'_>) -> Option<Read>
-    requires { AreKnown (names_in list.old.definitions) processor.now }
-    ensures turns { MatchOption result (list.new ≡ list.old) (λ read.
-        TurnsTo processor.now.here (seen_by processor.now.below (of_list list.old)) (Ok (taken.Token read))
-        processor.now.here (seen_by processor.now.below (of_list list.new))) }
-    ensures holds { IfSome result (λ read. HoldsOrdinary read.token.value) }
+pub fn is_plain(read: &Read, definitions: &Definitions, processor: &MacroProcessor) -> bool
+    requires { AreKnown (names_in definitions.now) processor.now }
+    ensures { result ≡ is_plain definitions.now (open_names processor.now) read.now }
 {
-    if !processor.is_idle() {
-        return None;
+    let value = &read.token.value;
+    if read.painted {
+        return !is_line_name(value);
     }
-    let mut read = list.take_unnamed()?;
-    paint_listed(processor, list, &mut read);
-    Some(read)
+    match value {
+        TokenValue::Ident(name) => opens_none(name, definitions, processor) && !is_line_name(value),
+        _ => true,
+    }
 }
 
 /// One step of the processor, with a list as what follows the frames.
@@ -55,11 +60,14 @@ pub fn step_list(processor: &mut MacroProcessor, list: &mut ListLexer<'_>) -> St
     ensures below { processor.new.below ≡ processor.old.below }
     ensures holds { IfOk result TakenHoldsOrdinary }
 {
-    if let Some(read) = step_unnamed(&*processor, list) {
-        return Ok(Taken::Token(read));
-    }
-    if processor.is_idle() && list.is_spent() {
-        return Err(StepExit::Finished);
+    if processor.is_idle() {
+        match list.peek() {
+            None => return Err(StepExit::Finished),
+            Some(read) if is_plain(read, list.definitions(), &*processor) => {
+                return Ok(Taken::Token(list.take()));
+            }
+            Some(_) => {}
+        }
     }
     step_any(processor, list)
 }
@@ -76,6 +84,7 @@ fn step_any(processor: &mut MacroProcessor, list: &mut ListLexer<'_>) -> Step<Ta
 }
 
 /// Takes the next token without looking it up, with a list as what follows the frames.
+#[inline(always)]
 pub fn take_list(processor: &mut MacroProcessor, list: &mut ListLexer<'_>) -> Step<Read>
     requires { AreKnown (names_in list.old.definitions) processor.old }
     ensures takes { TakesNext processor.old.here (seen_by processor.old.below (of_list list.old)) result
@@ -83,10 +92,10 @@ pub fn take_list(processor: &mut MacroProcessor, list: &mut ListLexer<'_>) -> St
     ensures below { processor.new.below ≡ processor.old.below }
     ensures holds { IfOk result (λ read. HoldsOrdinary read.token.value) }
 {
-    if processor.is_idle() {
-        if let Some(mut read) = list.take_apart() {
-            paint_listed(&*processor, &*list, &mut read);
-            return Ok(read);
+    if processor.is_idle() && processor.is_alone() {
+        match list.peek() {
+            Some(read) if !is_line_name(&read.token.value) => return Ok(list.take()),
+            _ => {}
         }
     }
     take_any(processor, list)

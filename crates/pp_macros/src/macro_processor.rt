@@ -469,28 +469,15 @@ impl MacroProcessor {
         Ok(Read::unpainted(make_line_number(shown, location)))
     }
 
-    /// Paints a token that is taken, if it is the name of a macro that is open, here or around. `number` is the number
-    /// that the name has.
-    #[inline(always)]
-    pub fn paint_by(&self, number: Option<NameId>, read: &mut Read)
-        ensures { (names : List Name) → AreKnown names self.now → number ≡ number_in names read.old.token.value
-            → read.new ≡ painted_among (open_names self.now) read.old }
-    {
-        if !read.painted {
-            read.painted = self.is_open_name(&number);
-        }
-    }
-
     /// Paints a token that is taken, if it is the name of a macro that is open, here or around.
     #[inline(always)]
     pub fn paint(&self, lexer: &dyn MeLexer, read: &mut Read)
         requires known { AreKnown (names_in (definitions_of (reader lexer.now))) self.now }
         ensures { read.new ≡ painted_among (open_names self.now) read.old }
     {
-        if self.is_alone() {
-            return;
+        if !self.is_alone() && !read.painted {
+            read.painted = self.is_open_name(&number_of(lexer, &read.token.value));
         }
-        self.paint_by(number_of(lexer, &read.token.value), read);
     }
 
     /// Paints so each of the tokens from this position on.
@@ -498,9 +485,6 @@ impl MacroProcessor {
         requires known { AreKnown (names_in (definitions_of (reader lexer.now))) self.now }
         ensures { tokens.new ≡ painted_from (open_names self.now) start tokens.old }
     {
-        if self.is_alone() {
-            return;
-        }
         for at in start..tokens.len() {
             self.paint(lexer, &mut tokens[at]);
         }

@@ -3,7 +3,7 @@
 ghost use Rattle.std.specs.Prelude.{◌≡◌, [], Some, None, option_map, position, IfSome, IfOk, OnOk, OnErr};
 ghost use Rattle.std.specs.Str.{chars};
 ghost use Rattle.pp_model.specs.Names.{Name, is_same_name};
-ghost use Rattle.pp_macros.specs.inner.Defined.{meaning_of, names_in, number_in, opened_by, numbered_by, AreNumbered};
+ghost use Rattle.pp_macros.specs.inner.Defined.{meaning_of, names_in, opened_by, numbered_by, AreNumbered};
 ghost use Rattle.pp_macros.specs.inner.Defined.{IsChanged};
 ghost use Rattle.pp_macros.specs.inner.Plain.{gives_itself};
 
@@ -97,17 +97,6 @@ impl Definitions {
         match self.names.find(name) {
             Some(number) => Some(NameId(number)),
             None => None,
-        }
-    }
-
-    /// The number of the name that a value is, if it is one that was ever defined.
-    #[inline(always)]
-    pub fn number_of(&self, value: &TokenValue) -> Option<NameId>
-        ensures { result ≡ number_in (names_in self.now) value.now }
-    {
-        match value {
-            TokenValue::Ident(name) => self.find(name.as_str()),
-            _ => None,
         }
     }
 

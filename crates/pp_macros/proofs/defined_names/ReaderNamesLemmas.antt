@@ -1,18 +1,14 @@
 -- The numbers of names over a reader.
 use Rattle.std.proofs.Common.{◌≡◌, ◌∙◌, ℕ, Bool, true, false, List, [], get_or, Option, Some, None, refl, sym, ap}
 use Rattle.std.specs.Prelude.{◌&&◌, if◌then◌else◌, position}
-use Rattle.std.proofs.lemmas.List.Quantifiers.{position-Some}
 use Rattle.pp_lexer.specs.declared.token.TokenValue.{TokenValue}
 use Rattle.pp_lexer.specs.declared.token.TokenValue.TheVariants.{Ident}
 use Rattle.pp_model.specs.Definitions.{Definition}
 use Rattle.pp_model.specs.Names.{Name, is_same_name, defined_name}
-use Rattle.pp_macros.specs.inner.Apart.{IsReservedNumber}
 use Rattle.pp_macros.specs.inner.Defined.{names_in, number_in, opened_by}
 use Rattle.pp_macros.specs.inner.Reader.{Reader, of_source, of_list, is_reserved, visible, definitions_of}
 use Rattle.pp_macros.specs.inner.Turns.{macro_of_value}
-use Rattle.pp_macros.proofs.defined_names.NameKeysLemmas.{names_same}
 use Rattle.pp_macros.proofs.defined_names.DefinitionsLemmas.{meaning_absent}
-use Rattle.pp_macros.proofs.defined_names.DistinctNamesLemmas.{same_name}
 use Rattle.pp_macros.proofs.defined_names.FoundNamesLemmas.{not_found}
 
 -- a name without a number opens no macro
@@ -26,26 +22,20 @@ opened_none (of_list l) name none =
     by true = refl
     by false = refl
 
--- The number of `defined` on a directive's line.
+-- On a directive's line a macro that is named `defined` isn't opened.
 
--- names with the same number are the same
-same_number : (a b : Name) (names : List Name) (k : ℕ) → position (is_same_name a) names ≡ Some k → position (is_same_name b) names ≡ Some k → a ≡ b
-same_number a b names k at bt =
-    names_same a (get_or names k []) (position-Some (is_same_name a) names k [] at).1
-    ∙ sym (names_same b (get_or names k []) (position-Some (is_same_name b) names k [] bt).1)
+opened_name : (n name : Name) (d : Definition) (o : Option Definition) → Some (n, d) ≡ opened_by name o → n ≡ name
+opened_name n name d None e = cc
+opened_name n name d (Some k) e =
+    let pair : ◌≡◌ {A = Name × Definition} (n, d) (name, k) = cc in ap (λ (p : Name × Definition). p.0) pair
 
-module _ (name : Name) (names : List Name) (k : ℕ) (reserved : Option ℕ) (at : position (is_same_name name) names ≡ Some k) where
-  pub reserved_number : (is_line : Bool) → IsReservedNumber is_line names reserved → reserved ≡ Some k → (is_line && is_same_name name defined_name) ≡ true
-  reserved_number true is here = rw (same_number name defined_name names k at (sym is ∙ here)) (same_name defined_name)
-  reserved_number false is here = cc
+module _ (is_line : Bool) (n name : Name) (d : Definition) (o : Option Definition) (found : Some (n, d) ≡ opened_by name o) where
+  pub reserved_none : (is_line && is_same_name n defined_name) ≡ true → None ≡ opened_by name (if is_line && is_same_name name defined_name then None else o)
+  reserved_none e = rw (rw (opened_name n name d o found) at e) refl
 
-  pub other_number : (is_line : Bool) → IsReservedNumber is_line names reserved → (reserved ≡ Some k → ⊥) → (is_line && is_same_name name defined_name) ≡ false
-  other_number true is other = by (is_same_name name defined_name) refl
-    where
-      by : (b : Bool) → is_same_name name defined_name ≡ b → b ≡ false
-      by true e = absurd (other (is ∙ ap (λ (n : Name). position (is_same_name n) names) (sym (names_same name defined_name e)) ∙ at))
-      by false e = refl
-  other_number false is other = refl
+  pub others_found : (is_line && is_same_name n defined_name) ≡ false
+      → Some (n, d) ≡ opened_by name (if is_line && is_same_name name defined_name then None else o)
+  others_found e = rw (rw (opened_name n name d o found) at e) found
 
 -- the macro that a value opens, by the number that its name has
 pub value_none : (r : Reader) (value : TokenValue) → None ≡ number_in (names_in (definitions_of r)) value → None ≡ macro_of_value r value

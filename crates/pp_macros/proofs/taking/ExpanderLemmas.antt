@@ -53,18 +53,18 @@ idle_at (Some step) fs e = cc
 pub is_idle-idle : (m : Expander) → is_idle m ≡ true → m ≡ idle
 is_idle-idle m e = idle_at m.held m.frames e
 
--- if nothing is held and no macro is open, a token of the reader is taken with its paint, unless it is `__LINE__`
-pub idle_paints : (m : Expander) (r s : Reader) (read : Read) → is_idle m ≡ true → Reads r (Ok read) s → is_identifier line_name read.token.value ≡ false
-    → StepsTaking m r (Ok (painted_among (hidden_of s) read)) m s
-idle_paints m r s read waits reads apart =
+-- if nothing is held and no macro is open, a step of the reader is taken, unless it gives `__LINE__`; a token is painted
+pub idle_steps : (m : Expander) (r s : Reader) (step : Step Read) → is_idle m ≡ true → Reads r step s → step ≡ taken_as step m.frames s
+    → StepsTaking m r (painted_step (hidden_of s) step) m s
+idle_steps m r s step waits reads shown =
     let none = is_idle-idle m waits in
     let held = ap (λ (k : Expander). k.held) none in
     let frames = ap (λ (k : Expander). k.frames) none in
     record {
-      first = Ok read;
-      fetches = fetches_step m m.held m.held m.frames m.frames (Ok read) (Ok read) r s refl held held
-          (subst (λ (fs : List Frame). Moves fs r (Ok read) fs s) (sym frames) (refl, reads)) (rw apart refl);
-      paints = subst (λ (fs : List Frame). Ok (painted_among (hidden_of s) read) ≡ painted_step (masks fs s) (Ok read)) (sym frames) refl;
+      first = step;
+      fetches = fetches_step m m.held m.held m.frames m.frames step step r s refl held held
+          (subst (λ (fs : List Frame). Moves fs r step fs s) (sym frames) (refl, reads)) shown;
+      paints = subst (λ (fs : List Frame). painted_step (hidden_of s) step ≡ painted_step (masks fs s) step) (sym frames) refl;
     }
 
 -- what is taken next from here on is taken next from the beginning on

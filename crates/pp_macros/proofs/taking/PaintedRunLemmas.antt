@@ -11,7 +11,7 @@ use Rattle.pp_macros.specs.inner.Idle.{is_idle}
 use Rattle.pp_macros.specs.inner.Nesting.{MayWait, seen_by}
 use Rattle.pp_macros.specs.inner.Reader.{Reader, Reads, ReadsRun, ReadsOnto, IsReadOnto, ReadsFlat, none_read, read_more}
 use Rattle.pp_macros.specs.inner.Reading.{painted_from}
-use Rattle.pp_macros.proofs.taking.ExpanderLemmas.{idle_paints}
+use Rattle.pp_macros.proofs.taking.ExpanderLemmas.{idle_steps}
 use Rattle.pp_macros.proofs.taking.NestingLemmas.{reads_seen, reads_wait, hidden_seen}
 
 -- nothing is painted past the end
@@ -32,12 +32,6 @@ among_none read =
     no_more : (b : Bool) → (b || false) ≡ b
     no_more true = refl
     no_more false = refl
-
-pub painted_none : (k : ℕ) (reads : List Read) → painted_from [] k reads ≡ reads
-painted_none k [] = refl
-painted_none zero (read ∷ reads) =
-    ap (λ (first : Read). first ∷ painted_from [] zero reads) (among_none read) ∙ ap (λ (rest : List Read). read ∷ rest) (painted_none zero reads)
-painted_none (suc k) (read ∷ reads) = ap (λ (rest : List Read). read ∷ rest) (painted_none k reads)
 
 -- one is painted after the other
 pub painted_more : (names : List Name) (at : ℕ) (reads : List Read) (old new : Read) → at < length reads → old ≡ get_or reads at old
@@ -62,7 +56,7 @@ module _ (m : Expander) (below : List Frame) (waits : is_idle m ≡ true) where
       → StepsTaking m (seen_by below r) (Ok (painted_among (names_of below) read)) m (seen_by below s)
   painted_steps r s read around reads apart =
       subst (λ (names : List Name). StepsTaking m (seen_by below r) (Ok (painted_among names read)) m (seen_by below s)) (hidden_seen below s around)
-      (idle_paints m (seen_by below r) (seen_by below s) read waits (reads_seen below r s (Ok read) reads) apart)
+      (idle_steps m (seen_by below r) (seen_by below s) (Ok read) waits (reads_seen below r s (Ok read) reads)(rw apart refl))
 
   painted_onto : (r s : Reader) (k : ℕ) (some more : List Read) → MayWait below s → k ≤ length some → IsReadOnto r some s more
       → IsTakenOnto m (seen_by below r) (painted_from (names_of below) k some) m (seen_by below s) (painted_from (names_of below) k more)

@@ -39,12 +39,17 @@ plain_itself : (definitions : List Defined) (hidden : List Name) (value : TokenV
     → gives_itself definitions value ≡ true
 plain_itself definitions hidden value e = (and_parts (gives_itself definitions value) (not (is_one_of hidden value)) e).0
 
+-- such a name isn't defined
+pub plain_undefined : (definitions : List Defined) (hidden : List Name) (name : Name) → is_plain_value definitions hidden false (Ident name) ≡ true
+    → is_none (meaning_of definitions name) ≡ true
+plain_undefined definitions hidden name e =
+    (and_parts (not (is_same_name name line_name)) (is_none (meaning_of definitions name)) (plain_itself definitions hidden (Ident name) e)).1
+
 no_opening : (definitions : List Defined) (hidden : List Name) (painted : Bool) (token : Token) (name : Name)
     → is_plain_value definitions hidden painted (Ident name) ≡ true
     → (if painted then None else opening_by token name (meaning_of definitions name)) ≡ None
 no_opening definitions hidden true token name e = refl
-no_opening definitions hidden false token name e = unopened token name (meaning_of definitions name)
-    (and_parts (not (is_same_name name line_name)) (is_none (meaning_of definitions name)) (plain_itself definitions hidden (Ident name) e)).1
+no_opening definitions hidden false token name e = unopened token name (meaning_of definitions name) (plain_undefined definitions hidden name e)
 
 -- a value that gives itself is no `__LINE__`
 pub itself_apart : (definitions : List Defined) (value : TokenValue) → gives_itself definitions value ≡ true → is_identifier line_name value ≡ false
@@ -53,13 +58,13 @@ itself_apart definitions (Ident name) e = not-true (is_same_name name line_name)
 itself_apart definitions _ e = refl
 
 -- such a value is no `__LINE__`
-plain_apart : (definitions : List Defined) (hidden : List Name) (painted : Bool) (value : TokenValue) → is_plain_value definitions hidden painted value ≡ true
+pub plain_apart : (definitions : List Defined) (hidden : List Name) (painted : Bool) (value : TokenValue) → is_plain_value definitions hidden painted value ≡ true
     → is_identifier line_name value ≡ false
 plain_apart definitions hidden true value e = not-true (is_identifier line_name value) e
 plain_apart definitions hidden false value e = itself_apart definitions value (plain_itself definitions hidden value e)
 
 -- it keeps its paint
-plain_paint : (definitions : List Defined) (hidden : List Name) (painted : Bool) (value : TokenValue) → is_plain_value definitions hidden painted value ≡ true
+pub plain_paint : (definitions : List Defined) (hidden : List Name) (painted : Bool) (value : TokenValue) → is_plain_value definitions hidden painted value ≡ true
     → (painted || is_one_of hidden value) ≡ painted
 plain_paint definitions hidden true value e = refl
 plain_paint definitions hidden false value e =

@@ -18,7 +18,7 @@ use Rattle.pp_lexer.specs.PreprocessorError.{out_of_memory}
 use Rattle.pp_macros.specs.inner.Expander.{Expander, TakesFlat, none_taken, taken_more, now, TakesOnto, TakesRun, place_after}
 use Rattle.pp_macros.specs.inner.Left.{regions}
 use Rattle.pp_macros.specs.inner.Reach.{total}
-use Rattle.pp_macros.proofs.taking.ExpanderLemmas.{idle, idle_paints, next_falls, Gathering, gathers_more}
+use Rattle.pp_macros.proofs.taking.ExpanderLemmas.{idle, idle_steps, next_falls, Gathering, gathers_more}
 
 -- the place of the last of the tokens
 pub place_put : (paren : Location) (tokens more : List Read) (read : Read) → more ≡ tokens ++ read ∷ [] → place_after paren more ≡ read.token.location
@@ -74,7 +74,7 @@ flat_more r between s tokens some more ends flat onto tells apart = read_more be
 pub read_falls : (r s : Reader) (tokens more : List Read) → IsReadOnto r tokens s more → total (regions idle s) < total (regions idle r)
 read_falls r s tokens more onto =
     let taken : Read = painted_among (hidden_of s) onto.read in
-    next_falls idle idle r s taken (now (Ok taken) idle idle r s (idle_paints idle r s onto.read refl onto.reads onto.apart) refl)
+    next_falls idle idle r s taken (now (Ok taken) idle idle r s (idle_steps idle r s (Ok onto.read) refl onto.reads (rw onto.apart refl)) refl)
 
 -- the tokens that end at one that is taken
 pub flat_run : (m : Expander) (r between s : Reader) (tokens some more : List Read) → TakesFlat m r tokens between some → s ≡ between → more ≡ some

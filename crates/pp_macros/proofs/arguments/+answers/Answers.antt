@@ -132,21 +132,17 @@ expand_list-items-preserved t c =
           (turned _ _ _ _ _ (rw (c.in-Err-Continue.field-0-is, c.in_ok-give_frames.ensures.below) at c.in-Err-Continue.ensures.turns) refl) refl c.items.invariant.same;
     }
 
-pub expand_list-returns-in-Err-Finished-clause-alone : goal.expand_list-returns-in-Err-Finished-clause-alone
-expand_list-returns-in-Err-Finished-clause-alone t c =
+pub expand_list-returns-in-Err-Finished : goal.expand_list-returns-in-Err-Finished
+expand_list-returns-in-Err-Finished t c =
     let on = reached_added _ _ _ _ _ _ c.args.items.now.items _ _ _ c.items.invariant.keeps c.items.invariant.reached c.in_ok-give_frames.ensures.gives in
-    reached_end _ _ _ _ _ _ _ on.reached _ _
-    (turned _ _ _ _ _ (rw (c.in-Err-Finished.field-0-is, c.in_ok-give_frames.ensures.below) at c.in-Err-Finished.ensures.turns) refl)
-
-pub expand_list-returns-in-Err-Finished-clause-keeps : goal.expand_list-returns-in-Err-Finished-clause-keeps
-expand_list-returns-in-Err-Finished-clause-keeps t c =
-    let on = reached_added _ _ _ _ _ _ c.args.items.now.items _ _ _ c.items.invariant.keeps c.items.invariant.reached c.in_ok-give_frames.ensures.gives in
-    on.keeps
-
-pub expand_list-returns-in-Err-Finished-clause-least : goal.expand_list-returns-in-Err-Finished-clause-least
-expand_list-returns-in-Err-Finished-clause-least t c =
-    let on = reached_added _ _ _ _ _ _ c.args.items.now.items _ _ _ c.items.invariant.keeps c.items.invariant.reached c.in_ok-give_frames.ensures.gives in
-    omega (arith, on.reached.least)
+    record {
+      below = c.step_list.ensures.below ∙ c.in_ok-give_frames.ensures.below ∙ c.items.invariant.below;
+      keeps = on.keeps;
+      alone = reached_end _ _ _ _ _ _ _ on.reached _ _
+          (turned _ _ _ _ _ (rw (c.in-Err-Finished.field-0-is, c.in_ok-give_frames.ensures.below) at c.in-Err-Finished.ensures.turns) refl);
+      least = omega (arith, on.reached.least);
+      holds = c.in_ok-give_frames.ensures.holds;
+    }
 
 pub expand_list-returns-in-Err-Error-clause-alone : goal.expand_list-returns-in-Err-Error-clause-alone
 expand_list-returns-in-Err-Error-clause-alone t c =

@@ -1,20 +1,10 @@
-use Rattle.std.specs.Prelude.{◌≡◌, IfOk}
-use Rattle.pp_macros.proofs.taking.Walk.{[], ◌∷◌, ◌++◌, ℕ, refl, MutBor, proved, full_share, common, id⊢, emp, wand, sep, apply∗, Lft, Incl, ftrue, flft, fdead, named, mut, ty_ref, ty_unit, vptr, fact, fact_i, tables, ⊑_meet, ⊑_refl, meet_⊑_left, meet_⊑_right, ‵, raw, ◌⊛◌, some, later, ◌$◌, ◌∵◌, !, qed, done, move, keep, use0, use1, use2, use3, split, join, fsplit, pick, await, suffices, frame, group, lft_new, lft_end, lft-common, agg, enter, addr, stop, no_more, and_then, returns, alloc_all, pass_all, free_all, look_at, get, through, sets, lands_as, vt_lit, lends_again, comes_back, LentAgain, MutRef, mut_vals, mut_Tells, mut_hides, MutAny, Includes-none, wide_val, table_at, plain, named_lft, nothing, heard, peeks, calls_at, lasts, triple_of, Stays, stay_ref, Goes-ref, ends_at, framed, hide_mut, Is, shows}
-use Rattle.pp_macros.specs.inner.Defined.{names_in}
-use Rattle.pp_macros.specs.inner.Nesting.{AreKnown, MayWait, seen_by}
-use Rattle.pp_macros.specs.inner.Reader.{of_list}
+use Rattle.pp_macros.proofs.taking.Walk.{◌≡◌, IfOk, names_in, AreKnown, MayWait, seen_by, of_list, source_row, P, exit_row, exit_laws, result_row, result_laws, [], ◌∷◌, ◌++◌, ℕ, refl, MutBor, proved, full_share, common, id⊢, emp, wand, sep, apply∗, Lft, Incl, ftrue, flft, fdead, named, mut, ty_ref, ty_unit, vptr, fact, fact_i, tables, ⊑_meet, ⊑_refl, meet_⊑_left, meet_⊑_right, ‵, raw, ◌⊛◌, some, later, ◌$◌, ◌∵◌, !, qed, done, move, keep, use0, use1, use2, use3, split, join, fsplit, pick, await, suffices, frame, group, lft_new, lft_end, lft-common, agg, enter, addr, stop, no_more, and_then, returns, alloc_all, pass_all, free_all, look_at, get, through, sets, lands_as, vt_lit, lends_again, comes_back, LentAgain, MutRef, mut_vals, mut_Tells, mut_hides, MutAny, Includes-none, wide_val, table_at, plain, named_lft, nothing, heard, peeks, calls_at, lasts, triple_of, Stays, stay_ref, Goes-ref, ends_at, framed, hide_mut, Is, shows}
 use Rattle.pp_macros.specs.inner.CallTurns.{TurnsOrRefuses, TakenHoldsOrdinary}
 use Rattle.pp_macros.specs.contracts.list_step.step_any as f
 use Rattle.pp_macros.proofs.list_step.step_any.Statement.{statement}
 use Rattle.pp_macros.proofs.list_step.step_any.Code as code
-use Rattle.pp_macros.specs.contracts.list_lexer.ListLexer.{the_row as source_row}
-use Rattle.pp_macros.specs.contracts.macro_processor.MacroProcessor.{the_row as P}
 use Rattle.pp_macros.specs.contracts.calls.Taken.{the_row as token_row}
-use Rattle.pp_macros.specs.contracts.step.StepExit.{the_row as exit_row}
 use Rattle.pp_macros.proofs.calls.Taken.TheLaws.{the_row_laws as token_laws}
-use Rattle.pp_macros.proofs.step.StepExit.TheLaws.{the_row_laws as exit_laws}
-use Rattle.std.specs.contracts.result.Result.{the_row as result_row}
-use Rattle.std.proofs.result.Result.TheLaws.{the_row_laws as result_laws}
 use Rattle.pp_macros.specs.contracts.macro_processor.MacroProcessor.step as g
 use Rattle.pp_macros.proofs.macro_processor.MacroProcessor.step.Met.{met}
 use Rattle.pp_macros.proofs.list_step.step_any.Object-1 as object

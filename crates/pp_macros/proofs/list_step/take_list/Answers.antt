@@ -1,12 +1,14 @@
-use Rattle.std.proofs.Common.{◌∙◌, List, ap, sym}
-use Rattle.pp_model.specs.Names.{Name}
-use Rattle.pp_model.specs.Painting.{painted_among}
-use Rattle.pp_macros.proofs.taking.ApartLemmas.{apart_next}
+use Rattle.std.proofs.Common.{◌≡◌, ◌∙◌, subst, sym, false}
+use Rattle.pp_model.specs.Names.{is_identifier, line_name}
+use Rattle.pp_model.specs.declared.read.Read.{Read}
+use Rattle.pp_macros.proofs.taking.IdleListLemmas.{alone_next}
 use Rattle.pp_macros.proofs.taking.NestingLemmas.{idle_names}
 use Rattle.pp_macros.proofs.list_step.take_list.Goals as goal
 
 pub returns-in-Some-clause-takes : goal.returns-in-Some-clause-takes
 returns-in-Some-clause-takes c =
     let idle = sym c.is_idle.ensures ∙ c.if-is_idle.true in
-    rw (c.paint_listed.ensures ∙ ap (λ (names : List Name). painted_among names c.in-Some.read) (idle_names c.args.processor.now idle))
-    (apart_next c.args.processor.now.here c.args.processor.now.below c.args.list.now _ c.in-Some.read idle (rw c.in-Some.is at c.take_apart.ensures))
+    let same : c.in-Some.read.now ≡ c.take.result = cc (c.in-Some.ensures, c.take.ensures.tokens) in
+    alone_next c.args.processor.now.here c.args.processor.now.below c.args.list.now c.take.new.self c.take.result idle c.take.ensures.tokens
+    c.take.ensures.others (sym (idle_names c.args.processor.now idle) ∙ c.is_alone.ensures c.if-is_alone.true)
+    (subst (λ (read : Read). is_identifier line_name read.token.value ≡ false) same (sym c.is_line_name.ensures ∙ c.if-not-is_line_name.true))

@@ -1,9 +1,7 @@
-use Rattle.std.proofs.Common.{◌∙◌, add-one, ap, arith, refl, sym, List}
-use Rattle.pp_model.specs.Names.{Name}
+use Rattle.std.proofs.Common.{◌∙◌, add-one, ap, arith, refl, sym}
 use Rattle.pp_model.specs.Painting.{painted_among}
 use Rattle.pp_macros.specs.inner.Nesting.{open_names}
-use Rattle.pp_macros.specs.inner.Reading.{painted_from}
-use Rattle.pp_macros.proofs.taking.PaintedRunLemmas.{painted_more, painted_none, painted_past}
+use Rattle.pp_macros.proofs.taking.PaintedRunLemmas.{painted_more, painted_past}
 use Rattle.pp_macros.proofs.macro_processor.MacroProcessor.paint_from.Goals as goal
 
 pub loop-at-init : goal.loop-at-init
@@ -16,9 +14,3 @@ loop-at-preserved g c =
 
 pub returns : goal.returns
 returns g c = sym (painted_past (open_names c.args.self.now) c.loop-at.at c.loop-at.tokens (omega arith)) ∙ c.loop-at.invariant
-
--- no macro is open
-pub returns-then-is_alone : goal.returns-then-is_alone
-returns-then-is_alone g c =
-    sym (painted_none c.args.start c.args.tokens.now)
-    ∙ ap (λ (names : List Name). painted_from names c.args.start c.args.tokens.now) (sym (c.is_alone.ensures c.if-is_alone.true))

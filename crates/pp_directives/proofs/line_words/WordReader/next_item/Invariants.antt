@@ -2,7 +2,7 @@ use Rattle.pp_macros.specs.inner.Left.{work_of}
 use Rattle.pp_macros.specs.inner.Reader.{of_list}
 use Rattle.pp_directives.proofs.LineReadLemmas.{ItemsOn}
 use Rattle.pp_directives.specs.inner.ReadingWords.{rest_of}
-use Rattle.pp_directives.proofs.line_words.WordReader.next_expanded.Given as goal
+use Rattle.pp_directives.proofs.line_words.WordReader.next_item.Given as goal
 
 abbrev pub invariant-items : goal.invariant-items
 invariant-items l = ItemsOn l.self.levels l.self.definitions.now l.initial.line.expander.here (rest_of l.initial.line) l.line.expander.here (rest_of l.line)

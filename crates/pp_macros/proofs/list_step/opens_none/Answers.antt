@@ -6,7 +6,7 @@ use Rattle.pp_macros.specs.inner.Defined.{names_in, opened_by}
 use Rattle.pp_macros.proofs.defined_names.DefinitionsLemmas.{meaning_absent}
 use Rattle.pp_macros.proofs.defined_names.FoundNamesLemmas.{not_found}
 use Rattle.pp_macros.proofs.open_frames.KnownLemmas.{open_found, not_open}
-use Rattle.pp_macros.proofs.arguments.opens_none.Goals as goal
+use Rattle.pp_macros.proofs.list_step.opens_none.Goals as goal
 
 -- what has no macro isn't defined
 undefined : (name : Name) (d : Option Definition) → None ≡ opened_by name d → is_none d ≡ true
