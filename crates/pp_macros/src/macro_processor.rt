@@ -31,7 +31,7 @@ use crate::names::NameId;
 use crate::reader::{MeLexer, number_of};
 use crate::spares::Spares;
 use crate::step::{Step, StepExit};
-use pp_lexer::token::{Integer, Location, Token, TokenValue, out_of_memory};
+use pp_lexer::token::{Integer, Location, Token, TokenValue};
 use pp_model::names::is_line_name;
 use pp_model::read::Read;
 use std::alloc::{AllocError, Global};
@@ -435,10 +435,8 @@ impl MacroProcessor {
             return Err(StepExit::Continue);
         };
         let painted = ahead.painted;
-        match self.make_token() {
-            Ok(token) => Ok(Read { token, painted }),
-            Err(_) => Err(StepExit::Error(out_of_memory())),
-        }
+        let token = self.make_token()?;
+        Ok(Read { token, painted })
     }
 
     /// Takes a token: `__LINE__` becomes a number at once.
