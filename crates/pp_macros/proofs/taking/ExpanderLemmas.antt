@@ -1,5 +1,5 @@
 -- Steps of taking, as the code makes them.
-use Rattle.std.proofs.Common.{◌≡◌, ◌∙◌, false, true, List, [], ◌∷◌, ◌++◌, ◌<◌, ℕ, arith, refl, sym, ap, subst, Option, Some, None, Result, Ok, Err, MatchResult}
+use Rattle.std.proofs.Common.{◌≡◌, ◌∙◌, false, true, List, [], ◌∷◌, ◌++◌, ◌<◌, ℕ, arith, refl, sym, ap, subst, Option, Some, None, Result, Ok, Err}
 use Rattle.std.specs.Prelude.{is_some, length, take, ◌-◌}
 use Rattle.std.specs.List.{slice_get}
 use Rattle.std.proofs.lemmas.List.{length-append}
@@ -7,19 +7,16 @@ use Rattle.std.proofs.lemmas.Option.{slice_get-get_or}
 use Rattle.std.proofs.Math.Seq.{get_or-append_seam, take-append_seam}
 use Rattle.pp_model.specs.declared.read.Read.{Read}
 use Rattle.pp_lexer.specs.declared.token.Location.{Location}
-use Rattle.pp_lexer.specs.declared.token.PreprocessorError.TheVariants.{LineOverflow, IntegerOverflow, UnexpectedEndOfInput}
+use Rattle.pp_lexer.specs.declared.token.PreprocessorError.TheVariants.{IntegerOverflow, UnexpectedEndOfInput}
 use Rattle.pp_model.specs.Calls.{Fault, Gathered, before, nesting, closes, within, too_many}
-use Rattle.pp_model.specs.declared.read.Taken.TheVariants as given
 use Rattle.pp_macros.specs.Item.{Step, is_out_of_memory}
 use Rattle.pp_macros.specs.inner.Frames.{Frame}
-use Rattle.pp_macros.specs.inner.Expander.{Expander, is_pause, step_of_outcome, taken_as, StepsFetching, StepsTaking, held, moved, TakesNext, now, later, GathersNext, closed, inside, overfull, ended, failed}
+use Rattle.pp_macros.specs.inner.Expander.{Expander, is_pause, taken_as, StepsFetching, StepsTaking, held, moved, TakesNext, now, later, GathersNext, closed, inside, overfull, ended, failed}
 use Rattle.pp_macros.specs.inner.Left.{regions, regions_of, holding_step, reads_left}
 use Rattle.pp_model.proofs.GatherLemmas.{after_tokens, after_tokens-before, after_tokens-closed}
 use Rattle.pp_macros.specs.inner.Reach.{total}
 use Rattle.pp_macros.specs.inner.Idle.{is_idle}
 use Rattle.pp_macros.specs.inner.Reader.{Reader, Reads, hidden_of}
-use Rattle.pp_model.specs.Names.{is_identifier, line_name}
-use Rattle.pp_model.specs.Painting.{painted_among}
 use Rattle.pp_macros.specs.inner.Reading.{painted_step}
 use Rattle.pp_macros.proofs.work.SpendLemmas.{step_spends, next_spends, total_one_more}
 use Rattle.pp_macros.specs.inner.Turns.{Moves, masks}

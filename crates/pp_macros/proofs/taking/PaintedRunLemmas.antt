@@ -56,7 +56,7 @@ module _ (m : Expander) (below : List Frame) (waits : is_idle m ≡ true) where
       → StepsTaking m (seen_by below r) (Ok (painted_among (names_of below) read)) m (seen_by below s)
   painted_steps r s read around reads apart =
       subst (λ (names : List Name). StepsTaking m (seen_by below r) (Ok (painted_among names read)) m (seen_by below s)) (hidden_seen below s around)
-      (idle_steps m (seen_by below r) (seen_by below s) (Ok read) waits (reads_seen below r s (Ok read) reads)(rw apart refl))
+      (idle_steps m (seen_by below r) (seen_by below s) (Ok read) waits (reads_seen below r s (Ok read) reads) (rw apart refl))
 
   painted_onto : (r s : Reader) (k : ℕ) (some more : List Read) → MayWait below s → k ≤ length some → IsReadOnto r some s more
       → IsTakenOnto m (seen_by below r) (painted_from (names_of below) k some) m (seen_by below s) (painted_from (names_of below) k more)

@@ -1,7 +1,5 @@
-use Rattle.std.proofs.Common.{◌≡◌, ◌∙◌, true, ap, subst, sym, inl, ◌∷◌, List}
-use Rattle.pp_model.specs.Names.{Name}
+use Rattle.std.proofs.Common.{◌≡◌, ◌∙◌, true, subst, sym, inl}
 use Rattle.pp_model.specs.declared.read.Read.{Read}
-use Rattle.pp_macros.specs.inner.Defined.{Defined}
 use Rattle.pp_macros.specs.inner.Frames.{names_of}
 use Rattle.pp_macros.specs.inner.Nesting.{listed_in}
 use Rattle.pp_macros.specs.inner.Plain.{is_plain}

@@ -16,7 +16,7 @@ pub returns-clause-opened : goal.returns-clause-opened
 returns-clause-opened c = λ name at.
     let numbered = rw (← c.self.view_is) at at in
     let e : (c.self.inside.is_line && is_same_name c.in_ok-found.found.now.value.name defined_name) ≡ false = elim c.else-self.branch [
-      else-self-via-then-self+else-is_defined_name w ↦ let is : is_same_name c.in_ok-found.found.now.value.name defined_name ≡ false = cc in
+      | else-self-via-then-self+else-is_defined_name w ↦ let is : is_same_name c.in_ok-found.found.now.value.name defined_name ≡ false = cc in
           rw (w.if-self.true, is) refl
       | else-self-via-else-self w ↦ rw w.if-self.false refl
     ] in
