@@ -16,7 +16,7 @@ use Rattle.pp_macros.specs.inner.Defined.{Macro, meaning_of, opened_by}
 use Rattle.pp_macros.specs.inner.Frames.{Frame, new_frame}
 use Rattle.pp_macros.specs.inner.Idle.{IsHeld, HoldsWord}
 use Rattle.pp_macros.specs.Item.{Step}
-use Rattle.pp_macros.specs.inner.Expander.{Expander, taken_as, StepsFetching, StepsTaking, held, moved}
+use Rattle.pp_macros.specs.inner.Expander.{Expander, step_of_outcome, taken_as, StepsFetching, StepsTaking, held, moved}
 use Rattle.pp_macros.specs.inner.Plain.{gives_itself}
 use Rattle.pp_macros.specs.inner.Reader.{Reader, of_source}
 use Rattle.pp_macros.specs.inner.Reading.{painted_step}
@@ -28,7 +28,7 @@ use Rattle.pp_macros.specs.declared.calls.Taken.TheVariants as taken
 use Rattle.pp_macros.specs.declared.step.StepExit.{StepExit}
 use Rattle.pp_macros.specs.declared.step.StepExit.TheVariants.{Continue}
 use Rattle.pp_macros.proofs.taking.PlainLemmas.{itself_apart}
-use Rattle.pp_macros.proofs.taking.ExpanderLemmas.{idle, fetches_shown, fetches_step, shows_token}
+use Rattle.pp_macros.proofs.taking.ExpanderLemmas.{idle, fetches_step}
 use Rattle.pp_rs.proofs.source.UnpaintedLemmas.{StepsReporting, reads_step}
 
 unopened : (name : Name) (o : Option Definition) → is_none o ≡ true → opened_by name o ≡ None
@@ -76,12 +76,16 @@ module _ (levels : ℕ) (r s : Source) where
   takes_first : (step : Step Read) → StepsFetching idle (of_source r) step idle (of_source s) → StepsTaking idle (of_source r) step idle (of_source s)
   takes_first step fetches = record { first = step; fetches = fetches; paints = sym (painted_nothing step) }
 
+  -- a step as which the word is taken
+  shown : (word : Token) (step : Step Read) → StepsReporting r (Ok word) s → step ≡ taken_as (Ok (unpainted word)) [] (of_source s)
+      → StepsTaking idle (of_source r) step idle (of_source s)
+  shown word step reads is = takes_first step (fetches_step idle None None [] [] (Ok (unpainted word)) step (of_source r) (of_source s)
+      refl refl refl (refl, reads_step r s (Ok word) reads) is)
+
   -- a token that isn't `__LINE__` is taken as it stands there
   takes_token : (token : Token) → StepsReporting r (Ok token) s → is_identifier line_name token.value ≡ false
       → StepsTaking idle (of_source r) (Ok (unpainted token)) idle (of_source s)
-  takes_token token reads apart =
-      takes_first (Ok (unpainted token)) (fetches_step idle None None [] [] (Ok (unpainted token)) (of_source r) (of_source s) refl refl refl
-      (refl, reads_step r s (Ok token) reads) apart)
+  takes_token token reads apart = shown token (Ok (unpainted token)) reads (rw apart refl)
 
   exits : (exit : StepExit) (step : Step Token) → StepsTaking idle (of_source r) (Err exit) idle (of_source s) → step ≡ Err exit
       → StepsOver levels idle r step idle s
@@ -93,7 +97,7 @@ module _ (levels : ℕ) (r s : Source) where
   pub idle_exit : (m : Expander) (exit : StepExit) (step : Step Token) → m ≡ idle → StepsReporting r (Err exit) s
       → step ≡ Err exit → StepsOver levels m r step m s
   idle_exit m exit step e reads is =
-      let fetches = fetches_shown idle None None [] [] (Err exit) (Err exit) (of_source r) (of_source s) refl refl refl
+      let fetches = fetches_step idle None None [] [] (Err exit) (Err exit) (of_source r) (of_source s) refl refl refl
       (refl, reads_step r s (Err exit) reads) refl in
       rw e (exits exit step (takes_first (Err exit) fetches) is)
 
@@ -117,17 +121,11 @@ module _ (levels : ℕ) (r s : Source) where
       (takes_token token reads apart) opens bare refl refl in
       rw (is, e) (inl (record { taken = Err Continue; between = after; turns = turns; follows = (refl, refl) }))
 
-  -- a step as which the word is taken
-  shown : (word : Token) (step : Step Read) → StepsReporting r (Ok word) s → step ≡ taken_as (Ok (unpainted word)) [] (of_source s)
-      → StepsTaking idle (of_source r) step idle (of_source s)
-  shown word step reads is = takes_first step (fetches_shown idle None None [] [] (Ok (unpainted word)) step (of_source r) (of_source s)
-      refl refl refl (refl, reads_step r s (Ok word) reads) is)
-
   -- `__LINE__` out of range
   pub idle_fault : (m n : Expander) (word : Token) (exit : StepExit) (step : Step Token) → m ≡ idle
       → StepsReporting r (Ok word) s → HoldsWord word s m (Err exit) n → step ≡ Err exit → StepsOver levels m r step n s
   idle_fault m n word exit step e reads fault is =
-      rw (fault.2, e) (exits exit step (shown word (Err exit) reads (shows_token [] (of_source s) (unpainted word) (Err exit) (fault.0, fault.1))) is)
+      rw (fault.2, e) (exits exit step (shown word (Err exit) reads (ap Err fault.0 ∙ ap step_of_outcome (sym fault.1))) is)
 
   -- a word that is held goes on to what it goes on to as it is read
   pub idle_word : (m h n : Expander) (t : Source) (word : Token) (step : Step Token) → m ≡ idle
@@ -138,7 +136,7 @@ module _ (levels : ℕ) (r s : Source) where
       kept = record { held = Some (Ok w.token); frames = [] }
 
       takes : StepsTaking idle (of_source r) (Ok w.token) idle (of_source s)
-      takes = shown word (Ok w.token) reads (shows_token [] (of_source s) (unpainted word) (Ok w.token) w.taken)
+      takes = shown word (Ok w.token) reads (ap step_of_outcome (sym w.taken))
 
       goes : StepsOver levels kept s step n t → StepsOver levels idle r step n t
       goes (inl x) =
