@@ -1,4 +1,3 @@
-pub mod NamedMacroLemmas
 pub mod LinedLemmas
 pub mod EndedLemmas
 pub mod UnreportedLemmas

@@ -1,16 +1,14 @@
 //! What a word of plain text means in live text.
 
-ghost use Rattle.std.specs.Prelude.{◌≡◌, ◌≢◌, not, true, false, IsTrue};
-ghost use Rattle.std.specs.Str.{IsAscii, chars};
+ghost use Rattle.std.specs.Prelude.{◌≡◌, ◌≢◌, false, IsTrue, IsSome, IfSome};
+ghost use Rattle.std.specs.Str.{IsAscii};
 ghost use Rattle.pp_lexer.specs.declared.lexer.plain.Form.TheVariants.{Hash};
-ghost use Rattle.pp_macros.specs.inner.Plain as spec;
 ghost use Rattle.pp_model.specs.Names.{is_identifier, is_same_name, line_name};
 ghost use Rattle.pp_directives.specs.WordTokens.{word_value};
-ghost use Rattle.pp_directives.specs.inner.PlainText.{IsUnknown};
-ghost use Rattle.pp_directives.specs.inner.PlainText as plain_text;
+ghost use Rattle.pp_directives.specs.inner.PlainText.{Does};
 
 use pp_lexer::lexer::{Form, PlainItem};
-use pp_macros::names::Definitions;
+use pp_macros::names::{Definitions, NameId};
 
 // Whether the name is `__LINE__`. Most have another length, and need no call.
 #[inline(always)]
@@ -36,37 +34,29 @@ pub fn is_apart(word: &PlainItem<'_>) -> bool
     }
 }
 
-/// Whether the word is no `#`, and neither `__LINE__` nor defined.
+/// What the word does in live text while no macro is open, by one look-up of its name: it opens the macro without
+/// parentheses whose name has this number or, without a number, is given as it is. Nothing if it is a `#`, `__LINE__` or
+/// the name of a macro with parentheses.
 #[inline(always)]
-pub fn gives_itself(word: &PlainItem<'_>, definitions: &Definitions) -> bool
+pub fn act_of(word: &PlainItem<'_>, definitions: &Definitions) -> Option<Option<NameId>>
     requires { IsAscii word.now.spelling.now }
-    ensures no_hash { IsTrue result → word.now.form ≢ Hash }
-    ensures itself { IsTrue result → spec.gives_itself definitions.now
-        (word_value word.now.form word.now.spelling.now) ≡ true }
+    ensures no_hash { IsSome result → word.now.form ≢ Hash }
+    ensures does { IfSome result (λ act. Does definitions.now act word.now) }
 {
     match word.form {
-        Form::Hash => false,
-        Form::Identifier => {
-            !is_line_name(word.spelling) && definitions.get(word.spelling).is_none()
-        }
-        _ => true,
+        Form::Hash => return None,
+        Form::Identifier => {}
+        _ => return Some(None),
     }
-}
-
-/// Whether the word is the name of a macro without parentheses, or no identifier and no `#`.
-#[inline(always)]
-pub fn opens_bare(word: &PlainItem<'_>, definitions: &Definitions) -> bool
-    requires { IsAscii word.now.spelling.now }
-    ensures no_hash { IsTrue result → word.now.form ≢ Hash }
-    ensures opens { IsTrue result → IsUnknown (λ name. not (plain_text.opens_bare definitions.now name))
-        word.now.form word.now.spelling.now }
-{
-    match word.form {
-        Form::Hash => false,
-        Form::Identifier => match definitions.get(word.spelling) {
-            Some(found) => !is_line_name(word.spelling) && !found.is_function_like(),
-            None => false,
-        },
-        _ => true,
+    if is_line_name(word.spelling) {
+        return None;
+    }
+    let Some(id) = definitions.find(word.spelling) else {
+        return Some(None);
+    };
+    match definitions.get_define(id) {
+        None => Some(None),
+        Some(found) if found.is_function_like() => None,
+        Some(_) => Some(Some(id)),
     }
 }

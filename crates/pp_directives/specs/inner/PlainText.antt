@@ -1,20 +1,19 @@
 -- A word of plain text, before memory is taken for it.
-use Rattle.std.specs.Prelude.{◌≡◌, ◌≢◌, ℕ, Bool, true, false, not, ◌&&◌, List, Option, Some, None, Ok}
-use Rattle.std.specs.Prelude.{Err, MatchBool, MatchOption, [], ⊤}
+use Rattle.std.specs.Prelude.{◌≡◌, ◌≢◌, ℕ, Bool, true, false, not, List, Option, Some, None, Ok, Err, []}
+use Rattle.std.specs.Prelude.{MatchBool, MatchOption, position}
 use Rattle.std.specs.Str.{IsAscii}
 use Rattle.pp_lexer.specs.Kept.{CanPass}
 use Rattle.pp_lexer.specs.Location.{nowhere}
 use Rattle.pp_lexer.specs.PlainItems.{token_of, begins_newline, IsNextWord}
 use Rattle.pp_lexer.specs.declared.lexer.plain.Form.TheVariants.{Hash, Identifier}
-use Rattle.pp_lexer.specs.declared.lexer.plain.Form.{Form}
 use Rattle.pp_lexer.specs.declared.lexer.plain_item.PlainItem.{PlainItem}
 use Rattle.pp_macros.specs.inner.LineReading.{HasTaken, next_token}
 use Rattle.pp_macros.specs.inner.SourceLexed.{SourceLexed, unreported_at}
 use Rattle.pp_directives.specs.WordTokens.{word_value, word_token}
 use Rattle.pp_model.specs.Conversions.{conversion}
-use Rattle.pp_model.specs.Names.{is_same_name, line_name}
+use Rattle.pp_model.specs.Names.{Name, is_same_name, line_name}
 use Rattle.pp_model.specs.Definitions.{Definition}
-use Rattle.pp_macros.specs.inner.Defined.{Defined, meaning_of}
+use Rattle.pp_macros.specs.inner.Defined.{Defined, meaning_of, names_in}
 use Rattle.pp_macros.specs.inner.Plain.{gives_itself}
 use Rattle.pp_macros.specs.declared.step.StepExit.TheVariants.{Continue}
 use Rattle.pp_macros.specs.inner.OpenBlocks.{is_live_among}
@@ -81,45 +80,33 @@ pub record IsInText (source : Source) : Type 0 where
   pub live : is_live_among source.dead_for_good source.blocks ≡ true
   pub unspent : source.spent ≡ false
 
--- A step at a word of plain text before memory is taken for it. If no macro is open, the word is given as it is.
-pub record TakesWord (old : Source) (item : PlainItem) (new : Source) : Type 0 where
-  pub no_hash : item.form ≢ Hash
-  pub ascii : IsAscii item.spelling.now
-  pub itself : gives_itself new.definitions (word_value item.form item.spelling.now) ≡ true
-  pub holds : HoldsOrdinary (word_value item.form item.spelling.now)
-  pub step : IsStep old (Ok (word_token item)) new
-
--- such a word, or nothing changed
-abbrev pub GivesWord : Source → Option PlainItem → Source → Type 0
-GivesWord old answer new = MatchOption answer (new ≡ old) (λ item. TakesWord old item new)
-
--- the word is no `#`, and no identifier that is known
-abbrev pub IsUnknown : (List ℕ → Bool) → Form → List ℕ → Type 0
-IsUnknown knows Identifier w = knows w ≡ false
-IsUnknown knows Hash w = ⊥
-IsUnknown knows _ w = ⊤
-
 -- a definition of a macro without parentheses
 abbrev pub is_bare : Option Definition → Bool
 is_bare (Some definition) = not definition.function_like
 is_bare None = false
 
--- a name that opens a macro without parentheses
-abbrev pub opens_bare : List Defined → List ℕ → Bool
-opens_bare definitions name = not (is_same_name name line_name) && is_bare (meaning_of definitions name)
+-- the name of a macro without parentheses, with this number
+pub record IsBare (definitions : List Defined) (id : ℕ) (name : Name) : Type 0 where
+  pub apart : is_same_name name line_name ≡ false
+  pub number : position (is_same_name name) (names_in definitions) ≡ Some id
+  pub bare : is_bare (meaning_of definitions name) ≡ true
 
--- A step at a word of plain text before memory is taken for it. An identifier is the name of a macro without
--- parentheses.
-pub record TakesBare (old : Source) (item : PlainItem) (new : Source) : Type 0 where
-  pub no_hash : item.form ≢ Hash
-  pub ascii : IsAscii item.spelling.now
-  pub opens : IsUnknown (λ name. not (opens_bare new.definitions name)) item.form item.spelling.now
-  pub holds : HoldsOrdinary (word_value item.form item.spelling.now)
-  pub step : IsStep old (Ok (word_token item)) new
+-- what a word of live text does while no macro is open: it is given, or opens the macro whose name has this number
+abbrev pub Does : List Defined → Option ℕ → PlainItem → Type 0
+Does definitions None word = gives_itself definitions (word_value word.form word.spelling.now) ≡ true
+Does definitions (Some id) word = (word.form ≡ Identifier) × IsBare definitions id word.spelling.now
+
+-- a step at a word of plain text that does this, before memory is taken for it
+pub record TakesWord (old : Source) (word : PlainItem) (act : Option ℕ) (new : Source) : Type 0 where
+  pub no_hash : word.form ≢ Hash
+  pub ascii : IsAscii word.spelling.now
+  pub does : Does new.definitions act word
+  pub holds : HoldsOrdinary (word_value word.form word.spelling.now)
+  pub step : IsStep old (Ok (word_token word)) new
 
 -- such a word, or nothing changed
-abbrev pub GivesBare : Source → Option PlainItem → Source → Type 0
-GivesBare old answer new = MatchOption answer (new ≡ old) (λ item. TakesBare old item new)
+abbrev pub GivesWord : Source → Option (PlainItem × Option ℕ) → Source → Type 0
+GivesWord old answer new = MatchOption answer (new ≡ old) (λ given. TakesWord old given.0 given.1 new)
 
 -- a newline was a pause, or nothing changed
 abbrev pub PausesAtNewline : Source → Bool → Source → Type 0

@@ -15,9 +15,9 @@ use Rattle.pp_rs.specs.TokenRefs.{value_of, token_of}
 use Rattle.pp_rs.specs.declared.pp.token_ref.TokenRef.{TokenRef}
 use Rattle.pp_rs.specs.declared.pp.token_ref.ValueRef.{ValueRef}
 use Rattle.pp_rs.specs.declared.pp.token_ref.ValueRef.TheVariants as value
-use Rattle.pp_rs.specs.inner.GivingOn.{IsGiving, IsRefusedAfter, HasLeft}
+use Rattle.pp_rs.specs.inner.GivingOn.{IsGiving, IsRefusedAfter}
 use Rattle.pp_rs.proofs.runs.NextLemmas.{next_none}
-use Rattle.pp_rs.proofs.runs.NextWordLemmas.{less_over, passed_next, passed_again, refused_next, word_refused}
+use Rattle.pp_rs.proofs.runs.NextWordLemmas.{less_over, passed_next, passed_again, refused_next}
 use Rattle.pp_rs.proofs.runs.PassedLemmas.{passed_nothing}
 
 -- a token reference refers to an ordinary token
@@ -34,24 +34,9 @@ refers_to_ordinary t = value_ordinary t.value
 pub token_unspent : (old new : Preprocessing) (token : Token) → is_spent old ≡ false → IsNextItem old (Some (Ok token)) new → is_spent new ≡ false
 token_unspent old new token fresh next = elim (rw fresh at next.gives) [ inl refused ↦ let e = refused.item in cc | inr given ↦ given.spent ]
 
--- nor once it has run out
-pub spent_next : (p new : Preprocessing) → is_spent p ≡ false → 0 < most_items p → new ≡ record p { spent = true }
-    → IsNextItem p (Some (Err out_of_memory)) new
-unfolding is_spent
-spent_next p new fresh some e = refused_next p new fresh (ap (λ (q : Preprocessing). q.spent) e) some
-
 pub on_err : {A E P : Type 0} (r : Result A E) → P → OnErr r P
 on_err (Ok x) p = tt
 on_err (Err x) p = p
-
--- less is left after what came later, too
-pub has_less : (given : Bool) (old between new : Preprocessing) → most_items between ≤ most_items old → HasLeft given between new → HasLeft given old new
-has_less true old between new no_more less = omega (arith, no_more, less)
-has_less false old between new no_more less = omega (arith, no_more, less)
-
-pub no_more : (given : Bool) (old new : Preprocessing) → HasLeft given old new → most_items new ≤ most_items old
-no_more true old new less = omega (arith, less)
-no_more false old new same = same
 
 module _ {S : Type 0} (takes : S → TokenRef → S → Type 0) where
   pub giving_starts : (p : Preprocessing) (sink : S) → IsGiving takes p sink p sink
@@ -89,20 +74,20 @@ module _ {S : Type 0} (takes : S → TokenRef → S → Type 0) where
       }
 
       -- memory runs out
-      pub giving_refused : (new : Preprocessing) → IsNextItem now (Some (Err out_of_memory)) new → IsRefusedAfter takes start first new
-      giving_refused new next =
-          record { last = g.last; taken = sink; given = g.given; next = next_from_last (Some (Err out_of_memory)) new next }
+      pub giving_refused : 0 < most_items now → IsRefusedAfter takes start first
+      giving_refused some = record {
+        last = g.last;
+        taken = sink;
+        given = g.given;
+        unspent = sym g.passed.spent ∙ fresh;
+        some_left = omega (arith, g.passed.no_more_left, some);
+      }
 
-      -- a word is given, or memory for it runs out
-      pub giving_word : (word : PlainItem) (mid new : Preprocessing) (token : TokenRef) (after : S) → IsWord now word mid
-          → token_of token ≡ word_token word → token.call_line ≡ None → new ≡ mid → takes sink token after
-          → IsGiving takes start first new after
-      giving_word word mid new token after is refers outside same taken =
-          rw same (giving_takes token mid after (rw refers is.next) (outside ∙ sym is.line) taken)
-
-      pub giving_no_word : (word : PlainItem) (mid new : Preprocessing) → IsWord now word mid → new ≡ record mid { spent = true }
-          → IsRefusedAfter takes start first new
-      giving_no_word word mid new is spent = giving_refused new (word_refused now mid new (word_token word) fresh is.next spent)
+      -- a word is given
+      pub giving_word : (word : PlainItem) (new : Preprocessing) (token : TokenRef) (after : S) → IsWord now word new
+          → token_of token ≡ word_token word → token.call_line ≡ None → takes sink token after → IsGiving takes start first new after
+      giving_word word new token after is refers outside taken =
+          giving_takes token new after (rw refers is.next) (outside ∙ sym is.line) taken
 
       -- no more tokens come
       pub giving_ends : (answer : Option Item) (new : Preprocessing) → IsNextItem now answer new → is_ordinary_token answer ≡ false
@@ -118,17 +103,19 @@ module _ {S : Type 0} (takes : S → TokenRef → S → Type 0) where
       }
 
   -- memory ran out
-  pub giving_stops : (start new : Preprocessing) (first after : S) → IsRefusedAfter takes start first new
+  pub giving_stops : (start new : Preprocessing) (first after : S) → IsRefusedAfter takes start first → is_spent new ≡ true
       → GivesTokens takes start first (Some (Err out_of_memory)) new after
-  giving_stops start new first after r = record {
-    last = r.last;
-    taken = r.taken;
-    given = r.given;
-    next = r.next;
-    no_token = refl;
-    sink = λ e. cc;
-    less_left = less_over start r.last new (Some (Err out_of_memory)) (given_left start first r.last r.taken r.given) r.next.less_left;
-  }
+  giving_stops start new first after r spent =
+      let next = refused_next r.last new r.unspent spent r.some_left in
+      record {
+        last = r.last;
+        taken = r.taken;
+        given = r.given;
+        next = next;
+        no_token = refl;
+        sink = λ e. cc;
+        less_left = less_over start r.last new (Some (Err out_of_memory)) (given_left start first r.last r.taken r.given) next.less_left;
+      }
 
   -- memory had run out before
   pub giving_nothing : (p : Preprocessing) (sink : S) → is_spent p ≡ true → GivesTokens takes p sink None p sink

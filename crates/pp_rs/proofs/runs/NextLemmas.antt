@@ -183,6 +183,12 @@ module _ (expander now after : kept.Expander) (source source_now source_after : 
         as_next (Some (Err out_of_memory)) new (inl (record { item = refl; spent = spent }))
         (rw spent (omega (arith, left_is_work expansion_limit expander source left, most_first)))
 
+    -- less is left after a pause
+    pub less_more : (spent : Bool) (place : Location) (line : Option ℕ) → spent ≡ false → Over (Err Continue)
+        → most_items (record { expander = after; source = source_after; spent = spent; place = place; name_line = line }) < most_items old
+    less_more true place line fresh_now turn = cc
+    less_more false place line fresh_now turn = less_last (Err Continue) place line turn refl (λ e. cc)
+
     -- before a pause something is left
     pub some_items : Over (Err Continue) → 0 < most_items old
     some_items turn = omega (arith, falls_more turn, r.less, most_first)

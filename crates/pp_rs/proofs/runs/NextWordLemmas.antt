@@ -83,22 +83,6 @@ passed_again old mid new p q = record {
   no_more_left = omega (arith, p.no_more_left, q.no_more_left);
 }
 
--- a word that comes once nothing was given comes from the start
-pub passed_word : (old mid new : Preprocessing) (answer : Option PlainItem) → is_spent old ≡ false → IsPassed old mid → IsNextWord mid answer new
-    → IsNextWord old answer new
-passed_word old mid new (Some word) fresh p is = record {
-  next = passed_next old mid new (Some (Ok (word_token word))) fresh p is.next;
-  line = is.line;
-  plain = is.plain;
-}
-passed_word old mid new None fresh p q = passed_again old mid new p q
-
--- a word that comes at once, or else once nothing was given, comes from the start
-pub at_once_or_passed_word : (old mid new : Preprocessing) (first answer : Option PlainItem) → is_spent old ≡ false → IsNextWord old first mid
-    → MatchOption first (IsNextWord mid answer new) (λ word. (answer ≡ Some word) × (new ≡ mid)) → IsNextWord old answer new
-at_once_or_passed_word old mid new (Some word) answer fresh is same = rw (same.0, same.1) is
-at_once_or_passed_word old mid new None answer fresh p is = passed_word old mid new answer fresh p is
-
 -- memory runs out where something is left
 pub refused_next : (old new : Preprocessing) → is_spent old ≡ false → is_spent new ≡ true → 0 < most_items old
     → IsNextItem old (Some (Err out_of_memory)) new

@@ -1,11 +1,9 @@
 -- How far `give_tokens` has got.
-use Rattle.std.specs.Prelude.{◌≡◌, ◌<◌, ◌≤◌, Bool, true, false, ℕ, Option, Some, Err}
-use Rattle.pp_lexer.specs.PreprocessorError.{out_of_memory}
+use Rattle.std.specs.Prelude.{◌≡◌, ◌<◌, ◌≤◌, Bool, true, false, ℕ, Option}
 use Rattle.pp_macros.specs.inner.Frames.{outermost_frame_line}
 use Rattle.pp_rs.specs.Giving.{AreGiven}
-use Rattle.pp_rs.specs.Kept.{Preprocessing, most_items}
+use Rattle.pp_rs.specs.Kept.{Preprocessing, is_spent, most_items}
 use Rattle.pp_rs.specs.inner.NextWord.{IsPassed}
-use Rattle.pp_rs.specs.Preprocessing.{IsNextItem}
 use Rattle.pp_rs.specs.declared.pp.token_ref.TokenRef.{TokenRef}
 
 -- the line of the call that gives the next token, if an open macro gives it
@@ -21,11 +19,12 @@ pub record IsGiving {S : Type 0} (takes : S → TokenRef → S → Type 0) (star
 
 -- tokens were given, and then memory ran out
 pub record IsRefusedAfter {S : Type 0} (takes : S → TokenRef → S → Type 0) (start : Preprocessing) (first : S)
-    (new : Preprocessing) : Type 0 where
+    : Type 0 where
   pub last : Preprocessing
   pub taken : S
   pub given : AreGiven takes start first last taken
-  pub next : IsNextItem last (Some (Err out_of_memory)) new
+  pub unspent : is_spent last ≡ false
+  pub some_left : 0 < most_items last
 
 -- giving that got as far as the first has now got as far as the second
 abbrev pub KeepsGiving : {S : Type 0} → (S → TokenRef → S → Type 0) → Preprocessing → S → Preprocessing → S → Type 0
@@ -35,11 +34,11 @@ KeepsGiving {S} takes old before new after =
     → IsGiving takes start first new after
 
 -- memory ran out for giving that got as far as this
-abbrev pub IsRefused : {S : Type 0} → (S → TokenRef → S → Type 0) → Preprocessing → S → Preprocessing → Type 0
-IsRefused {S} takes old before new =
-    (start : Preprocessing) (first : S) → IsGiving takes start first old before → IsRefusedAfter takes start first new
+abbrev pub IsRefused : {S : Type 0} → (S → TokenRef → S → Type 0) → Preprocessing → S → Type 0
+IsRefused {S} takes old before =
+    (start : Preprocessing) (first : S) → IsGiving takes start first old before → IsRefusedAfter takes start first
 
--- less is left after a token, and else no more
+-- less is left once a macro has opened, and else no more
 abbrev pub HasLeft : Bool → Preprocessing → Preprocessing → Type 0
 HasLeft true old new = most_items new < most_items old
 HasLeft false old new = most_items new ≤ most_items old

@@ -1,11 +1,18 @@
 -- The next token as a word of plain text, before memory is taken for it.
-use Rattle.std.specs.Prelude.{◌≡◌, ◌≢◌, ◌≤◌, Option, Some, None, Ok, MatchOption}
+use Rattle.std.specs.Prelude.{◌≡◌, ◌≢◌, ◌<◌, ◌≤◌, ◌∷◌, [], List, ℕ, true, false, is_some, Option, Some, None, Ok}
+use Rattle.std.specs.Prelude.{MatchOption, position}
 use Rattle.std.specs.Str.{IsAscii}
 use Rattle.pp_lexer.specs.declared.lexer.plain.Form.TheVariants.{Hash}
 use Rattle.pp_lexer.specs.declared.lexer.plain_item.PlainItem.{PlainItem}
 use Rattle.pp_lexer.specs.declared.token.Token.{Token}
+use Rattle.pp_model.specs.Names.{Name, is_same_name}
 use Rattle.pp_model.specs.declared.outcome.Outcome.{Outcome}
 use Rattle.pp_directives.specs.WordTokens.{word_token}
+use Rattle.pp_directives.specs.inner.PlainText.{IsInText}
+use Rattle.pp_macros.specs.inner.Defined.{Defined, Macro, AreNumbered, meaning_of, names_in, numbered_by, opened_by}
+use Rattle.pp_macros.specs.inner.Expander.{Expander}
+use Rattle.pp_macros.specs.inner.Frames.{new_frame}
+use Rattle.pp_macros.specs.inner.Idle.{is_idle}
 use Rattle.pp_macros.specs.Item.{Item}
 use Rattle.pp_model.specs.CallLine.{item_line}
 use Rattle.pp_rs.specs.Comes.{State, Comes}
@@ -34,20 +41,49 @@ pub record IsPlain (word : PlainItem) : Type 0 where
   pub no_hash : word.form ≢ Hash
   pub ascii : IsAscii word.spelling.now
 
--- the next token is this word, which no macro gives
+-- the next token is read from live text: no macro is open and nothing is held, and memory didn't run out
+pub record ReadsText (p : Preprocessing) : Type 0 where
+  pub idle : is_idle p.expander ≡ true
+  pub text : IsInText p.source
+  pub unspent : p.spent ≡ false
+
+-- the next token is this word, which no macro gives, and the text goes on
 pub record IsWord (old : Preprocessing) (word : PlainItem) (new : Preprocessing) : Type 0 where
   pub next : IsNextItem old (Some (Ok (word_token word))) new
   pub line : call_line new ≡ None
   pub plain : IsPlain word
+  pub reads : ReadsText new
+
+-- the macro opens whose name has this number
+pub record OpensNumbered (definitions : List Defined) (id line : ℕ) (old new : Expander) : Type 0 where
+  pub opened : Macro
+  pub is : (name : Name) → position (is_same_name name) (names_in definitions) ≡ Some id
+      → Some (opened.name, opened.definition) ≡ opened_by name (meaning_of definitions name)
+  pub numbered : AreNumbered (names_in definitions) (numbered_by opened)
+  pub opens : new ≡ record old { frames = new_frame opened line [] ∷ old.frames }
+
+-- nothing was given; if a macro has opened, less is left
+pub record IsPassedText (old new : Preprocessing) : Type 0 where
+  pub passed : IsPassed old new
+  pub less_left : is_some (call_line new) ≡ true → most_items new < most_items old
 
 -- one call of `next_word`
 abbrev pub IsNextWord : Preprocessing → Option PlainItem → Preprocessing → Type 0
-IsNextWord old answer new = MatchOption answer (IsPassed old new) (λ word. IsWord old word new)
+IsNextWord old answer new = MatchOption answer (IsPassedText old new) (λ word. IsWord old word new)
 
 -- an open macro gives a token next
 abbrev pub SomeAhead : Preprocessing → Type 0
 SomeAhead p = (token : Token) × IsAhead p token
 
--- one call of `next_given`
+-- one call of `next_text` or `next_given`
 abbrev pub IsNextGiven : Preprocessing → Option Item → Preprocessing → Type 0
 IsNextGiven old given new = MatchOption given (IsPassed old new) (λ item. IsNextItem old (Some item) new)
+
+-- a pause was passed
+pub record IsPause (old new : Preprocessing) : Type 0 where
+  pub passed : IsPassed old new
+  pub less_left : most_items new < most_items old
+
+-- one call of `step`
+abbrev pub IsNextStep : Preprocessing → Option (Option Item) → Preprocessing → Type 0
+IsNextStep old answer new = MatchOption answer (IsPause old new) (λ item. IsNextItem old item new)

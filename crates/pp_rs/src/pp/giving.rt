@@ -24,7 +24,10 @@ impl<'a> Preprocessor<'a> {
         }
         match self.give_all(sink) {
             Ok(item) => item,
-            Err(_) => Some(Err(out_of_memory())),
+            Err(_) => {
+                self.spend();
+                Some(Err(out_of_memory()))
+            }
         }
     }
 
@@ -36,123 +39,60 @@ impl<'a> Preprocessor<'a> {
     ) -> Result<Option<PreprocessorItem>, AllocError>
         requires unspent { is_spent self.old ≡ false }
         ensures gives { IfOk result (λ item. GivesTokens S.takes self.old sink.old item self.new sink.new) }
-        ensures refused { OnErr result (IsRefusedAfter S.takes self.old sink.old self.new) }
+        ensures refused { OnErr result (IsRefusedAfter S.takes self.old sink.old) }
     {
         'items: loop {
-            self.give_borrowed(sink)?;
-            match self.next_item() {
-                Some(Ok(token)) => {
+            self.give_front(sink)?;
+            if self.give_words(sink)? {
+                continue;
+            }
+            match self.step() {
+                Some(Some(Ok(token))) => {
                     if !token.is_ordinary() {
                         return Ok(Some(Ok(token)));
                     }
-                    let given = self.give(TokenRef::of_token(&token, self.call_line()), sink);
+                    let given = sink.take(TokenRef::of_token(&token, self.call_line()));
                     drop(token);
                     given?;
                 }
-                Some(Err(error)) => return Ok(Some(Err(error))),
-                None => return Ok(None),
+                Some(Some(Err(error))) => return Ok(Some(Err(error))),
+                Some(None) => return Ok(None),
+                None => {}
             }
         }
     }
 
-    // Gives what comes next to the sink, as long as no memory is needed for its tokens.
+    // Gives the words of live text that come to the sink, up to a macro without parentheses, which opens, or to anything
+    // else. Returns whether a macro has opened.
     #[inline(never)]
-    fn give_borrowed<S: TokenSink>(&mut self, sink: &mut S) -> Result<(), AllocError>
+    fn give_words<S: TokenSink>(&mut self, sink: &mut S) -> Result<bool, AllocError>
+        requires unspent { is_spent self.old ≡ false }
+        ensures spent { OnOk result (is_spent self.new ≡ false) }
+        ensures left { IfOk result (λ opened. HasLeft opened self.old self.new) }
+        ensures giving { OnOk result (KeepsGiving S.takes self.old sink.old self.new sink.new) }
+        ensures refused { OnErr result (IsRefused S.takes self.old sink.old) }
+    {
+        if !self.is_in_text() {
+            return Ok(false);
+        }
+        'words: while let Some(word) = self.next_word()? {
+            sink.take(TokenRef::of_word(&word))?;
+        }
+        Ok(self.call_line().is_some())
+    }
+
+    // Gives the tokens to the sink that the open macros give next, from their lists.
+    #[inline(never)]
+    fn give_front<S: TokenSink>(&mut self, sink: &mut S) -> Result<(), AllocError>
         requires unspent { is_spent self.old ≡ false }
         ensures spent { OnOk result (is_spent self.new ≡ false) }
         ensures left { OnOk result (most_items self.new ≤ most_items self.old) }
         ensures giving { OnOk result (KeepsGiving S.takes self.old sink.old self.new sink.new) }
-        ensures refused { OnErr result (IsRefused S.takes self.old sink.old self.new) }
+        ensures refused { OnErr result (IsRefused S.takes self.old sink.old) }
     {
-        'tokens: while self.give_next(sink)? {}
-        Ok(())
-    }
-
-    // Gives the next token of live text to the sink, or the next tokens of the open macros, if no memory is needed for
-    // them. Returns whether there was one.
-    #[inline(always)]
-    fn give_next<S: TokenSink>(&mut self, sink: &mut S) -> Result<bool, AllocError>
-        requires unspent { is_spent self.old ≡ false }
-        ensures spent { OnOk result (is_spent self.new ≡ false) }
-        ensures left { IfOk result (λ given. HasLeft given self.old self.new) }
-        ensures giving { OnOk result (KeepsGiving S.takes self.old sink.old self.new sink.new) }
-        ensures refused { OnErr result (IsRefused S.takes self.old sink.old self.new) }
-    {
-        if self.is_noted_in_text() || self.call_line().is_none() {
-            return self.give_live(sink);
-        }
-        if self.give_front(sink)? {
-            return Ok(true);
-        }
-        self.give_live(sink)
-    }
-
-    // Gives what comes next of live text to the sink: a word, or the first tokens of a macro without parameters.
-    // Returns whether there was one.
-    #[inline(always)]
-    fn give_live<S: TokenSink>(&mut self, sink: &mut S) -> Result<bool, AllocError>
-        requires unspent { is_spent self.old ≡ false }
-        ensures spent { OnOk result (is_spent self.new ≡ false) }
-        ensures left { IfOk result (λ given. HasLeft given self.old self.new) }
-        ensures giving { OnOk result (KeepsGiving S.takes self.old sink.old self.new sink.new) }
-        ensures refused { OnErr result (IsRefused S.takes self.old sink.old self.new) }
-    {
-        if let Some(word) = self.next_word() {
-            self.give(TokenRef::of_word(&word), sink)?;
-            return Ok(true);
-        }
-        self.give_opened(sink)
-    }
-
-    // Opens the macro without parameters that comes next, and gives its first tokens to the sink. Returns whether there
-    // was one. It is a function of its own, so that a word of plain text is given without it.
-    #[inline(never)]
-    fn give_opened<S: TokenSink>(&mut self, sink: &mut S) -> Result<bool, AllocError>
-        requires unspent { is_spent self.old ≡ false }
-        ensures spent { OnOk result (is_spent self.new ≡ false) }
-        ensures left { IfOk result (λ given. HasLeft given self.old self.new) }
-        ensures giving { OnOk result (KeepsGiving S.takes self.old sink.old self.new sink.new) }
-        ensures refused { OnErr result (IsRefused S.takes self.old sink.old self.new) }
-    {
-        if let Some(word) = self.open_word()? {
-            self.give(TokenRef::of_word(&word), sink)?;
-            return Ok(true);
-        }
-        self.give_front(sink)
-    }
-
-    // Gives the tokens to the sink that the open macros give next, from their lists. Returns whether there was one. It
-    // is a function of its own, so that a word of plain text is given without it.
-    #[inline(never)]
-    fn give_front<S: TokenSink>(&mut self, sink: &mut S) -> Result<bool, AllocError>
-        requires unspent { is_spent self.old ≡ false }
-        ensures spent { OnOk result (is_spent self.new ≡ false) }
-        ensures left { IfOk result (λ given. HasLeft given self.old self.new) }
-        ensures giving { OnOk result (KeepsGiving S.takes self.old sink.old self.new sink.new) }
-        ensures refused { OnErr result (IsRefused S.takes self.old sink.old self.new) }
-    {
-        let mut some = false;
         'tokens: while self.advance()? {
-            if let Err(refused) = sink.take(self.front()) {
-                self.spend();
-                return Err(refused);
-            }
+            sink.take(self.front())?;
             self.pass();
-            some = true;
-        }
-        Ok(some)
-    }
-
-    // Gives a token to the sink.
-    #[inline(always)]
-    fn give<S: TokenSink>(&mut self, token: TokenRef<'_>, sink: &mut S) -> Result<(), AllocError>
-        ensures same { OnOk result (self.new ≡ self.old) }
-        ensures taken { OnOk result (S.takes sink.old token.entry sink.new) }
-        ensures spent { OnErr result (self.new ≡ record self.old { spent = true }) }
-    {
-        if let Err(refused) = sink.take(token) {
-            self.spend();
-            return Err(refused);
         }
         Ok(())
     }

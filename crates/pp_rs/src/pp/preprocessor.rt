@@ -1,22 +1,23 @@
 //! The items of a preprocessed source.
 
-ghost use Rattle.std.specs.Prelude.{◌≡◌, ◌-◌, ◌^◌, ◌<◌, ◌∷◌, [], false, length, if◌then◌else◌, true, IsTrue, OnOk};
+ghost use Rattle.std.specs.Prelude.{◌≡◌, ◌-◌, ◌^◌, ◌<◌, [], false, length, if◌then◌else◌, true, IsTrue, OnOk};
 ghost use Rattle.std.specs.Prelude.{OnErr, IfOk, IfErr, ℕ, Option, None, Some, Ok, Err, unwrap_or};
 ghost use Rattle.pp_lexer.specs.declared.token.Token.{Token};
 ghost use Rattle.std.specs.Iterator.{at_most};
 ghost use Rattle.pp_lexer.specs.Location.{nowhere};
 ghost use Rattle.pp_lexer.specs.PreprocessorError.{out_of_memory};
+ghost use Rattle.pp_model.specs.Names.{Name};
 ghost use Rattle.pp_model.specs.Run.{items_of, start};
 ghost use Rattle.pp_rs.specs.Adding.{IsAdded};
-ghost use Rattle.pp_rs.specs.inner.Fit.{ReadsText};
 ghost use Rattle.pp_rs.specs.inner.GivingOn.{IsFrontLine};
 ghost use Rattle.pp_rs.specs.TokenRefs.{token_of};
 ghost use Rattle.pp_macros.specs.Item.{is_out_of_memory};
-ghost use Rattle.pp_macros.specs.inner.Frames.{new_frame};
 ghost use Rattle.pp_rs.specs.Kept.{Stands, IsAhead, is_spent, most_items, errors_left, error_place, call_line};
 ghost use Rattle.pp_macros.specs.LexerErrors.{lexer_errors};
 ghost use Rattle.pp_directives.specs.WordTokens.{word_token};
-ghost use Rattle.pp_rs.specs.inner.NextWord.{IsNextGiven, IsNextWord, IsPassed, IsPlain, SomeAhead};
+ghost use Rattle.pp_directives.specs.inner.PlainText.{IsBare};
+ghost use Rattle.pp_rs.specs.inner.NextWord.{IsNextGiven, IsNextStep, IsNextWord, IsPassed, IsPlain, OpensNumbered};
+ghost use Rattle.pp_rs.specs.inner.NextWord.{ReadsText, SomeAhead};
 ghost use Rattle.pp_rs.specs.Preprocessing.{IsNextItem};
 
 use crate::lexer::PlainItem;
@@ -25,13 +26,12 @@ use crate::pp::token_ref::TokenRef;
 use crate::token::{Location, NOWHERE, PreprocessorError, Token, out_of_memory};
 use pp_directives::convert::word_token;
 use pp_directives::directives::DirectiveProcessor;
-use pp_macros::define::Macro;
 use pp_macros::halt::Halt;
 use pp_macros::macro_processor::MacroProcessor;
+use pp_macros::names::{Definitions, NameId};
 use pp_macros::step::{StepExit, is_out_of_memory};
 use std::alloc::{AllocError, Global};
 use std::marker::Model;
-use std::rc::Rc;
 
 /// An item of the preprocessor: a token, or an error with its place.
 pub type PreprocessorItem = Result<Token, (PreprocessorError, Location)>;
@@ -45,8 +45,6 @@ pub struct Preprocessor<'a> {
     expander: MacroProcessor,
     source: DirectiveProcessor<'a>,
     spent: bool,
-    // whether the next token is known to be one of live text
-    in_text: bool,
     place: Location,
     // The line of the outermost macro that was open before the last turn. If a step is held, that turn gave a name.
     name_line: Option<u32>,
@@ -54,8 +52,7 @@ pub struct Preprocessor<'a> {
 
 impl<'a> Model for Preprocessor<'a> {
     ghost use Rattle.std.specs.Prelude.{◌≡◌, [], false};
-    ghost use Rattle.std.specs.Prelude.{true};
-    ghost use Rattle.pp_rs.specs.inner.Fit.{IsFit, IsReported, ReadsText};
+    ghost use Rattle.pp_rs.specs.inner.Fit.{IsFit, IsReported};
     ghost use Rattle.pp_rs.specs.Kept.{Preprocessing};
 
     ghost Value = { Preprocessing };
@@ -69,7 +66,7 @@ impl<'a> Model for Preprocessor<'a> {
     } };
 
     ghost invariant = { λ p. (p.spent ≡ false → IsFit p.expander.here p.source × IsReported p.expander.here p.source)
-        × (p.in_text ≡ true → ReadsText p.expander.here p.source p.spent) × (p.expander.below ≡ []) };
+        × (p.expander.below ≡ []) };
 }
 
 // The error. `OutOfMemory` always gets the same place.
@@ -104,17 +101,21 @@ fn refused_item(
     Err(error)
 }
 
-// Opens the frame of a macro without parentheses.
-fn open_shared(
+// Opens the macro without parentheses whose name has this number.
+#[inline(never)]
+fn open_numbered(
     expander: &mut MacroProcessor,
-    found: &Rc<Macro>,
+    definitions: &Definitions,
+    id: NameId,
     line: u32,
 ) -> Result<(), AllocError>
-    ensures opens { OnOk result (expander.new.here ≡ record expander.old.here {
-      frames = new_frame found.now.value line [] ∷ expander.old.here.frames;
-    }) }
+    requires { (name : Name) × IsBare definitions.now id name }
+    ensures opens { OnOk result (OpensNumbered definitions.now id line expander.old.here expander.new.here) }
     ensures below { expander.new.below ≡ expander.old.below }
 {
+    let Some(found) = definitions.get_define(id) else {
+        unreachable!();
+    };
     let opened = found.clone()?;
     expander.open_bare(opened, line)
 }
@@ -136,24 +137,17 @@ impl<'a> Preprocessor<'a> {
             expander: MacroProcessor::new(alloc),
             source: DirectiveProcessor::new(alloc, input),
             spent: false,
-            in_text: false,
             place: NOWHERE,
             name_line: None,
         }
     }
 
-    // Whether the next token is one of live text: no macro is open, nothing is held, and memory didn't run out. Once it
-    // is, this is noted until a token is asked for that isn't a word of plain text.
+    // Whether the next token is one of live text: no macro is open, nothing is held, and memory didn't run out.
     #[inline(always)]
-    fn is_in_text(&mut self) -> bool
-        ensures same { self.new ≡ self.old }
-        ensures text { IsTrue result → ReadsText self.old.expander self.old.source self.old.spent }
+    pub(crate) fn is_in_text(&self) -> bool
+        ensures { IsTrue result → ReadsText self.now }
     {
-        if self.in_text {
-            return true;
-        }
-        self.in_text = !self.spent && self.expander.is_idle() && self.source.is_in_text();
-        self.in_text
+        !self.spent && self.expander.is_idle() && self.source.is_in_text()
     }
 
     // Whether memory ran out for an item.
@@ -170,76 +164,38 @@ impl<'a> Preprocessor<'a> {
         ensures { self.new ≡ record self.old { spent = true } }
     {
         self.spent = true;
-        self.in_text = false;
     }
 
-    // Whether it is noted that the next token is one of live text, so that `next_word` is to be asked first. `false`
-    // says nothing.
+    // The next word of live text before memory is taken for it, if it is given as it is in the source. It passes newlines
+    // before it, and opens the macro without parentheses that it names; then what its body has comes next.
     #[inline(always)]
-    pub(crate) fn is_noted_in_text(&self) -> bool
-        ensures { IsTrue result → is_spent self.now ≡ false }
+    pub(crate) fn next_word(&mut self) -> Result<Option<PlainItem<'a>>, AllocError>
+        requires { ReadsText self.old }
+        ensures gives { IfOk result (λ word. IsNextWord self.old word self.new) }
+        ensures spent { OnErr result (is_spent self.new ≡ true) }
+        ensures some_left { OnErr result (0 < most_items self.old) }
     {
-        self.in_text
-    }
-
-    // The next token before memory is taken for it, if it is a word of plain text that is given as it is in the source.
-    // It passes newlines before the token, also if it returns `None`.
-    #[inline(always)]
-    pub(crate) fn next_word(&mut self) -> Option<PlainItem<'a>>
-        ensures { IsNextWord self.old result self.new }
-    {
-        if !self.is_in_text() {
-            return None;
-        }
         'words: loop {
-            if let Some(word) = self.source.next_word() {
-                return Some(word);
-            }
-            if !self.source.pass_newline() {
-                self.in_text = false;
-                return None;
-            }
-        }
-    }
-
-    // Opens the macro without parameters that the next word of plain text names, while no macro is open, and passes the
-    // name. Then what its body has comes next. If that word is no identifier, returns it, as `next_word` does. It is
-    // called if `next_word` returned `None`.
-    #[inline(never)]
-    pub(crate) fn open_word(&mut self) -> Result<Option<PlainItem<'a>>, AllocError>
-        ensures gives { IfOk result (λ word. IsNextWord self.old word self.new) }
-        ensures refused { OnErr result (is_spent self.new ≡ true) }
-        ensures some_left { OnErr result (0 < most_items self.old) }
-    {
-        if self.spent || !self.expander.is_idle() {
-            return Ok(None);
-        }
-        self.in_text = false;
-        let Some(word) = self.source.next_bare() else {
-            return Ok(None);
-        };
-        let Some(found) = self.source.macro_of_word(&word) else {
-            return Ok(Some(word));
-        };
-        match open_shared(&mut self.expander, found, word.location.line) {
-            Ok(()) => Ok(None),
-            Err(refused) => {
-                self.spent = true;
-                Err(refused)
+            match self.source.next_word() {
+                Some((word, None)) => return Ok(Some(word)),
+                Some((word, Some(id))) => {
+                    let definitions = self.source.definitions();
+                    let line = word.location.line;
+                    match open_numbered(&mut self.expander, definitions, id, line) {
+                        Ok(()) => return Ok(None),
+                        Err(refused) => {
+                            self.spent = true;
+                            return Err(refused);
+                        }
+                    }
+                }
+                None => {
+                    if !self.source.pass_newline() {
+                        return Ok(None);
+                    }
+                }
             }
         }
-    }
-
-    // Does what `open_word` does. It is a function of its own, so that the room for what `open_word` returns is cleared
-    // only where a macro may open, and not before each word.
-    #[inline(always)]
-    fn open_if_named(&mut self) -> Result<Option<PlainItem<'a>>, AllocError>
-        ensures gives { IfOk result (λ word. IsNextWord self.old word self.new) }
-        ensures refused { OnErr result (is_spent self.new ≡ true) }
-        ensures some_left { OnErr result (0 < most_items self.old) }
-    {
-        let word = self.open_word()?;
-        Ok(word)
     }
 
     // The token of the word that `next_word` returned, as an item.
@@ -253,44 +209,25 @@ impl<'a> Preprocessor<'a> {
             Ok(token) => Ok(token),
             Err(_) => {
                 self.spent = true;
-                self.in_text = false;
                 Err(out_of_memory())
             }
         }
     }
 
-    // Does what `next` does, without asking for a word of plain text first.
+    // Does what `next` does, if the next item is a word of live text that is given as it is. Otherwise returns `None`,
+    // after what `next_word` passes.
     #[inline(always)]
-    pub(crate) fn next_item(&mut self) -> Option<PreprocessorItem>
-        ensures { IsNextItem self.old result self.new }
+    fn next_text(&mut self) -> Option<PreprocessorItem>
+        requires { is_spent self.old ≡ false }
+        ensures { IsNextGiven self.old result self.new }
     {
-        if self.spent {
+        if !self.is_in_text() {
             return None;
         }
-        self.in_text = false;
-        loop {
-            match self.expander.give_next(&self.source) {
-                Ok(Some(token)) => return Some(Ok(token)),
-                Ok(None) => {}
-                Err(_) => {
-                    self.spent = true;
-                    return Some(Err(out_of_memory()));
-                }
-            }
-            self.name_line = self.expander.outermost_line();
-            match turn_source(self.alloc, &mut self.expander, &mut self.source) {
-                Ok(token) => return Some(Ok(token)),
-                Err(StepExit::Error(error)) => {
-                    return Some(refused_item(
-                        error,
-                        &mut self.source,
-                        &mut self.spent,
-                        &mut self.place,
-                    ));
-                }
-                Err(StepExit::Finished) => return None,
-                Err(StepExit::Continue) => {}
-            }
+        match self.next_word() {
+            Ok(Some(word)) => Some(self.word_item(word)),
+            Ok(None) => None,
+            Err(_) => Some(Err(out_of_memory())),
         }
     }
 
@@ -301,7 +238,6 @@ impl<'a> Preprocessor<'a> {
         requires { is_spent self.old ≡ false }
         ensures { IsNextGiven self.old result self.new }
     {
-        self.in_text = false;
         match self.expander.give_next(&self.source) {
             Ok(Some(token)) => Some(Ok(token)),
             Ok(None) => None,
@@ -312,46 +248,47 @@ impl<'a> Preprocessor<'a> {
         }
     }
 
-    // Does what `next_item` does, which is too large to be built in where `give_tokens` is called too. So a token of an
-    // open macro is asked for first, and what `next_item` returns is taken apart, so that no other item is kept in
-    // memory with it.
+    // One step at what isn't given as it is, in a list or in the source. Returns nothing if it is a pause, and otherwise
+    // what `next` returns.
     #[inline(always)]
-    fn next_given_or_item(&mut self) -> Option<PreprocessorItem>
-        ensures { IsNextItem self.old result self.new }
+    pub(crate) fn step(&mut self) -> Option<Option<PreprocessorItem>>
+        requires { is_spent self.old ≡ false }
+        ensures { IsNextStep self.old result self.new }
     {
-        if self.spent {
-            return None;
-        }
-        if let Some(item) = self.next_given() {
-            return Some(item);
-        }
-        match self.next_item() {
-            Some(Ok(token)) => Some(Ok(token)),
-            Some(Err(error)) => Some(Err(error)),
-            None => None,
+        self.name_line = self.expander.outermost_line();
+        match turn_source(self.alloc, &mut self.expander, &mut self.source) {
+            Ok(token) => Some(Some(Ok(token))),
+            Err(StepExit::Error(error)) => Some(Some(refused_item(
+                error,
+                &mut self.source,
+                &mut self.spent,
+                &mut self.place,
+            ))),
+            Err(StepExit::Finished) => Some(None),
+            Err(StepExit::Continue) => None,
         }
     }
 
     // Does what `next` does. Most items are words of plain text, and these are moved less than others if they are asked
-    // for first. Then a macro without parameters is opened at its name, as the program does it. `word_item` is called
-    // once, since it is built in at each call.
+    // for first.
     #[inline(always)]
-    fn next_word_or_item(&mut self) -> Option<PreprocessorItem>
+    fn next_item(&mut self) -> Option<PreprocessorItem>
         ensures { IsNextItem self.old result self.new }
     {
-        if self.is_in_text() {
-            let word = match self.next_word() {
-                Some(word) => Some(word),
-                None => match self.open_if_named() {
-                    Ok(word) => word,
-                    Err(_) => return Some(Err(out_of_memory())),
-                },
-            };
-            if let Some(word) = word {
-                return Some(self.word_item(word));
+        if self.is_spent() {
+            return None;
+        }
+        'steps: loop {
+            if let Some(item) = self.next_text() {
+                return Some(item);
+            }
+            if let Some(item) = self.next_given() {
+                return Some(item);
+            }
+            if let Some(answer) = self.step() {
+                return answer;
             }
         }
-        self.next_given_or_item()
     }
 
     // Goes on in the open macros, and returns whether the next token is ordinary, and the body or an argument of an
@@ -361,12 +298,11 @@ impl<'a> Preprocessor<'a> {
     pub(crate) fn advance(&mut self) -> Result<bool, AllocError>
         ensures passed { OnOk result (IsPassed self.old self.new) }
         ensures ahead { IfOk result (λ found. found ≡ true → SomeAhead self.new) }
-        ensures refused { OnErr result (IsNextItem self.old (Some (Err out_of_memory)) self.new) }
+        ensures some_left { OnErr result (0 < most_items self.old) }
     {
         if self.spent || self.expander.is_idle() {
             return Ok(false);
         }
-        self.in_text = false;
         match self.expander.advance(&self.source) {
             Ok(Some(_)) => {}
             Ok(None) => return Ok(false),
@@ -402,7 +338,6 @@ impl<'a> Preprocessor<'a> {
         ensures gives { (token : Token) → IsAhead self.old token → IsNextItem self.old (Some (Ok token)) self.new }
         ensures line { (line : Option ℕ) → IsFrontLine line self.old → line ≡ call_line self.new }
     {
-        self.in_text = false;
         self.expander.pass_token();
     }
 
@@ -454,7 +389,6 @@ impl<'a> Preprocessor<'a> {
         requires { length content.now < 2 ^ 32 - 1 }
         ensures { IsAdded self.old name.now content.now result self.new }
     {
-        self.in_text = false;
         match self.source.set_content(name, content) {
             Ok(()) => Ok(()),
             Err(Halt::Fault(fault)) => Err(fault),
@@ -471,6 +405,6 @@ impl<'a> Iterator for Preprocessor<'a> {
     ghost remaining = { λ p. at_most (most_items p) };
 
     fn next(&mut self) -> Option<PreprocessorItem> {
-        self.next_word_or_item()
+        self.next_item()
     }
 }

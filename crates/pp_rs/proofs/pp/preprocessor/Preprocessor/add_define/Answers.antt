@@ -5,7 +5,6 @@ use Rattle.pp_rs.specs.Kept.{Preprocessing}
 use Rattle.pp_macros.specs.inner.Source.{Source}
 use Rattle.pp_rs.proofs.runs.AddingLemmas.{added_now, faulty_now, refused_now, fit_added, reported_added}
 use Rattle.pp_rs.proofs.pp.preprocessor.Preprocessor.add_define.Goals.{in-Ok, in-Err-Fault, in-Err-OutOfMemory}
-use Rattle.std.proofs.lemmas.Bool.{false≢true}
 use Rattle.pp_rs.proofs.pp.preprocessor.Preprocessor.add_define.Goals as goal
 
 pub returns : goal.returns
@@ -44,6 +43,5 @@ invariant_of-self c =
                 (let h = rw w.in-Err-OutOfMemory.field-0-is at (w.in-Err-OutOfMemory.ensures {u = tt}) in
                 subst (λ (s : Source). IsFit p.expander.here s × IsReported p.expander.here s) (sym h) fit)
           ],
-      λ h. absurd (false≢true h),
-      c.self.invariant.2,
+      c.self.invariant.1,
     )

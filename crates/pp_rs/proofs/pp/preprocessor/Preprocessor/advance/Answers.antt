@@ -1,4 +1,4 @@
-use Rattle.std.proofs.Common.{refl, ◌≡◌, ◌∙◌, ap, sym, false}
+use Rattle.std.proofs.Common.{refl, ◌≡◌, ◌∙◌, ap, sym, true, false, arith}
 use Rattle.pp_lexer.specs.TokenValue.{is_ordinary}
 use Rattle.pp_lexer.specs.declared.token.Token.{Token}
 use Rattle.pp_rs.proofs.runs.NextLemmas.{reached_first, next_refused}
@@ -12,8 +12,7 @@ invariant_of-self c = (
       let first = reached_first _ _ _ _ (ap (λ p. p.expander) c.self.view_is) (ap (λ p. p.source) c.self.view_is) (c.self.invariant.0 c.if-self.false) in
       let r = (reached_on _ _ _ _ first _ (c.in-Ok-None.ensures {u = tt}).advances.pauses).reached in
       (r.fit, r.reported),
-  λ h. cc,
-  c.advance.ensures.below ∙ c.self.invariant.2,
+  c.advance.ensures.below ∙ c.self.invariant.1,
 )
 
 pub returns-in-Ok-None-clause-passed : goal.returns-in-Ok-None-clause-passed
@@ -29,8 +28,7 @@ invariant_of-self-2 c = (
       let first = reached_first _ _ _ _ (ap (λ p. p.expander) c.self.view_is) (ap (λ p. p.source) c.self.view_is) (c.self.invariant.0 c.if-self.false) in
       let r = (reached_on _ _ _ _ first _ (c.in-Ok-Some.ensures {u = tt}).advances.pauses).reached in
       (r.fit, r.reported),
-  λ h. cc,
-  c.advance.ensures.below ∙ c.self.invariant.2,
+  c.advance.ensures.below ∙ c.self.invariant.1,
 )
 
 pub returns : goal.returns
@@ -47,16 +45,17 @@ returns c =
         found.0,
         token_ahead_is _ c.if-self.false found.0 (ap (λ (t : Token). is_ordinary t.value) (sym same) ∙ sym c.is_ordinary.ensures ∙ e) _ found.1,
       );
-      refused = tt;
+      some_left = tt;
     }
 
-pub returns-in-Err-clause-refused : goal.returns-in-Err-clause-refused
-returns-in-Err-clause-refused c =
+pub returns-in-Err-clause-some_left : goal.returns-in-Err-clause-some_left
+returns-in-Err-clause-some_left c =
     let first = reached_first _ _ _ _ (ap (λ p. p.expander) c.self.view_is) (ap (λ p. p.source) c.self.view_is) (c.self.invariant.0 c.if-self.false) in
     let refused = c.in-Err.ensures.refused in
     let on = reached_on _ _ _ _ first _ refused.pauses in
     let fresh : c.args.self.now.spent ≡ false = ap (λ p. p.spent) (sym c.self.view_is) ∙ c.if-self.false in
-    next_refused _ _ c.advance.new.self.here _ _ c.self.inside.source on.reached c.args.self.now fresh refl refl refused.some _ refl
+    let next = next_refused _ _ c.advance.new.self.here _ _ c.self.inside.source on.reached c.args.self.now fresh refl refl refused.some (record c.args.self.now { spent = true }) refl in
+    omega (arith, next.less_left)
 
 pub returns-then-self-clause-passed : goal.returns-then-self-clause-passed
 returns-then-self-clause-passed c = rw (← c.self.view_is) (passed_nothing _)

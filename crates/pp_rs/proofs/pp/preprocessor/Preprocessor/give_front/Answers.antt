@@ -1,6 +1,6 @@
 use Rattle.std.proofs.Common.{◌∙◌, arith}
 use Rattle.pp_rs.specs.TokenRefs.{token_of}
-use Rattle.pp_rs.proofs.runs.GivingLemmas.{giving_passes, giving_refused, giving_takes, no_more, on_err, spent_next, token_unspent}
+use Rattle.pp_rs.proofs.runs.GivingLemmas.{giving_passes, giving_refused, giving_takes, on_err, token_unspent}
 use Rattle.pp_rs.proofs.pp.preprocessor.Preprocessor.give_front.Goals as goal
 
 pub tokens-init : goal.tokens-init
@@ -16,10 +16,10 @@ tokens-preserved g c =
     let fresh = passed.spent ∙ before.unspent in
     record {
       unspent = token_unspent _ _ (token_of token) fresh next;
-      left = omega (arith, next.less_left, passed.no_more_left, no_more c.tokens.some _ _ before.left);
+      left = omega (arith, next.less_left, passed.no_more_left, before.left);
       giving = λ start first p.
           giving_takes _ start _ first _ (giving_passes _ start _ first _ (before.giving start first p) _ passed) fresh token _ _ next
-          (c.pass.ensures.line _ c.front.ensures.line) (c.in_default.ensures {u = tt});
+          (c.pass.ensures.line _ c.front.ensures.line) (c.in_ok-take.ensures {u = tt});
     }
 
 -- no more tokens
@@ -31,12 +31,12 @@ returns-clause-giving g c = λ start first p.
 pub returns-in_err-advance-clause-refused : goal.returns-in_err-advance-clause-refused
 returns-in_err-advance-clause-refused g c = on_err c.from_residual.result (λ start first p.
     let before = c.tokens.invariant in
-    giving_refused _ start _ first _ (before.giving start first p) before.unspent _ (c.in_err-advance.ensures {u = tt}).refused)
+    giving_refused _ start _ first _ (before.giving start first p) before.unspent (c.in_err-advance.ensures {u = tt}).some_left)
 
 -- no memory for a token
-pub returns-in-Err-clause-refused : goal.returns-in-Err-clause-refused
-returns-in-Err-clause-refused g c = λ start first p.
+pub returns-in_err-take-clause-refused : goal.returns-in_err-take-clause-refused
+returns-in_err-take-clause-refused g c = on_err c.from_residual-in_err-take.result (λ start first p.
     let before = c.tokens.invariant in
     let passed = (c.in_ok-advance.ensures {u = tt}).passed in
-    giving_refused _ start _ first _ (giving_passes _ start _ first _ (before.giving start first p) _ passed) (passed.spent ∙ before.unspent) _
-    (spent_next _ _ (passed.spent ∙ before.unspent) c.front.ensures.some_left c.spend.ensures)
+    giving_refused _ start _ first _ (giving_passes _ start _ first _ (before.giving start first p) _ passed) (passed.spent ∙ before.unspent)
+    c.front.ensures.some_left)

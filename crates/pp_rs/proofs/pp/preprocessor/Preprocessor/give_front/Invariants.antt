@@ -1,12 +1,12 @@
-use Rattle.std.proofs.Common.{◌≡◌, false}
+use Rattle.std.proofs.Common.{◌≡◌, ◌≤◌, false}
 use Rattle.pp_rs.specs.Kept.{is_spent, most_items}
-use Rattle.pp_rs.specs.inner.GivingOn.{KeepsGiving, HasLeft}
+use Rattle.pp_rs.specs.inner.GivingOn.{KeepsGiving}
 use Rattle.pp_rs.proofs.pp.preprocessor.Preprocessor.give_front.Given as goal
 
 abbrev pub invariant-tokens : goal.invariant-tokens
 invariant-tokens g l = record {
   unspent : is_spent l.self ≡ false;
-  left : HasLeft l.some l.fn.self l.self;
+  left : most_items l.self ≤ most_items l.fn.self;
   giving : KeepsGiving g.S.TokenSink.takes l.fn.self l.fn.sink l.self l.sink;
 }
 

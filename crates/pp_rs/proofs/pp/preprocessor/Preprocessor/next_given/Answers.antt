@@ -20,7 +20,7 @@ give_next-requires c =
     let fresh : c.args.self.now.spent ≡ false = c.requires in
     let now_fresh : c.self.inside.spent ≡ false = ap (λ p. p.spent) c.self.view_is ∙ fresh in
     let sound = (c.self.invariant.0 now_fresh).0.sound in
-    record { sound = sound; waits = c.self.invariant.2; known = alone_known _ c.self.inside.expander sound.numbers (ap names_of c.self.invariant.2) }
+    record { sound = sound; waits = c.self.invariant.1; known = alone_known _ c.self.inside.expander sound.numbers (ap names_of c.self.invariant.1) }
 
 pub invariant_of-self : goal.invariant_of-self
 invariant_of-self c = (
@@ -29,8 +29,7 @@ invariant_of-self c = (
       let given = rw c.in-Ok-Some.field-0-is at (c.in-Ok-Some.ensures {u = tt}).gives in
       let on = reached_on _ _ _ _ first _ given.pauses in
       token_fits _ _ _ _ _ _ on.reached c.in-Ok-Some.token (given_over _ _ _ _ _ given.gives given.passes),
-  λ h. cc,
-  c.give_next.ensures.below ∙ c.self.invariant.2,
+  c.give_next.ensures.below ∙ c.self.invariant.1,
 )
 
 pub invariant_of-self-in-Ok-None : goal.invariant_of-self-in-Ok-None
@@ -39,8 +38,7 @@ invariant_of-self-in-Ok-None c = (
       let first = reached_first _ _ _ _ (ap (λ p. p.expander) c.self.view_is) (ap (λ p. p.source) c.self.view_is) (c.self.invariant.0 e) in
       let r = (reached_on _ _ _ _ first _ (rw c.in-Ok-None.field-0-is at (c.in-Ok-None.ensures {u = tt}).gives)).reached in
       (r.fit, r.reported),
-  λ h. cc,
-  c.give_next.ensures.below ∙ c.self.invariant.2,
+  c.give_next.ensures.below ∙ c.self.invariant.1,
 )
 
 pub returns-in-Ok-Some : goal.returns-in-Ok-Some

@@ -1,26 +1,29 @@
-use Rattle.std.proofs.Common.{◌∙◌, refl, ap, sym, subst}
+use Rattle.std.proofs.Common.{◌≡◌, ◌∙◌, ℕ, true, Option, Some, None, refl, ap, sym, subst}
+use Rattle.std.specs.Prelude.{is_some}
 use Rattle.pp_macros.specs.inner.Idle.{is_idle}
 use Rattle.pp_directives.specs.WordTokens.{word_token}
 use Rattle.pp_directives.specs.inner.PlainText.{IsInText}
-use Rattle.pp_rs.specs.Kept.{Preprocessing}
-use Rattle.pp_rs.specs.inner.Fit.{ReadsText}
+use Rattle.pp_rs.specs.Kept.{Preprocessing, is_spent}
 use Rattle.pp_rs.proofs.runs.CallLineLemmas.{line_outside}
-use Rattle.pp_rs.proofs.runs.NextLemmas.{reached_first, reached_more, falls_more, token_fits, next_token}
-use Rattle.pp_rs.proofs.runs.PassedLemmas.{newline_over, word_over, passed_nothing, passed_pauses, idle_line}
+use Rattle.pp_rs.proofs.runs.NextLemmas.{reached_first, reached_more, falls_more, less_more, some_items, token_fits, next_token}
+use Rattle.pp_rs.proofs.runs.OpenWordLemmas.{bare_over, bare_would}
+use Rattle.pp_rs.proofs.runs.PassedLemmas.{newline_over, word_over, passed_pauses, idle_line}
 use Rattle.pp_rs.proofs.pp.preprocessor.Preprocessor.next_word.Goals as goal
+
+none_open : {Z : Type 0} (line : Option ℕ) → line ≡ None → is_some line ≡ true → Z
+none_open None none some = cc
+none_open (Some x) none some = cc
 
 pub words-init : goal.words-init
 words-init c =
-    let reads : ReadsText c.args.self.now.expander c.args.self.now.source c.args.self.now.spent = c.is_in_text.ensures.text c.if-not-is_in_text.false in
-    let same = c.self.view_is ∙ c.is_in_text.ensures.same in
-    let fresh = ap (λ (p : Preprocessing). p.spent) same ∙ reads.unspent in
+    let fresh = ap (λ (p : Preprocessing). p.spent) c.self.view_is ∙ c.requires.unspent in
     record {
       unspent = fresh;
-      placed = ap (λ (p : Preprocessing). p.place) same;
-      alone = c.self.invariant.2;
-      idle = ap (λ (p : Preprocessing). is_idle p.expander) same ∙ reads.idle;
-      text = subst (λ (p : Preprocessing). IsInText p.source) (sym same) reads.text;
-      reached = reached_first _ _ _ _ (ap (λ (p : Preprocessing). p.expander) same) (ap (λ (p : Preprocessing). p.source) same) (c.self.invariant.0 fresh);
+      placed = ap (λ (p : Preprocessing). p.place) c.self.view_is;
+      alone = c.self.invariant.1;
+      idle = ap (λ (p : Preprocessing). is_idle p.expander) c.self.view_is ∙ c.requires.idle;
+      text = subst (λ (p : Preprocessing). IsInText p.source) (sym c.self.view_is) c.requires.text;
+      reached = reached_first _ _ _ _ (ap (λ (p : Preprocessing). p.expander) c.self.view_is) (ap (λ (p : Preprocessing). p.source) c.self.view_is) (c.self.invariant.0 fresh);
     }
 
 pub next_word-requires : goal.next_word-requires
@@ -31,7 +34,7 @@ pass_newline-requires c = c.next_word.ensures.stays
 
 pub words-preserved : goal.words-preserved
 words-preserved c =
-    let step = rw (c.in_default.ensures.gives) at (c.if-not-pass_newline.ensures.pauses) in
+    let step = rw (c.in-None.ensures.gives) at (c.if-not-pass_newline.ensures.pauses) in
     record {
       unspent = c.words.invariant.unspent;
       placed = c.words.invariant.placed;
@@ -43,37 +46,77 @@ words-preserved c =
 
 pub words-smaller : goal.words-smaller
 words-smaller c =
-    let step = rw (c.in_default.ensures.gives) at (c.if-not-pass_newline.ensures.pauses) in
+    let step = rw (c.in-None.ensures.gives) at (c.if-not-pass_newline.ensures.pauses) in
     falls_more _ _ _ _ _ _ c.words.invariant.reached (newline_over _ _ _ c.words.invariant.idle step)
 
+-- a word that is given
 pub invariant_of-self : goal.invariant_of-self
 invariant_of-self c = (
   λ e.
-      let takes = rw c.in-Some.is at c.next_word.ensures.gives in
-      token_fits _ _ _ _ _ _ c.words.invariant.reached (word_token c.in-Some.word)
-      (word_over _ _ _ (word_token c.in-Some.word) c.words.invariant.idle takes.step takes.itself),
-  λ h. record { idle = c.words.invariant.idle; text = c.next_word.ensures.stays; unspent = c.words.invariant.unspent },
+      let takes = rw c.in-Some-default-None.field-0-1-is at c.in-Some-default-None.ensures.gives in
+      token_fits _ _ _ _ _ _ c.words.invariant.reached (word_token c.in-Some-default-None.word)
+      (word_over _ _ _ (word_token c.in-Some-default-None.word) c.words.invariant.idle takes.step takes.does),
   c.words.invariant.alone,
 )
 
-pub returns-in-Some : goal.returns-in-Some
-returns-in-Some c =
-    let takes = rw c.in-Some.is at c.next_word.ensures.gives in
-    let reads : ReadsText c.args.self.now.expander c.args.self.now.source c.args.self.now.spent = c.is_in_text.ensures.text c.if-not-is_in_text.false in
+pub returns-in-Some-default-None-clause-gives : goal.returns-in-Some-default-None-clause-gives
+returns-in-Some-default-None-clause-gives c =
+    let takes = rw c.in-Some-default-None.field-0-1-is at c.in-Some-default-None.ensures.gives in
     record {
-      next = next_token _ _ _ _ _ _ c.words.invariant.reached c.args.self.now reads.unspent refl refl (word_token c.in-Some.word) c.words.self-inside.spent
-          c.words.self-inside.place c.words.self-inside.name_line c.words.invariant.unspent c.words.invariant.placed
+      next = next_token _ _ _ _ _ _ c.words.invariant.reached c.args.self.now c.requires.unspent refl refl (word_token c.in-Some-default-None.word)
+          c.words.self-inside.spent c.words.self-inside.place c.words.self-inside.name_line c.words.invariant.unspent c.words.invariant.placed
           (idle_line c.words.self-inside.expander.here _ _ c.words.invariant.idle)
-          (word_over _ _ _ (word_token c.in-Some.word) c.words.invariant.idle takes.step takes.itself) takes.holds;
+          (word_over _ _ _ (word_token c.in-Some-default-None.word) c.words.invariant.idle takes.step takes.does) takes.holds;
       line = line_outside _ c.words.invariant.idle;
       plain = record { no_hash = takes.no_hash; ascii = takes.ascii };
+      reads = record { idle = c.words.invariant.idle; text = c.next_word.ensures.stays; unspent = c.words.invariant.unspent };
     }
 
-pub returns-then-not-pass_newline : goal.returns-then-not-pass_newline
-returns-then-not-pass_newline c =
-    let reads : ReadsText c.args.self.now.expander c.args.self.now.source c.args.self.now.spent = c.is_in_text.ensures.text c.if-not-is_in_text.false in
-    rw (c.if-not-pass_newline.ensures.pauses, c.in_default.ensures.gives)
-    (passed_pauses c.args.self.now _ _ _ _ _ c.words.invariant.reached reads.unspent c.words.invariant.unspent c.words.invariant.placed)
+-- a macro that opens
+pub open_numbered-requires : goal.open_numbered-requires
+open_numbered-requires c =
+    let takes = rw c.in-Some-default-Some.field-0-1-is at c.in-Some-default-Some.ensures.gives in
+    rw c.definitions-definitions.ensures (c.in-Some-default-Some.word.spelling.now, takes.does.1)
 
-pub returns-then-not-is_in_text : goal.returns-then-not-is_in_text
-returns-then-not-is_in_text c = rw c.is_in_text.ensures.same (passed_nothing _)
+pub invariant_of-self-in-Ok : goal.invariant_of-self-in-Ok
+invariant_of-self-in-Ok c = (
+  λ e.
+      let takes = rw c.in-Some-default-Some.field-0-1-is at c.in-Some-default-Some.ensures.gives in
+      let opens = rw c.definitions-definitions.ensures at c.in-Ok.ensures.opens in
+      let on = reached_more _ _ _ _ _ _ c.words.invariant.reached (bare_over _ _ _ _ _ c.words.invariant.idle takes _ opens) in
+      (on.fit, on.reported),
+  c.open_numbered.ensures.below ∙ c.words.invariant.alone,
+)
+
+pub returns-in-Ok-clause-gives : goal.returns-in-Ok-clause-gives
+returns-in-Ok-clause-gives c =
+    let takes = rw c.in-Some-default-Some.field-0-1-is at c.in-Some-default-Some.ensures.gives in
+    let opens = rw c.definitions-definitions.ensures at c.in-Ok.ensures.opens in
+    let turns = bare_over _ _ _ _ _ c.words.invariant.idle takes _ opens in
+    record {
+      passed = passed_pauses c.args.self.now _ _ _ _ _ (reached_more _ _ _ _ _ _ c.words.invariant.reached turns) c.requires.unspent
+          c.words.invariant.unspent c.words.invariant.placed;
+      less_left = λ _. less_more _ _ _ _ _ _ c.words.invariant.reached c.args.self.now c.requires.unspent refl refl _ _ _ c.words.invariant.unspent turns;
+    }
+
+-- no memory to open it
+pub invariant_of-self-in-Err : goal.invariant_of-self-in-Err
+invariant_of-self-in-Err c = (λ e. cc, c.open_numbered.ensures.below ∙ c.words.invariant.alone)
+
+pub returns-in-Err-clause-spent : goal.returns-in-Err-clause-spent
+unfolding is_spent
+returns-in-Err-clause-spent c = refl
+
+pub returns-in-Err-clause-some_left : goal.returns-in-Err-clause-some_left
+returns-in-Err-clause-some_left c =
+    let takes = rw c.in-Some-default-Some.field-0-1-is at c.in-Some-default-Some.ensures.gives in
+    some_items _ _ _ _ _ _ c.words.invariant.reached c.args.self.now c.requires.unspent refl refl
+    (bare_would _ _ _ _ _ c.words.invariant.idle takes).1
+
+-- nothing else is a word
+pub returns-then-not-pass_newline-clause-gives : goal.returns-then-not-pass_newline-clause-gives
+returns-then-not-pass_newline-clause-gives c =
+    rw (c.if-not-pass_newline.ensures.pauses, c.in-None.ensures.gives) (record {
+      passed = passed_pauses c.args.self.now _ _ _ _ _ c.words.invariant.reached c.requires.unspent c.words.invariant.unspent c.words.invariant.placed;
+      less_left = λ some. none_open _ (line_outside _ c.words.invariant.idle) some;
+    })

@@ -1,0 +1,69 @@
+use Rattle.std.proofs.Common.{◌≡◌, ◌∙◌, ◌<◌, ◌≤◌, Bool, true, false, refl, sym, arith}
+use Rattle.pp_rs.specs.Kept.{Preprocessing, is_spent, most_items}
+use Rattle.pp_rs.specs.inner.GivingOn.{HasLeft}
+use Rattle.pp_rs.proofs.runs.GivingLemmas.{giving_passes, giving_refused, giving_word, on_err}
+use Rattle.pp_rs.proofs.pp.preprocessor.Preprocessor.give_words.Goals as goal
+
+has_left : (opened : Bool) (first now last : Preprocessing) → most_items now ≤ most_items first → most_items last ≤ most_items now
+    → (opened ≡ true → most_items last < most_items now) → HasLeft opened first last
+has_left true first now last fewer no_more less = omega (arith, fewer, less refl)
+has_left false first now last fewer no_more less = omega (arith, fewer, no_more)
+
+pub words-init : goal.words-init
+words-init g c = record { reads = c.is_in_text.ensures c.if-not-is_in_text.false; left = omega arith; giving = λ start first p. p }
+
+pub next_word-requires : goal.next_word-requires
+next_word-requires g c = c.words.invariant.reads
+
+pub words-preserved : goal.words-preserved
+unfolding is_spent
+words-preserved g c =
+    let before = c.words.invariant in
+    let word = rw c.in-Some.is at (c.in_ok-word.ensures {u = tt}).gives in
+    record {
+      reads = word.reads;
+      left = omega (arith, word.next.less_left, before.left);
+      giving = λ start first p.
+          giving_word _ start _ first _ (before.giving start first p) before.reads.unspent c.in-Some.word _ c.of_word.result _ word
+          c.of_word.ensures.token c.of_word.ensures.line (c.in_ok-take.ensures {u = tt});
+    }
+
+pub words-smaller : goal.words-smaller
+words-smaller g c =
+    let word = rw c.in-Some.is at (c.in_ok-word.ensures {u = tt}).gives in
+    omega (arith, word.next.less_left)
+
+pub of_word-requires : goal.of_word-requires
+of_word-requires g c = (rw c.in-Some.is at (c.in_ok-word.ensures {u = tt}).gives).plain
+
+-- no more words
+pub returns-clause-spent : goal.returns-clause-spent
+unfolding is_spent
+returns-clause-spent g c =
+    let text = rw c.in_default.is at (c.in_ok-word.ensures {u = tt}).gives in
+    text.passed.spent ∙ c.words.invariant.reads.unspent
+
+pub returns-clause-left : goal.returns-clause-left
+returns-clause-left g c =
+    let text = rw c.in_default.is at (c.in_ok-word.ensures {u = tt}).gives in
+    has_left _ _ _ _ c.words.invariant.left text.passed.no_more_left
+    (λ opened. text.less_left (rw c.call_line.ensures at (sym c.is_some.ensures ∙ opened)))
+
+pub returns-clause-giving : goal.returns-clause-giving
+returns-clause-giving g c = λ start first p.
+    let text = rw c.in_default.is at (c.in_ok-word.ensures {u = tt}).gives in
+    giving_passes _ start _ first _ (c.words.invariant.giving start first p) _ text.passed
+
+-- memory runs out
+pub returns-in_err-word-clause-refused : goal.returns-in_err-word-clause-refused
+unfolding is_spent
+returns-in_err-word-clause-refused g c = on_err c.from_residual.result (λ start first p.
+    let before = c.words.invariant in
+    giving_refused _ start _ first _ (before.giving start first p) before.reads.unspent (c.in_err-word.ensures {u = tt}).some_left)
+
+pub returns-in_err-take-clause-refused : goal.returns-in_err-take-clause-refused
+unfolding is_spent
+returns-in_err-take-clause-refused g c = on_err c.from_residual-in_err-take.result (λ start first p.
+    let before = c.words.invariant in
+    let word = rw c.in-Some.is at (c.in_ok-word.ensures {u = tt}).gives in
+    giving_refused _ start _ first _ (before.giving start first p) before.reads.unspent (omega (arith, word.next.less_left)))
