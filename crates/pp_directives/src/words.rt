@@ -35,8 +35,8 @@ pub fn is_apart(word: &PlainItem<'_>) -> bool
 }
 
 /// What the word does in live text while no macro is open, by one look-up of its name: it opens the macro without
-/// parentheses whose name has this number or, without a number, is given as it is. Nothing if it is a `#`, `__LINE__` or
-/// the name of a macro with parentheses.
+/// parentheses whose name has this number or, without a number, is given as it is. Nothing if it is a `#`, `__LINE__`
+/// or the name of a macro with parentheses.
 #[inline(always)]
 pub fn act_of(word: &PlainItem<'_>, definitions: &Definitions) -> Option<Option<NameId>>
     requires { IsAscii word.now.spelling.now }

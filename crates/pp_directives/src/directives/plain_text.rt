@@ -12,8 +12,8 @@ use pp_model::read::Read;
 use std::alloc::AllocError;
 
 impl<'a> DirectiveProcessor<'a> {
-    /// The next word of live text before memory is taken for it, if it is given as it is while no macro is open, or opens
-    /// a macro without parentheses: then with the number of its name. Otherwise nothing changes.
+    /// The next word of live text before memory is taken for it, if it is given as it is while no macro is open, or
+    /// opens a macro without parentheses: then with the number of its name. Otherwise nothing changes.
     #[inline(always)]
     pub fn next_word(&mut self) -> Option<(PlainItem<'a>, Option<NameId>)>
         requires { IsInText self.old }

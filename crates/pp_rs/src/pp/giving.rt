@@ -62,8 +62,8 @@ impl<'a> Preprocessor<'a> {
         }
     }
 
-    // Gives the words of live text that come to the sink, up to a macro without parentheses, which opens, or to anything
-    // else. Returns whether a macro has opened.
+    // Gives the words of live text that come to the sink, up to a macro without parentheses, which opens, or to
+    // anything else. Returns whether a macro has opened.
     #[inline(never)]
     fn give_words<S: TokenSink>(&mut self, sink: &mut S) -> Result<bool, AllocError>
         requires unspent { is_spent self.old ≡ false }

@@ -166,8 +166,8 @@ impl<'a> Preprocessor<'a> {
         self.spent = true;
     }
 
-    // The next word of live text before memory is taken for it, if it is given as it is in the source. It passes newlines
-    // before it, and opens the macro without parentheses that it names; then what its body has comes next.
+    // The next word of live text before memory is taken for it, if it is given as it is in the source. It passes
+    // newlines before it, and opens the macro without parentheses that it names; then what its body has comes next.
     #[inline(always)]
     pub(crate) fn next_word(&mut self) -> Result<Option<PlainItem<'a>>, AllocError>
         requires { ReadsText self.old }
@@ -248,8 +248,8 @@ impl<'a> Preprocessor<'a> {
         }
     }
 
-    // One step at what isn't given as it is, in a list or in the source. Returns nothing if it is a pause, and otherwise
-    // what `next` returns.
+    // One step at what isn't given as it is, in a list or in the source. Returns nothing if it is a pause, and
+    // otherwise what `next` returns.
     #[inline(always)]
     pub(crate) fn step(&mut self) -> Option<Option<PreprocessorItem>>
         requires { is_spent self.old ≡ false }
