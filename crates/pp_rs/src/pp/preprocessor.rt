@@ -270,7 +270,7 @@ impl<'a> Preprocessor<'a> {
     }
 
     // Does what `next` does. Most items are words of plain text, and these are moved less than others if they are asked
-    // for first.
+    // for first. What `step` returns is taken apart, so that no other item is kept in memory with it.
     #[inline(always)]
     fn next_item(&mut self) -> Option<PreprocessorItem>
         ensures { IsNextItem self.old result self.new }
@@ -285,8 +285,11 @@ impl<'a> Preprocessor<'a> {
             if let Some(item) = self.next_given() {
                 return Some(item);
             }
-            if let Some(answer) = self.step() {
-                return answer;
+            match self.step() {
+                Some(Some(Ok(token))) => return Some(Ok(token)),
+                Some(Some(Err(error))) => return Some(Err(error)),
+                Some(None) => return None,
+                None => {}
             }
         }
     }

@@ -1,4 +1,4 @@
-use Rattle.std.proofs.Common.{◌∙◌, sym, arith}
+use Rattle.std.proofs.Common.{◌∙◌, sym, refl, Some, None, Ok, Err, arith}
 use Rattle.pp_rs.specs.inner.NextWord.{IsPassed}
 use Rattle.pp_rs.proofs.runs.NextLemmas.{next_none}
 use Rattle.pp_rs.proofs.runs.NextWordLemmas.{passed_again, passed_next}
@@ -31,18 +31,32 @@ returns-in-Some-next_given c =
     passed_next _ _ _ _ (sym c.is_spent.ensures ∙ c.if-is_spent.false) (passed_again _ _ _ c.steps.invariant.passed text)
     (rw c.in-Some-next_given.is at c.next_given.ensures)
 
-pub returns-in-Some-step : goal.returns-in-Some-step
-returns-in-Some-step c =
+pub returns-in-Some-Some-Ok : goal.returns-in-Some-Some-Ok
+returns-in-Some-Some-Ok c =
     let text = rw c.in_default.is at c.next_text.ensures in
     let given = rw c.in_default-next_given.is at c.next_given.ensures in
     passed_next _ _ _ _ (sym c.is_spent.ensures ∙ c.if-is_spent.false)
-    (passed_again _ _ _ c.steps.invariant.passed (passed_again _ _ _ text given)) (rw c.in-Some-step.is at c.step.ensures)
+    (passed_again _ _ _ c.steps.invariant.passed (passed_again _ _ _ text given)) (rw (c.in-Some-Some-Ok.is, c.in-Some-Some-Ok.field-0-is, c.in-Some-Some-Ok.field-0-0-is) at c.step.ensures)
+
+pub returns-in-Some-Some-Err : goal.returns-in-Some-Some-Err
+returns-in-Some-Some-Err c =
+    let text = rw c.in_default.is at c.next_text.ensures in
+    let given = rw c.in_default-next_given.is at c.next_given.ensures in
+    passed_next _ _ _ _ (sym c.is_spent.ensures ∙ c.if-is_spent.false)
+    (passed_again _ _ _ c.steps.invariant.passed (passed_again _ _ _ text given)) (rw (c.in-Some-Some-Err.is, c.in-Some-Some-Err.field-0-is, c.in-Some-Some-Err.field-0-0-is) at c.step.ensures)
+
+pub returns-in-Some-None : goal.returns-in-Some-None
+returns-in-Some-None c =
+    let text = rw c.in_default.is at c.next_text.ensures in
+    let given = rw c.in_default-next_given.is at c.next_given.ensures in
+    passed_next _ _ _ _ (sym c.is_spent.ensures ∙ c.if-is_spent.false)
+    (passed_again _ _ _ c.steps.invariant.passed (passed_again _ _ _ text given)) (rw (c.in-Some-None.is, c.in-Some-None.field-0-is) at c.step.ensures)
 
 pub steps-preserved : goal.steps-preserved
 steps-preserved c =
     let text = rw c.in_default.is at c.next_text.ensures in
     let given = rw c.in_default-next_given.is at c.next_given.ensures in
-    let pause = rw c.in_default-step.is at c.step.ensures in
+    let pause = rw c.in-None.is at c.step.ensures in
     record {
       unspent = pause.passed.spent ∙ given.spent ∙ text.spent ∙ c.steps.invariant.unspent;
       passed = passed_again _ _ _ c.steps.invariant.passed (passed_again _ _ _ text (passed_again _ _ _ given pause.passed));
@@ -52,5 +66,5 @@ pub steps-smaller : goal.steps-smaller
 steps-smaller c =
     let text = rw c.in_default.is at c.next_text.ensures in
     let given = rw c.in_default-next_given.is at c.next_given.ensures in
-    let pause = rw c.in_default-step.is at c.step.ensures in
+    let pause = rw c.in-None.is at c.step.ensures in
     omega (arith, text.no_more_left, given.no_more_left, pause.less_left)
