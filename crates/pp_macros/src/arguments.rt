@@ -3,13 +3,12 @@
 ghost use Rattle.std.specs.Prelude.{◌≡◌, ◌++◌, ◌-◌, [], IfOk, None, OnOk, length, Ok, Err};
 ghost use Rattle.std.specs.List.{list_all};
 ghost use Rattle.pp_model.specs.Calls.{arguments_of, misfit};
-ghost use Rattle.pp_model.specs.Emitting.{Alone, Each, answers_at};
-ghost use Rattle.pp_macros.specs.inner.Defined.{meaning_of, names_in};
-ghost use Rattle.pp_macros.specs.inner.Finishing.{Finishes, IsAtStart, IsShort, AreShort, AreOfCall, read_to_end};
-ghost use Rattle.pp_macros.specs.inner.Finishing.{site_at};
+ghost use Rattle.pp_model.specs.Emitting.{answers_at};
+ghost use Rattle.pp_macros.specs.inner.Defined.{names_in};
+ghost use Rattle.pp_macros.specs.inner.Finishing.{Finishes, ExpandsOnto, ExpandsEach, IsAtStart, AreOfCall, site_at};
 ghost use Rattle.pp_macros.specs.inner.Frames.{names_of};
 ghost use Rattle.pp_macros.specs.inner.Nesting.{AreKnown, listed_in, open_names};
-ghost use Rattle.pp_macros.specs.inner.Parts.{addition, lists_of, AreInOrder};
+ghost use Rattle.pp_macros.specs.inner.Parts.{lists_of, AreInOrder};
 ghost use Rattle.pp_macros.specs.inner.Reading.{AllReadOrdinary};
 ghost use Rattle.pp_macros.specs.inner.Expander.{Satisfies};
 ghost use Rattle.pp_macros.specs.inner.Plain.{is_plain};
@@ -142,9 +141,7 @@ fn expand_arguments(
     requires free { processor.old.here.held ≡ None }
     requires known { AreKnown (names_in definitions.now) processor.old }
     ensures same { processor.new ≡ processor.old }
-    ensures each { Satisfies result (λ out. Each (Alone levels)
-        (meaning_of definitions.now) (open_names processor.old) arguments out) }
-    ensures least { IfOk result (λ outs. AreShort levels definitions.now arguments outs) }
+    ensures expands { Satisfies result (ExpandsEach levels definitions.now (open_names processor.old) arguments) }
 {
     let (mut tokens, parts) = arguments.into_parts();
     if are_plain(&tokens, definitions, &*processor) {
@@ -177,10 +174,8 @@ fn expand_parts(
     requires free { processor.old.here.held ≡ None }
     requires known { AreKnown (names_in definitions.now) processor.old }
     ensures same { processor.new ≡ processor.old }
-    ensures each { Satisfies result (λ out. Each (Alone levels) (meaning_of definitions.now)
-        (open_names processor.old) (lists_of tokens.old parts.now) out) }
-    ensures least { IfOk result (λ outs. AreShort levels definitions.now
-        (lists_of tokens.old parts.now) outs) }
+    ensures expands { Satisfies result (ExpandsEach levels definitions.now (open_names processor.old)
+        (lists_of tokens.old parts.now)) }
 {
     let mut items = processor.take_tokens(tokens.len())?;
     let mut expanded = processor.take_parts(parts.len())?;
@@ -238,13 +233,8 @@ fn expand_argument(
     requires free { processor.old.here.held ≡ None }
     requires known { AreKnown (names_in definitions.now) processor.old }
     ensures same { processor.new ≡ processor.old }
-    ensures keeps { OnOk result (items.new.items
-        ≡ items.old.items ++ addition items.old.items items.new.items) }
-    ensures alone { Satisfies result (λ end. Alone levels tokens.old (meaning_of definitions.now)
-        (open_names processor.old) (read_to_end (addition items.old.items items.new.items) end)) }
-    ensures least { OnOk result (IsShort levels definitions.now (length tokens.old)
-        (addition items.old.items items.new.items)) }
-    ensures holds { OnOk result (AllReadOrdinary items.new.items) }
+    ensures expands { Satisfies result (ExpandsOnto levels definitions.now (open_names processor.old) tokens.old
+        items.old.items items.new.items) }
 {
     if are_plain(&*tokens, definitions, &*processor) {
         append(tokens, items)?;
@@ -280,14 +270,8 @@ fn expand_list(
     requires before { AllReadOrdinary items.old.items }
     requires known { AreKnown (names_in definitions.now) processor.old }
     ensures below { processor.new.below ≡ processor.old.below }
-    ensures keeps { OnOk result (items.new.items
-        ≡ items.old.items ++ addition items.old.items items.new.items) }
-    ensures alone { Satisfies result (λ end. Alone levels lexer.old.tokens
-        (meaning_of definitions.now) (names_of processor.old.below)
-        (read_to_end (addition items.old.items items.new.items) end)) }
-    ensures least { OnOk result (IsShort levels definitions.now (length lexer.old.tokens)
-        (addition items.old.items items.new.items)) }
-    ensures holds { OnOk result (AllReadOrdinary items.new.items) }
+    ensures expands { Satisfies result (ExpandsOnto levels definitions.now (names_of processor.old.below)
+        lexer.old.tokens items.old.items items.new.items) }
 {
     'items: loop {
         processor.give_frames(&*lexer, items)?;

@@ -1,17 +1,17 @@
 -- Calls that are finished, as the code finishes them.
 use Rattle.std.proofs.Common.{◌≡◌, ◌≢◌, ℕ, ◌+◌, ◌-◌, ◌≤◌, arith, All, List, [], ◌∷◌, ◌++◌, length, refl, sym, subst, None, le_trans, true, false, Bool}
-use Rattle.std.specs.Prelude.{if◌then◌else◌, Result, Ok, Err, ◌&&◌, ◌==◌}
+use Rattle.std.specs.Prelude.{if◌then◌else◌, Result, Ok, Err, IfOk, ◌&&◌, ◌==◌}
 use Rattle.std.proofs.lemmas.List.Elements.{All-cons, All-nil, All-append}
 use Rattle.pp_model.specs.declared.read.Read.{Read}
 use Rattle.pp_model.specs.Names.{Name}
 use Rattle.pp_model.specs.Calls.{Fault, pieces, arguments_of, misfit, cut_before, Pieces, is_comma, nesting_after}
-use Rattle.pp_model.specs.Emitting.{Alone, Each, answers_at}
+use Rattle.pp_model.specs.Emitting.{answers_at}
 use Rattle.pp_model.proofs.LevelLemmas as level
 use Rattle.pp_macros.specs.Halting.{halt_of}
 use Rattle.pp_macros.specs.Item.{is_out_of_memory}
 use Rattle.pp_macros.specs.inner.Calling.{MacroCall}
-use Rattle.pp_macros.specs.inner.Defined.{Defined, meaning_of, body_tokens}
-use Rattle.pp_macros.specs.inner.Finishing.{site_at, Finishes, AreShort, AreOfCall}
+use Rattle.pp_macros.specs.inner.Defined.{Defined, body_tokens}
+use Rattle.pp_macros.specs.inner.Finishing.{site_at, Finishes, ExpandsEach, AreOfCall}
 use Rattle.pp_macros.specs.inner.Frames.{names_of}
 use Rattle.pp_macros.specs.inner.Left.{most_alone}
 use Rattle.pp_macros.specs.inner.Expander.{Expander, Satisfies}
@@ -65,16 +65,18 @@ pieces_short n (read ∷ tokens) = cut (is_comma read.token.value && (n == 0)) (
 -- what the arguments come to is what the call comes to, where their number fits
 pub answers_each : (levels : ℕ) (definitions : List Defined) (around : List Name) (call : MacroCall) → levels ≢ 0
     → misfit call.opened.definition.parameters (arguments_of call.tokens) ≡ None → (out : Result (List (List Read)) Fault)
-    → Each (Alone (levels - 1)) (meaning_of definitions) around (arguments_of call.tokens) out
+    → ExpandsEach (levels - 1) definitions around (arguments_of call.tokens) out
     → answers_at levels call.opened.definition (site_at call definitions around) out
-answers_each levels definitions around call some fits out each = level.answers_each levels call.opened.definition (site_at call definitions around) out some fits each
+answers_each levels definitions around call some fits out expands =
+    level.answers_each levels call.opened.definition (site_at call definitions around) out some fits expands.each
 
 -- no argument of a call is longer than what all of its tokens may come to
-pub of_call : (levels : ℕ) (definitions : List Defined) (call : MacroCall) (arguments : List (List Read))
-    → AreShort (levels - 1) definitions (arguments_of call.tokens) arguments → AreOfCall levels definitions call arguments
-of_call levels definitions call arguments short = let here = pieces_short 0 call.tokens in
-    short (length call.tokens) (All-cons (λ (a : List Read). length a ≤ length call.tokens) (pieces 0 call.tokens).first
+pub of_call : (levels : ℕ) (definitions : List Defined) (around : List Name) (call : MacroCall) (r : Result (List (List Read)) Halt)
+    → Satisfies r (ExpandsEach (levels - 1) definitions around (arguments_of call.tokens)) → IfOk r (AreOfCall levels definitions call)
+of_call levels definitions around call (Ok arguments) expands = let here = pieces_short 0 call.tokens in
+    expands.least (length call.tokens) (All-cons (λ (a : List Read). length a ≤ length call.tokens) (pieces 0 call.tokens).first
     (pieces 0 call.tokens).others here.0 here.1)
+of_call levels definitions around call (Err h) expands = tt
 
 -- what a search gives satisfies what follows from it
 pub satisfies_more : {A : Type 0} (r : Result A Halt) (P Q : Result A Fault → Type 0) → ((out : Result A Fault) → P out → Q out)

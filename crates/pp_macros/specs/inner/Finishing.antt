@@ -1,16 +1,18 @@
 -- What is done with a call once its tokens are gathered: its arguments are expanded, and its frame opens
 -- (docs/RULES.md, Expansion 7 to 9).
-use Rattle.std.specs.Prelude.{◌≡◌, ◌≤◌, ◌-◌, ℕ, false, List, [], ◌∷◌, ◌++◌, All, length, None, Result, Ok, Err, ⊤}
+use Rattle.std.specs.Prelude.{◌≡◌, ◌≤◌, ◌-◌, ℕ, false, List, [], ◌∷◌, ◌++◌, All, length, None, Result, Ok, Err, IfOk, ⊤}
 use Rattle.pp_model.specs.declared.read.Read.{Read}
 use Rattle.pp_model.specs.Calls.{Fault, Site, arguments_of}
-use Rattle.pp_model.specs.Emitting.{answers_at}
+use Rattle.pp_model.specs.Emitting.{Alone, Each, answers_at}
 use Rattle.pp_model.specs.Names.{Name}
 use Rattle.pp_macros.specs.inner.Calling.{MacroCall}
 use Rattle.pp_macros.specs.inner.Defined.{Defined, meaning_of}
 use Rattle.pp_macros.specs.inner.Frames.{new_frame, names_of}
 use Rattle.pp_macros.specs.inner.Left.{most_alone}
 use Rattle.pp_macros.specs.inner.Expander.{Expander}
+use Rattle.pp_macros.specs.inner.Parts.{addition}
 use Rattle.pp_macros.specs.inner.Reader.{Listing}
+use Rattle.pp_macros.specs.inner.Reading.{AllReadOrdinary}
 use Rattle.pp_macros.specs.declared.halt.Halt.{Halt}
 use Rattle.pp_macros.specs.declared.halt.Halt.TheVariants as halt
 
@@ -46,10 +48,6 @@ Finishes levels definitions hidden call old (Err (halt.Fault fault)) new =
     × (new ≡ old)
 Finishes levels definitions hidden call old (Err halt.OutOfMemory) new = ⊤
 
--- an argument of at most `n` tokens, expanded alone, is no longer than the bound for these
-abbrev pub IsShort : ℕ → List Defined → ℕ → List Read → Type 0
-IsShort levels definitions n out = length out ≤ most_alone levels definitions n
-
 -- each expanded argument is within the bound for n tokens, if no argument has more than n tokens
 abbrev pub AreShort : ℕ → List Defined → List (List Read) → List (List Read) → Type 0
 AreShort levels definitions arguments outs = (n : ℕ) → All (λ argument. length argument ≤ n) arguments
@@ -60,7 +58,23 @@ pub record IsAtStart (definitions : List Defined) (hidden : List Name) (m : Expa
   pub idle : m ≡ record { held = None; frames = [] }
   pub argument : l ≡ record { tokens = l.tokens; definitions = definitions; hidden = hidden; is_line = false }
 
--- these items, if the list was read to its end, or the fault
-abbrev pub read_to_end : List Read → Result (Unit {0}) Fault → Result (List Read) Fault
-read_to_end items (Ok done) = Ok items
-read_to_end items (Err fault) = Err fault
+-- the tokens are expanded alone, and what they come to is put after the items
+pub record IsExpandedOnto (levels : ℕ) (definitions : List Defined) (hidden : List Name)
+    (tokens old new : List Read) : Type 0 where
+  pub keeps : new ≡ old ++ addition old new
+  pub alone : Alone levels tokens (meaning_of definitions) hidden (Ok (addition old new))
+  pub least : length (addition old new) ≤ most_alone levels definitions (length tokens)
+  pub holds : AllReadOrdinary new
+
+-- they are, or they have this fault
+abbrev pub ExpandsOnto : ℕ → List Defined → List Name → List Read → List Read → List Read → Result (Unit {0}) Fault
+    → Type 0
+ExpandsOnto levels definitions hidden tokens old new (Ok done) = IsExpandedOnto levels definitions hidden tokens old new
+ExpandsOnto levels definitions hidden tokens old new (Err fault) =
+    Alone levels tokens (meaning_of definitions) hidden (Err fault)
+
+-- each of the arguments is expanded alone, and comes to no more than the bound, or this is the first fault
+pub record ExpandsEach (levels : ℕ) (definitions : List Defined) (hidden : List Name) (arguments : List (List Read))
+    (out : Result (List (List Read)) Fault) : Type 0 where
+  pub each : Each (Alone levels) (meaning_of definitions) hidden arguments out
+  pub least : IfOk out (AreShort levels definitions arguments)

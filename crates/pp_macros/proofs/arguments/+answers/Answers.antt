@@ -2,23 +2,22 @@ use Rattle.std.proofs.Common.{◌≡◌, ◌≢◌, ◌+◌, ◌-◌, ◌≤◌,
 use Rattle.std.specs.Prelude.{Ok, Err, None}
 use Rattle.pp_model.specs.Calls.{arguments_of, misfit}
 use Rattle.pp_macros.specs.declared.argument_lists.Part.{Part}
-use Rattle.pp_model.specs.Emitting.{Alone, answers_at}
+use Rattle.pp_model.specs.Emitting.{answers_at}
 use Rattle.pp_model.specs.Names.{Name}
 use Rattle.pp_macros.specs.inner.Expander.{Satisfies}
-use Rattle.pp_macros.specs.inner.Defined.{meaning_of}
-use Rattle.pp_macros.specs.inner.Finishing.{Finishes, read_to_end, site_at}
+use Rattle.pp_macros.specs.inner.Finishing.{Finishes, site_at}
 use Rattle.pp_macros.specs.inner.Reader.{Listing}
 use Rattle.pp_macros.specs.inner.Frames.{names_of}
 use Rattle.pp_macros.specs.inner.Nesting.{MacroProcessor, open_names}
 use Rattle.pp_macros.specs.inner.Parts.{addition, list_of, lists_of}
-use Rattle.std.proofs.lemmas.Result.{err_from_is_err_and, IfOk-weaker}
+use Rattle.std.proofs.lemmas.Result.{err_from_is_err_and}
 use Rattle.pp_model.specs.Emitting.{first_failed, more, none}
 use Rattle.pp_model.specs.inner.Emitting.{list_before}
 use Rattle.pp_model.proofs.CollectLemmas.{after_lists-before, after_items-end}
 use Rattle.pp_macros.specs.declared.step.StepExit.TheVariants.{Error}
 use Rattle.std.proofs.lemmas.List.{append-nil, drop_more, drop_all}
 use Rattle.std.proofs.lemmas.List.Edits.{length-between}
-use Rattle.std.proofs.lemmas.List.Elements.{All-push}
+use Rattle.std.proofs.lemmas.List.Elements.{All-append, All-push}
 use Rattle.std.proofs.lemmas.Slice.{drop-put_mid}
 use Rattle.pp_model.specs.declared.read.Read.{Read}
 use Rattle.pp_macros.specs.Held.{HoldsOrdinary}
@@ -137,22 +136,24 @@ expand_list-returns-in-Err-Finished t c =
     let on = reached_added _ _ _ _ _ _ c.args.items.now.items _ _ _ c.items.invariant.keeps c.items.invariant.reached c.in_ok-give_frames.ensures.gives in
     record {
       below = c.step_list.ensures.below ∙ c.in_ok-give_frames.ensures.below ∙ c.items.invariant.below;
-      keeps = on.keeps;
-      alone = reached_end _ _ _ _ _ _ _ on.reached _ _
-          (turned _ _ _ _ _ (rw (c.in-Err-Finished.field-0-is, c.in_ok-give_frames.ensures.below) at c.in-Err-Finished.ensures.turns) refl);
-      least = omega (arith, on.reached.least);
-      holds = c.in_ok-give_frames.ensures.holds;
+      expands = record {
+        keeps = on.keeps;
+        alone = reached_end _ _ _ _ _ _ _ on.reached _ _
+            (turned _ _ _ _ _ (rw (c.in-Err-Finished.field-0-is, c.in_ok-give_frames.ensures.below) at c.in-Err-Finished.ensures.turns) refl);
+        least = omega (arith, on.reached.least);
+        holds = c.in_ok-give_frames.ensures.holds;
+      };
     }
 
-pub expand_list-returns-in-Err-Error-clause-alone : goal.expand_list-returns-in-Err-Error-clause-alone
-expand_list-returns-in-Err-Error-clause-alone t c =
+pub expand_list-returns-in-Err-Error-clause-expands : goal.expand_list-returns-in-Err-Error-clause-expands
+expand_list-returns-in-Err-Error-clause-expands t c =
     let on = reached_added _ _ _ _ _ _ c.args.items.now.items _ _ _ c.items.invariant.keeps c.items.invariant.reached c.in_ok-give_frames.ensures.gives in
     satisfies_fault c.halt_of.result c.in-Err-Error.fault _ c.halt_of.ensures
     (λ reported. reached_fault _ _ _ _ _ _ _ on.reached _ _ c.in-Err-Error.fault
     (turned _ _ _ _ (Err (Error c.in-Err-Error.fault)) (rw (c.in-Err-Error.field-0-is, c.in_ok-give_frames.ensures.below) at c.in-Err-Error.ensures.turns) reported) reported)
 
-pub expand_list-returns-in_err-finish_call-in-Ok-Call-clause-alone : goal.expand_list-returns-in_err-finish_call-in-Ok-Call-clause-alone
-expand_list-returns-in_err-finish_call-in-Ok-Call-clause-alone t c =
+pub expand_list-returns-in_err-finish_call-in-Ok-Call-clause-expands : goal.expand_list-returns-in_err-finish_call-in-Ok-Call-clause-expands
+expand_list-returns-in_err-finish_call-in-Ok-Call-clause-expands t c =
     let e = err_from_is_err_and c.from_residual-in_err-finish_call-in-Ok-Call.result c.from_residual-in_err-finish_call-in-Ok-Call.ensures.1 in
     let on = reached_added _ _ _ _ _ _ c.args.items.now.items _ _ _ c.items.invariant.keeps c.items.invariant.reached c.in_ok-give_frames.ensures.gives in
     satisfies_exit _ c.in_err-finish_call-in-Ok-Call.field-0.0 _ (e.1 ∙ ap Err e.2)
@@ -164,15 +165,16 @@ expand_list-returns-in_err-finish_call-in-Ok-Call-clause-alone t c =
     (Err c.in_err-finish_call-in-Ok-Call.field-0.0) c.finish_call.new.processor.here)
     (ap names_of (c.step_list.ensures.below ∙ c.in_ok-give_frames.ensures.below ∙ c.items.invariant.below)) c.in_err-finish_call-in-Ok-Call.ensures.finishes)))
 
-pub expand_argument-returns-then-are_plain-clause-alone : goal.expand_argument-returns-then-are_plain-clause-alone
-expand_argument-returns-then-are_plain-clause-alone t c =
-    rw (added_is c.args.items.now.items c.append.new.items.items c.args.tokens.now c.in_ok-append.ensures)
-    (plain_alone c.args.levels c.args.definitions.now (open_names c.args.processor.now) c.args.tokens.now (sym c.are_plain.ensures ∙ c.if-are_plain.true))
-
-pub expand_argument-returns-then-are_plain-clause-least : goal.expand_argument-returns-then-are_plain-clause-least
-expand_argument-returns-then-are_plain-clause-least t c =
-    rw (added_is c.args.items.now.items c.append.new.items.items c.args.tokens.now c.in_ok-append.ensures)
-    (plain_short c.args.levels c.args.definitions.now (length c.args.tokens.now))
+pub expand_argument-returns-then-are_plain-clause-expands : goal.expand_argument-returns-then-are_plain-clause-expands
+expand_argument-returns-then-are_plain-clause-expands t c =
+    let all_added = added_is c.args.items.now.items c.append.new.items.items c.args.tokens.now c.in_ok-append.ensures in
+    record {
+      keeps = rw all_added c.in_ok-append.ensures;
+      alone = rw all_added (plain_alone c.args.levels c.args.definitions.now (open_names c.args.processor.now) c.args.tokens.now
+          (sym c.are_plain.ensures ∙ c.if-are_plain.true));
+      least = rw all_added (plain_short c.args.levels c.args.definitions.now (length c.args.tokens.now));
+      holds = rw c.in_ok-append.ensures (All-append (λ (read : Read). HoldsOrdinary read.token.value) _ _ c.requires.before c.requires.ordinary);
+    }
 
 pub expand_parts-offset_bounds-tokens-part : goal.expand_parts-offset_bounds-tokens-part
 expand_parts-offset_bounds-tokens-part t c =
@@ -200,8 +202,8 @@ expand_parts-expand_argument-requires t c =
       ),
     )
 
-pub expand_parts-returns-in_err-expand_argument-clause-each : goal.expand_parts-returns-in_err-expand_argument-clause-each
-expand_parts-returns-in_err-expand_argument-clause-each t c =
+pub expand_parts-returns-in_err-expand_argument-clause-expands : goal.expand_parts-returns-in_err-expand_argument-clause-expands
+expand_parts-returns-in_err-expand_argument-clause-expands t c =
     let part : Part = get_or c.args.parts.now c.loop-part.part-index (record { start = 0; end = 0 }) in
     let here : drop c.loop-part.part-index c.args.parts.now ≡ part ∷ drop (c.loop-part.part-index + 1) c.args.parts.now
     = drop_more c.args.parts.now c.loop-part.part-index (record { start = 0; end = 0 }) (omega arith) in
@@ -209,9 +211,11 @@ expand_parts-returns-in_err-expand_argument-clause-each t c =
     left_first c.args.tokens.now c.loop-part.tokens part _ (rw here at c.loop-part.invariant.left) in
     let e = err_from_is_err_and c.from_residual-in_err-expand_argument.result c.from_residual-in_err-expand_argument.ensures.1 in
     satisfies_exit _ c.in_err-expand_argument.field-0.0 _ (e.1 ∙ ap Err e.2)
-    (λ fault is. c.loop-part.invariant.goes_on (Err fault)
-    (rw here (first_failed (list_of c.args.tokens.now part) _ fault (Err fault)
-    (rw (same, c.loop-part.invariant.same) at (fault_of c.in_err-expand_argument.field-0.0 fault _ is c.in_err-expand_argument.ensures.alone)) refl)))
+    (λ fault is. record {
+      each = c.loop-part.invariant.goes_on (Err fault) (rw here (first_failed (list_of c.args.tokens.now part) _ fault (Err fault)
+          (rw (same, c.loop-part.invariant.same) at (fault_of c.in_err-expand_argument.field-0.0 fault _ is c.in_err-expand_argument.ensures.expands)) refl));
+      least = tt;
+    })
 
 pub expand_parts-loop-part-preserved : goal.expand_parts-loop-part-preserved
 expand_parts-loop-part-preserved t c =
@@ -226,44 +230,41 @@ expand_parts-loop-part-preserved t c =
     ++ record { start = length c.loop-part.items.items; end = length c.expand_argument.new.items.items } ∷ [] = search rules in
     let lists : lists_of c.expand_argument.new.items.items c.push.new.self.items ≡ lists_of c.loop-part.items.items c.loop-part.expanded.items ++ out ∷ []
     = lists_more c.loop-part.items.items c.expand_argument.new.items.items c.loop-part.expanded.items c.push.new.self.items
-    c.loop-part.invariant.order c.in_ok-expand_argument.ensures.keeps put in
+    c.loop-part.invariant.order c.in_ok-expand_argument.ensures.expands.keeps put in
     let longer : length c.loop-part.items.items ≤ length c.expand_argument.new.items.items
-    = rw c.in_ok-expand_argument.ensures.keeps (simp length-append (omega arith)) in
+    = rw c.in_ok-expand_argument.ensures.expands.keeps (simp length-append (omega arith)) in
     let within = left_within c.args.tokens.now c.loop-part.tokens part _ left in
     record {
       goes_on = λ next h. rw (lists, ← after_lists-before (lists_of c.loop-part.items.items c.loop-part.expanded.items) out next)
           (c.loop-part.invariant.goes_on (list_before out next)
-          (rw here (more (list_of c.args.tokens.now part) out _ next (list_before out next) (rw same at (rw c.loop-part.invariant.same at c.in_ok-expand_argument.ensures.alone)) h refl)));
+          (rw here (more (list_of c.args.tokens.now part) out _ next (list_before out next) (rw same at (rw c.loop-part.invariant.same at c.in_ok-expand_argument.ensures.expands.alone)) h refl)));
       short = λ n all. short_more _ (lists_of c.loop-part.items.items c.loop-part.expanded.items) _ out (c.loop-part.invariant.short n all)
           (short_list c.args.levels c.args.definitions.now n (list_of c.args.tokens.now part) out
           (part_has (λ (list : List Read). length list ≤ n) c.args.tokens.now c.args.parts.now c.loop-part.part-index (record { start = 0; end = 0 }) (omega arith) all)
-          (rw same at c.in_ok-expand_argument.ensures.least)) lists;
+          (rw same at c.in_ok-expand_argument.ensures.expands.least)) lists;
       order = rw put (in_order_push 0 (length c.loop-part.items.items) (length c.expand_argument.new.items.items) c.loop-part.expanded.items _
           c.loop-part.invariant.order (omega arith) longer (omega arith));
       left = left_rest c.args.tokens.now c.loop-part.tokens part _ left _
           (drop-put_mid part.start (part.end - part.start) c.loop-part.tokens c.expand_argument.new.tokens part.end
           (omega (arith, within.0)) (omega (arith, within.0, within.1, c.loop-part.auto.tokens))
           (c.expand_argument.auto.tokens ∙ length-between c.loop-part.tokens part.start part.end (omega (arith, within.1, c.loop-part.auto.tokens))));
-      holds = c.in_ok-expand_argument.ensures.holds;
+      holds = c.in_ok-expand_argument.ensures.expands.holds;
       same = c.expand_argument.ensures.same ∙ c.loop-part.invariant.same;
     }
 
-pub expand_parts-returns-clause-each : goal.expand_parts-returns-clause-each
-expand_parts-returns-clause-each t c =
-    rw (c.new.ensures, ← after_items-end (lists_of c.loop-part.items.items c.loop-part.expanded.items))
-    (c.loop-part.invariant.goes_on (Ok []) (rw (drop_all c.loop-part.part-index c.args.parts.now (omega arith)) (none (Ok []) refl)))
+pub expand_parts-returns-clause-expands : goal.expand_parts-returns-clause-expands
+expand_parts-returns-clause-expands t c = record {
+  each = rw (c.new.ensures, ← after_items-end (lists_of c.loop-part.items.items c.loop-part.expanded.items))
+      (c.loop-part.invariant.goes_on (Ok []) (rw (drop_all c.loop-part.part-index c.args.parts.now (omega arith)) (none (Ok []) refl)));
+  least = λ n all. rw c.new.ensures (c.loop-part.invariant.short n all);
+}
 
-pub expand_parts-returns-clause-least : goal.expand_parts-returns-clause-least
-expand_parts-returns-clause-least t c = λ n all. rw c.new.ensures (c.loop-part.invariant.short n all)
-
-pub expand_arguments-returns-then-are_plain-clause-each : goal.expand_arguments-returns-then-are_plain-clause-each
-expand_arguments-returns-then-are_plain-clause-each t c =
-    rw (c.new.ensures, ← c.into_parts-tokens.ensures.is)
-    (plain_each c.args.levels c.args.definitions.now (open_names c.args.processor.now) _ _ (rw c.deref.ensures.value at (sym c.are_plain.ensures ∙ c.if-are_plain.true)))
-
-pub expand_arguments-returns-then-are_plain-clause-least : goal.expand_arguments-returns-then-are_plain-clause-least
-expand_arguments-returns-then-are_plain-clause-least t c =
-    rw (c.new.ensures, c.into_parts-tokens.ensures.is) (plain_are_short c.args.levels c.args.definitions.now c.args.arguments)
+pub expand_arguments-returns-then-are_plain-clause-expands : goal.expand_arguments-returns-then-are_plain-clause-expands
+expand_arguments-returns-then-are_plain-clause-expands t c = record {
+  each = rw (c.new.ensures, ← c.into_parts-tokens.ensures.is)
+      (plain_each c.args.levels c.args.definitions.now (open_names c.args.processor.now) _ _ (rw c.deref.ensures.value at (sym c.are_plain.ensures ∙ c.if-are_plain.true)));
+  least = rw (c.new.ensures, c.into_parts-tokens.ensures.is) (plain_are_short c.args.levels c.args.definitions.now c.args.arguments);
+}
 
 pub expand_call-returns : goal.expand_call-returns
 expand_call-returns t c =
@@ -280,9 +281,8 @@ expand_call-returns t c =
           (λ out. answers_at c.args.levels c.args.call.now.opened.definition (site_at c.args.call.now c.args.definitions.now (open_names p)) out))
           c.arguments_of.ensures.same
           (satisfies_more c.expand_arguments.result _ _ (answers_each c.args.levels c.args.definitions.now around c.args.call.now some fits)
-          (rw cut at c.expand_arguments.ensures.each));
-      least = IfOk-weaker c.expand_arguments.result _ _ (of_call c.args.levels c.args.definitions.now c.args.call.now)
-          (rw cut at c.expand_arguments.ensures.least);
+          (rw cut at c.expand_arguments.ensures.expands));
+      least = of_call c.args.levels c.args.definitions.now around c.args.call.now c.expand_arguments.result (rw cut at c.expand_arguments.ensures.expands);
       same = c.expand_arguments.ensures.same ∙ c.arguments_of.ensures.same;
       left = left;
     }
@@ -305,12 +305,9 @@ expand_list-finish_call-requires t c =
 pub expand_argument-expand_list-ended-requires : goal.expand_argument-expand_list-ended-requires
 expand_argument-expand_list-ended-requires t c = (omega arith, (record { idle = ap (λ (m : MacroProcessor). m.here) c.nest-around.ensures.is; argument = rw c.argument-lexer.ensures refl }, (c.requires.before, nested_known _ c.args.processor.now c.nest-around.new.self c.nest-around.ensures.is c.requires.known)))
 
-pub expand_argument-returns-clause-alone : goal.expand_argument-returns-clause-alone
-expand_argument-returns-clause-alone t c =
-    subst (λ (tokens : List Read). Satisfies c.expand_list-ended.result (λ end. Alone c.args.levels tokens (meaning_of c.args.definitions.now)
-    (open_names c.args.processor.now) (read_to_end (addition c.args.items.now.items c.expand_list-ended.new.items.items) end)))
-    (ap (λ (l : Listing). l.tokens) c.argument-lexer.ensures)
-    (rw (around_argument c.args.processor.now c.nest-around.new.self c.nest-around.ensures.is) at c.expand_list-ended.ensures.alone)
+pub expand_argument-returns-clause-expands : goal.expand_argument-returns-clause-expands
+expand_argument-returns-clause-expands t c =
+    rw (around_argument c.args.processor.now c.nest-around.new.self c.nest-around.ensures.is, c.argument-lexer.ensures) at c.expand_list-ended.ensures.expands
 
 pub expand_argument-returns-clause-same : goal.expand_argument-returns-clause-same
 expand_argument-returns-clause-same t c =

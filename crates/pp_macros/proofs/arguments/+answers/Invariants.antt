@@ -1,15 +1,16 @@
-use Rattle.std.proofs.Common.{◌≡◌, ◌+◌, ◌*◌, ◌≤◌, List, ◌++◌, length, drop, ℕ, All}
+use Rattle.std.proofs.Common.{◌≡◌, ◌+◌, ◌*◌, List, ◌++◌, length, drop}
 use Rattle.std.specs.Prelude.{Result}
 use Rattle.pp_model.specs.declared.read.Read.{Read}
 use Rattle.pp_model.specs.Calls.{Fault}
 use Rattle.pp_model.specs.Emitting.{Each, Alone}
 use Rattle.pp_model.proofs.CollectLemmas.{after_items}
 use Rattle.pp_macros.specs.inner.Defined.{meaning_of}
+use Rattle.pp_macros.specs.inner.Finishing.{AreShort}
 use Rattle.pp_macros.specs.inner.Frames.{names_of}
 use Rattle.pp_macros.specs.inner.Nesting.{listed_in, open_names, seen_by}
 use Rattle.pp_macros.specs.inner.Parts.{addition, lists_of, AreInOrder}
 use Rattle.pp_macros.specs.inner.Reading.{AllReadOrdinary}
-use Rattle.pp_macros.specs.inner.Left.{work_of, most_alone}
+use Rattle.pp_macros.specs.inner.Left.{work_of}
 use Rattle.pp_macros.specs.inner.Reader.{of_list}
 use Rattle.pp_macros.proofs.taking.ListLeadsLemmas.{Reached}
 use Rattle.pp_macros.proofs.taking.PartLemmas.{AreLeft}
@@ -53,8 +54,7 @@ invariant-expand_parts-loop-part l = record {
   goes_on : (out : Result (List (List Read)) Fault)
       → Each (Alone l.levels) (meaning_of l.definitions) (open_names l.fn.processor) (lists_of l.fn.tokens (drop l.part-index l.parts)) out
       → Each (Alone l.levels) (meaning_of l.definitions) (open_names l.fn.processor) (lists_of l.fn.tokens l.parts) (after_items (lists_of l.items.items l.expanded.items) out);
-  short : (n : ℕ) → All (λ (a : List Read). length a ≤ n) (lists_of l.fn.tokens l.parts)
-      → All (λ (a : List Read). length a ≤ most_alone l.levels l.definitions n) (lists_of l.items.items l.expanded.items);
+  short : AreShort l.levels l.definitions (lists_of l.fn.tokens l.parts) (lists_of l.items.items l.expanded.items);
   order : AreInOrder 0 l.expanded.items (length l.items.items);
   left : AreLeft l.fn.tokens l.tokens (drop l.part-index l.parts);
   holds : AllReadOrdinary l.items.items;
