@@ -1,6 +1,6 @@
 -- An expression that is taken from the words of a line, and what the line gives by it.
-use Rattle.std.proofs.Common.{◌≡◌, ◌∙◌, ℕ, zero, suc, ◌-◌, ◌≤◌, ℤ, pos, List, [], ◌∷◌, length, drop, map, slice_get, refl, ap, sym, subst, arith, length-append}
-use Rattle.std.proofs.Common.{Option, Some, None, Result, Ok, Err, MatchOption, MatchResult, Bool, true, false, Bor, is_none}
+use Rattle.std.proofs.Common.{◌≡◌, ◌∙◌, ℕ, zero, suc, ◌-◌, ◌≤◌, ℤ, pos, List, [], ◌∷◌, length, drop, slice_get, refl, ap, sym, subst, arith, length-append}
+use Rattle.std.proofs.Common.{Option, Some, None, Result, Ok, Err, MatchResult, true, false, Bor, is_none}
 use Rattle.std.proofs.lemmas.List.{length-map}
 use Rattle.std.specs.Option.{option_copied, option_map_or}
 use Rattle.pp_expression.specs.declared.symbol.Value.{Value}

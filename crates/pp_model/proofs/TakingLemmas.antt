@@ -2,7 +2,7 @@
 use Rattle.std.proofs.Common.{◌≡◌, ◌∙◌, [], ◌∷◌, ap, sym}
 use Rattle.pp_model.specs.Painting.{taken_among}
 use Rattle.pp_model.specs.Reading.{Reading, Expander, masked_names, argument_reading, line_reading}
-use Rattle.pp_model.specs.Taking.{Fetches, held, listed, read, Takes}
+use Rattle.pp_model.specs.Taking.{Fetches, held, listed, read}
 use Rattle.pp_model.specs.ExpansionLaws.{OneReads, OneTaking}
 use Rattle.pp_model.specs.declared.read.Taken.{Taken}
 use Rattle.pp_model.specs.declared.splice.Entry.TheVariants.{Plain}

@@ -6,7 +6,6 @@ pub mod SearchLemmas
 pub mod TurnLemmas
 pub mod EveryExpander
 pub mod CallLemmas
-pub mod ItemLemmas
 pub mod ListLemmas
 pub mod ArgumentLemmas
 pub mod LineLemmas

@@ -10,7 +10,7 @@ use Rattle.pp_model.specs.declared.read.Read.{Read}
 use Rattle.pp_model.specs.declared.splice.Entry.{Entry}
 use Rattle.pp_model.specs.declared.splice.Entry.TheVariants.{Plain, End}
 use Rattle.pp_model.proofs.OpenNamesLemmas.{not_in_front, rest_opens_nothing}
-use Rattle.pp_model.proofs.existence.Turns.{Here}
+use Rattle.pp_model.proofs.existence.Turns.{GoesOn, Here}
 
 -- ---- names that are not open
 
@@ -41,7 +41,10 @@ still_closed name old new hidden r h =
 
 -- ---- lists over one reader
 
-module _ {R : Type 0} {I : Reading R} {A : Answers} {Fine : R → Type 0} {left : R → ℕ} {G : Expander R → Type 0} (c : Here I A Fine left G) where
+module _ {R : Type 0} {I : Reading R} {A : Answers} {Fine : R → Type 0} {left : R → ℕ} (c : Here I A Fine left) where
+  abbrev G : Expander R → Type 0
+  G = GoesOn I A Fine
+
   -- these entries before the reader
   abbrev pub over : List Entry → Expander R
   over S = record { held = None; list = S; reader = c.reader; hidden = c.hidden }

@@ -1,7 +1,6 @@
--- A property that follows from a turn holds of every expander whose reader is fine. The proof goes by what is left of
--- the reader; by how many of the defined names are not open over the rest of the list, since a macro that opens there
--- leaves one fewer over its body; and by the length of the list, since a search that finds no call leaves a shorter
--- one.
+-- Every expander whose reader is fine goes on. The proof goes by what is left of the reader; by how many of the defined names
+-- are not open over the rest of the list, since a macro that opens there leaves one fewer over its body; and by the length of
+-- the list, since a search that finds no call leaves a shorter one.
 use Rattle.std.proofs.Common.{ℕ, zero, suc, ◌≤◌, ◌<◌, List, [], ◌∷◌, ◌++◌, map, refl, arith, Option, Some, None}
 use Rattle.std.specs.Prelude.{slice_get, unwrap_or}
 use Rattle.pp_lexer.specs.declared.token.Token.{Token}
@@ -16,12 +15,12 @@ use Rattle.pp_model.specs.declared.read.Taken.{Taken}
 use Rattle.pp_model.specs.declared.splice.Entry.{Entry}
 use Rattle.pp_model.specs.declared.splice.Entry.TheVariants.{Plain, End}
 use Rattle.pp_model.proofs.existence.RoomLemmas.{room, room_falls}
-use Rattle.pp_model.proofs.existence.Turns.{Premises, Here}
+use Rattle.pp_model.proofs.existence.Turns.{GoesOn, Premises, Here}
 use Rattle.pp_model.proofs.existence.CoveredLists.{over, Opens, Covered, covered_goes, here, size}
 use Rattle.pp_model.proofs.existence.TakingLemmas.{taking, took_read}
 use Rattle.pp_model.proofs.existence.TurnLemmas.{turned}
 
-module _ {R : Type 0} {I : Reading R} {A : Answers} {Fine : R → Type 0} {left : R → ℕ} {G : Expander R → Type 0} (c : Here I A Fine left G) where
+module _ {R : Type 0} {I : Reading R} {A : Answers} {Fine : R → Type 0} {left : R → ℕ} (c : Here I A Fine left) where
   abbrev names : List Name
   names = (c.premises.finite c.reader c.ready).names
 
@@ -81,28 +80,28 @@ module _ {R : Type 0} {I : Reading R} {A : Answers} {Fine : R → Type 0} {left 
   every_list : (S : List Entry) → Covered c S
   every_list [] = λ T p.
       let t = took_read c (over c T) refl p c.ready (omega arith) in
-      turned c (suc (size c t.after)) t.given (over c T) t.after t.takes t.fine t.front (λ k. omega arith)
+      turned c (suc (size c t.after)) t.given (over c T) t.after t.takes t.fine (λ k. (t.comes k).front) (λ k. omega arith)
   every_list (End mark ∷ S) = every_list S
   every_list (Plain read ∷ S) = covered_token (room_over S) (grows (room_over S)) S (omega arith) (every_list S) read
 
-  held_goes : (y : Taken) (S : List Entry) → G (record (over c S) { held = Some y })
+  held_goes : (y : Taken) (S : List Entry) → GoesOn I A Fine (record (over c S) { held = Some y })
   held_goes y S =
       let before : Expander R = record (over c S) { held = Some y } in
       turned c (suc (size c (over c S))) (taken_among (masked_names (over c S)) y) before (over c S)
       (taking I before (over c S) y (held y before (over c S) refl refl)) c.ready
       (λ t. here S (over c S) refl (grows (room_over S) S (omega arith) (every_list S)) (every_list S)) (λ t. omega arith)
 
-  pub goes_on : (held_before : Option Taken) (S : List Entry) → G (record (over c S) { held = held_before })
+  pub goes_on : (held_before : Option Taken) (S : List Entry) → GoesOn I A Fine (record (over c S) { held = held_before })
   goes_on None S = covered_goes c S S (every_list S) refl
   goes_on (Some y) S = held_goes y S
 
 -- ---- every reader
 
-module _ {R : Type 0} {I : Reading R} {A : Answers} {Fine : R → Type 0} {left : R → ℕ} {G : Expander R → Type 0} (p : Premises I A Fine left G) where
-  below : (n : ℕ) (e : Expander R) → Fine e.reader → left e.reader < n → G e
+module _ {R : Type 0} {I : Reading R} {A : Answers} {Fine : R → Type 0} {left : R → ℕ} (p : Premises I A Fine left) where
+  below : (n : ℕ) (e : Expander R) → Fine e.reader → left e.reader < n → GoesOn I A Fine e
   below zero e fine less = absurd (omega (arith, less))
   below (suc n) e fine less =
-      let c : Here I A Fine left G = record {
+      let c : Here I A Fine left = record {
         premises = p;
         reader = e.reader;
         hidden = e.hidden;
@@ -111,6 +110,6 @@ module _ {R : Type 0} {I : Reading R} {A : Answers} {Fine : R → Type 0} {left 
       } in
       goes_on c e.held e.list
 
-  -- What follows from a turn holds of every expander.
-  pub every : (e : Expander R) → Fine e.reader → G e
+  -- Every expander goes on.
+  pub every : (e : Expander R) → Fine e.reader → GoesOn I A Fine e
   every e fine = below (suc (left e.reader)) e fine (omega arith)

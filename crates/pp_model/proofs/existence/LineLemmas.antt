@@ -7,7 +7,7 @@ use Rattle.pp_model.specs.Names.{Name, is_same_name, defined_name}
 use Rattle.pp_model.specs.Reading.{Expander, Listed, line_reading}
 use Rattle.pp_model.specs.Taking.{Takes}
 use Rattle.pp_model.specs.Calls.{Fault, Answers, is_left_paren, is_right_paren}
-use Rattle.pp_model.specs.Emitting.{with_macro, Emits, itself, object, name_alone, call_refused, call}
+use Rattle.pp_model.specs.Emitting.{Emits}
 use Rattle.pp_model.specs.LineWords.{WordReading, operator, word, fault, reading, unwanted_part, name_in, has_value, is_defined, closed_by, InParentheses, Operand, Words, word_before, LineWords, ended, failed, refused, plain, answered, faulty}
 use Rattle.pp_model.specs.ExistenceLaws.{AnAnswer, AnOperand, ALine}
 use Rattle.pp_model.specs.declared.read.Read.{Read}
@@ -16,20 +16,16 @@ use Rattle.pp_model.specs.declared.read.Taken.TheVariants as taken
 use Rattle.pp_model.specs.declared.word.LineKind.{LineKind}
 use Rattle.pp_model.specs.declared.word.Word.TheVariants.{Plain, Defined}
 use Rattle.pp_model.proofs.OperandCases.{no_name, named, name, in_parentheses, neither}
-use Rattle.pp_model.proofs.existence.Turns.{is_token, Leads, Turn}
-use Rattle.pp_model.proofs.existence.Turns as turn
-use Rattle.pp_model.proofs.existence.EveryExpander.{every}
-use Rattle.pp_model.proofs.existence.ListLemmas.{HasFinite, listed_premises}
+use Rattle.pp_model.proofs.existence.Turns.{is_token, GoesOn, goes_on}
+use Rattle.pp_model.proofs.existence.ListLemmas.{HasFinite, every_listed}
 
 value_is_token : (test : TokenValue → Bool) (o : Taken) → has_value test o ≡ true → is_token o ≡ true
 value_is_token test (taken.Token read) h = refl
-value_is_token test (taken.Fault f) h = h
-value_is_token test taken.End h = h
+value_is_token test _ h = h
 
 name_is_token : (o : Taken) (n : Name) → name_in o ≡ Some n → is_token o ≡ true
 name_is_token (taken.Token read) n h = refl
-name_is_token (taken.Fault f) n h = cc
-name_is_token taken.End n h = cc
+name_is_token _ n h = cc
 
 module _ (kind : LineKind) (directive : Location) (A : Answers) where
   -- ---- what is known where a line is read
@@ -159,65 +155,18 @@ module _ (kind : LineKind) (directive : Location) (A : Answers) where
   first_word e g (taken.Fault f) i goes = let words : Words = record { words = []; ending = Some f } in (words, failed f e g words i refl)
   first_word e g taken.End i goes = let words : Words = record { words = []; ending = None } in (words, ended e g words i refl)
 
-  -- ---- by a turn
+  -- ---- of every line
 
-  words_through : (e f : Expander Listed) → ((o : Taken) (h : Expander Listed) → Emits line_reading A f o h → Emits line_reading A e o h)
-      → (words : Words) → LineWords kind directive A f words → LineWords kind directive A e words
-  words_through e f leads words (ended f1 h ws1 i p) = ended e h words (leads taken.End h i) p
-  words_through e f leads words (failed d f1 h ws1 i p) = failed d e h words (leads (taken.Fault d) h i) p
-  words_through e f leads words (refused read d f1 h ws1 i q p) = refused read d e h words (leads (taken.Token read) h i) q p
-  words_through e f leads words (plain read w f1 h rest ws1 i q r p) = plain read w e h rest words (leads (taken.Token read) h i) q r p
-  words_through e f leads words (answered read b f1 g h rest ws1 i q o r p) = answered read b e g h rest words (leads (taken.Token read) g i) q o r p
-  words_through e f leads words (faulty read d f1 g h ws1 i q o p) = faulty read d e g h words (leads (taken.Token read) g i) q o p
-
-  worded_through : (e f : Expander Listed) → ((o : Taken) (h : Expander Listed) → Emits line_reading A f o h → Emits line_reading A e o h)
-      → Worded f → Worded e
-  worded_through e f leads w = (w.0, words_through e f leads w.0 w.1)
-
-  refused_word : (e g : Expander Listed) (d : Fault) → Emits line_reading A e (taken.Fault d) g → Worded e
-  refused_word e g d i = let words : Words = record { words = []; ending = Some d } in (words, failed d e g words i refl)
-
-  words_by : (e f : Expander Listed) (x : Taken) → Takes line_reading e x f → (is_token x ≡ true → Lined f) → Leads line_reading A HasFinite Lined x f
-      → Worded e
-  words_by e f x t goes (turn.stays p) = first_word e f x (itself x e f t p) goes
-  words_by e f x t goes (turn.object m p q a) =
-      worded_through e (with_macro m m.token.location.line [] f) (λ o h i. object x o m e f h t p q i) a.worded
-  words_by e f x t goes (turn.name_alone m y g p q c a) =
-      let after : Expander Listed = record g { held = Some y } in
-      first_word e after x (name_alone x y x m e f g after t p q c refl refl) (λ k. a)
-  words_by e f x t goes (turn.call_refused m d g p q c fine) =
-      refused_word e g d (call_refused x (taken.Fault d) d m e f g t p q c refl)
-  words_by e f x t goes (turn.call m arguments line g p q c a) =
-      worded_through e (with_macro m line arguments g) (λ o h i. call x o arguments line m e f g h t p q c i) a.worded
-
-  closing_through : (e f : Expander Listed) → ((o : Taken) (h : Expander Listed) → Emits line_reading A f o h → Emits line_reading A e o h)
-      → Closing f → Closing e
-  closing_through e f leads c = record { given = c.given; after = c.after; emits = leads c.given c.after c.emits; goes = c.goes }
-
-  closing_by : (e f : Expander Listed) (x : Taken) → Takes line_reading e x f → (is_token x ≡ true → Lined f) → Leads line_reading A HasFinite Lined x f
-      → Closing e
-  closing_by e f x t goes (turn.stays p) =
-      record { given = x; after = f; emits = itself x e f t p; goes = λ k. (goes (value_is_token is_right_paren x k)).worded }
-  closing_by e f x t goes (turn.object m p q a) =
-      closing_through e (with_macro m m.token.location.line [] f) (λ o h i. object x o m e f h t p q i) a.closing
-  closing_by e f x t goes (turn.name_alone m y g p q c a) =
-      let after : Expander Listed = record g { held = Some y } in
-      record { given = x; after = after; emits = name_alone x y x m e f g after t p q c refl refl; goes = λ k. a.worded }
-  closing_by e f x t goes (turn.call_refused m d g p q c fine) =
-      record { given = taken.Fault d; after = g; emits = call_refused x (taken.Fault d) d m e f g t p q c refl; goes = λ k. cc }
-  closing_by e f x t goes (turn.call m arguments line g p q c a) =
-      closing_through e (with_macro m line arguments g) (λ o h i. call x o arguments line m e f g h t p q c i) a.closing
-
-  lined : (e : Expander Listed) → Turn line_reading A HasFinite Lined e → Lined e
-  lined e t = record {
-    worded = words_by e t.after t.given t.takes t.goes t.leads;
-    asking = record { given = t.given; after = t.after; takes = t.takes; goes = λ k. (t.goes k).worded; names = λ k. (t.goes k).naming };
-    naming = record { given = t.given; after = t.after; takes = t.takes; goes = λ k. (t.goes k).closing };
-    closing = closing_by e t.after t.given t.takes t.goes t.leads;
+  lined : (e : Expander Listed) → GoesOn line_reading A HasFinite e → Lined e
+  lined e (goes_on x o e1 f h takes fine_f more emits fine_h next) = record {
+    worded = first_word e h o emits (λ k. lined h (next k));
+    asking = record { given = x; after = f; takes = takes; goes = λ k. (lined f (more k)).worded; names = λ k. (lined f (more k)).naming };
+    naming = record { given = x; after = f; takes = takes; goes = λ k. (lined f (more k)).closing };
+    closing = record { given = o; after = h; emits = emits; goes = λ k. (lined h (next (value_is_token is_right_paren o k))).worded };
   }
 
   every_line : AnAnswer A → (e : Expander Listed) → HasFinite e.reader → Lined e
-  every_line calls = every (listed_premises (λ name. is_same_name name defined_name) A Lined calls lined)
+  every_line calls e finite = lined e (every_listed (λ name. is_same_name name defined_name) A calls e finite)
 
 -- The operand of a `defined` has an answer, or a fault.
 pub an_operand : (A : Answers) → AnAnswer A → AnOperand A

@@ -20,21 +20,15 @@ use Rattle.pp_model.specs.declared.outcome.Outcome.{Outcome}
 use Rattle.pp_model.specs.declared.outcome.Outcome.TheVariants as outcome
 use Rattle.pp_model.proofs.LevelLemmas.{one_answer, one_item_at}
 use Rattle.pp_model.proofs.ReadsLemmas.{source_reads_one}
-use Rattle.pp_model.proofs.existence.ItemLemmas.{Item, fine_item}
+use Rattle.pp_model.proofs.existence.Turns.{next_item}
 use Rattle.pp_model.proofs.existence.ArgumentLemmas.{an_answer}
 use Rattle.pp_model.proofs.existence.DefinitionLemmas.{with_one}
-use Rattle.pp_model.proofs.existence.MoveLemmas.{left}
-use Rattle.pp_model.proofs.existence.SourceLemmas.{HasFinite, source_gives}
+use Rattle.pp_model.proofs.existence.SourceLemmas.{HasFinite, every_source}
 
 module _ (A : Answers) (answered : AnAnswer A) where
-  -- ---- the next item
-
-  pub next_item : (e : Expander SourceReader) → HasFinite e.reader → Item (source_reading A) A HasFinite e
-  next_item = fine_item (source_reading A) A HasFinite left (source_gives A answered) (λ r finite. finite) answered
-
   -- A source has a next item.
   pub source_item : AnItem (source_reading A) A
-  source_item e finite = let i = next_item e finite in (i.item, i.after, i.emits)
+  source_item e finite = let i = next_item e (every_source A answered e finite) in (i.item, i.after, i.emits)
 
   -- ---- replies
 
@@ -67,7 +61,7 @@ module _ (A : Answers) (answered : AnAnswer A) where
       (λ tokens. replies_to calls (with_added (chars name) tokens e) (with_one e.reader.definitions (chars name) finite (object_like tokens)))
       (replies_to calls e finite)
   replies_to (next ∷ calls) e finite =
-      let i = next_item e finite in
+      let i = next_item e (every_source A answered e finite) in
       gives_next e i.after calls (item_of i.item) (record { taken = i.item; emits = i.emits; is = refl }) (replies_to calls i.after i.fine)
 
 -- ---- states
@@ -82,7 +76,7 @@ module _ (level : ℕ) where
   leads_to_finite e f (adding name tokens e1 f1 more) finite =
       leads_to_finite (with_added name tokens e) f more (with_one e.reader.definitions name finite (object_like tokens))
   leads_to_finite e f (giving x e1 g f1 item more) finite =
-      let i = next_item (answers_at level) (an_answer level) e finite in
+      let i = next_item e (every_source (answers_at level) (an_answer level) e finite) in
       let one = one_item_at (source_reading (answers_at level)) (source_reads_one (answers_at level) (one_answer level)) level in
       let same : g ≡ i.after = (one x i.item e g i.after item i.emits).1 in
       leads_to_finite g f more (rw same i.fine)

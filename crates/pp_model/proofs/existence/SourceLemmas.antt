@@ -6,6 +6,7 @@ use Rattle.pp_lexer.specs.declared.token.PreprocessorError.TheVariants.{DefineRe
 use Rattle.pp_lexer.specs.declared.token.Token.{Token}
 use Rattle.pp_model.specs.Definitions.{Definition, IsSameDefinition}
 use Rattle.pp_model.specs.Painting.{taken_of}
+use Rattle.pp_model.specs.Reading.{Expander}
 use Rattle.pp_model.specs.Calls.{Fault, Answers}
 use Rattle.pp_model.specs.LineValues.{IsCondition, IsLineNumber}
 use Rattle.pp_model.specs.SourceReader.{SourceReader}
@@ -18,7 +19,8 @@ use Rattle.pp_model.specs.declared.outcome.Outcome.{Outcome}
 use Rattle.pp_model.specs.declared.outcome.Outcome.TheVariants as outcome
 use Rattle.pp_model.specs.declared.step.Step.{Step}
 use Rattle.pp_model.specs.declared.step.Step.TheVariants as step
-use Rattle.pp_model.proofs.existence.Turns.{is_token, Given}
+use Rattle.pp_model.proofs.existence.Turns.{is_token, Given, GoesOn}
+use Rattle.pp_model.proofs.existence.EveryExpander.{every}
 use Rattle.pp_model.proofs.existence.DefinitionLemmas.{with_one, same_definition}
 use Rattle.pp_model.proofs.existence.LineValueLemmas.{a_condition, a_line_number}
 use Rattle.pp_model.proofs.existence.MoveLemmas.{stops, moves, left, act_less_left}
@@ -34,8 +36,7 @@ HasFinite r = IsFinite r.definitions
 
 token_given : (o : Outcome) → is_token (taken_of o) ≡ true → is_given_token o ≡ true
 token_given (outcome.Token token) h = refl
-token_given (outcome.Fault fault) h = h
-token_given outcome.End h = h
+token_given _ h = h
 
 module _ (A : Answers) (answered : AnAnswer A) where
   -- ---- one token or line
@@ -137,8 +138,12 @@ module _ (A : Answers) (answered : AnAnswer A) where
           }
 
   -- Reading a source gives something, and after a token less of it is left.
-  pub source_gives : (r : SourceReader) → HasFinite r → Given (source_reading A) HasFinite left r
+  source_gives : (r : SourceReader) → HasFinite r → Given (source_reading A) HasFinite left r
   source_gives r f = read_on (suc (left r)) r f (omega arith)
+
+  -- So every expander over a source goes on.
+  pub every_source : (e : Expander SourceReader) → HasFinite e.reader → GoesOn (source_reading A) A HasFinite e
+  every_source = every (record { gives = source_gives; finite = λ r finite. finite; answered = answered })
 
   pub a_step : AStep A
   a_step r f = let s = stepped r f in (s.outcome, s.after, s.steps)

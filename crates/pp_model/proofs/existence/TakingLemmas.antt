@@ -1,5 +1,5 @@
 -- Something is taken from an expander, and what is left is shorter.
-use Rattle.std.proofs.Common.{◌≡◌, ℕ, ◌≤◌, ◌<◌, Bool, true, false, List, [], ◌∷◌, length, refl, ap, arith, None}
+use Rattle.std.proofs.Common.{◌≡◌, ℕ, ◌≤◌, ◌<◌, true, List, [], ◌∷◌, length, refl, ap, arith, None}
 use Rattle.pp_model.specs.SpliceList.{after_marks}
 use Rattle.pp_model.specs.Painting.{taken_among}
 use Rattle.pp_model.specs.Reading.{Reading, Expander, masked_names}
@@ -7,22 +7,16 @@ use Rattle.pp_model.specs.Taking.{Takes, Fetches, listed, read, shown_token, sho
 use Rattle.pp_model.specs.Calls.{Answers}
 use Rattle.pp_model.specs.declared.read.Read.{Read}
 use Rattle.pp_model.specs.declared.read.Taken.{Taken}
+use Rattle.pp_model.specs.declared.splice.EndMark.{EndMark}
 use Rattle.pp_model.specs.declared.splice.Entry.{Entry}
 use Rattle.pp_model.specs.declared.splice.Entry.TheVariants.{Plain, End}
 use Rattle.pp_model.proofs.existence.Turns.{is_token, Here, token_painted, token_shown}
 use Rattle.pp_model.proofs.existence.CoveredLists.{over, Covered, covered_after_marks, Front, moved, here, size}
 
-abbrev is_mark : Entry → Bool
-is_mark (End mark) = true
-is_mark (Plain token) = false
-
-no_mark_first : (entries rest : List Entry) (e : Entry) → is_mark e ≡ true → after_marks entries ≡ e ∷ rest → ⊥
-no_mark_first [] rest e m h = cc
-no_mark_first (End mark ∷ entries) rest e m h = no_mark_first entries rest e m h
-no_mark_first (Plain token ∷ entries) rest e m h =
-    let same : Plain token ≡ e = cc in
-    let bad : false ≡ true = rw (← same) at m in
-    cc
+no_mark_first : (entries rest : List Entry) (mark : EndMark) → after_marks entries ≡ End mark ∷ rest → ⊥
+no_mark_first [] rest mark h = cc
+no_mark_first (End first ∷ entries) rest mark h = no_mark_first entries rest mark h
+no_mark_first (Plain token ∷ entries) rest mark h = cc
 
 marks_shorten : (entries : List Entry) → length (after_marks entries) ≤ length entries
 marks_shorten [] = omega arith
@@ -33,16 +27,20 @@ marks_shorten (Plain token ∷ entries) = omega arith
 pub taking : {R : Type 0} (I : Reading R) (e f : Expander R) (first : Taken) → Fetches I e first f → Takes I e (taken_among (masked_names f) first) f
 taking I e f first fetches = record { first = first; fetches = fetches; paints = refl }
 
-module _ {R : Type 0} {I : Reading R} {A : Answers} {Fine : R → Type 0} {left : R → ℕ} {G : Expander R → Type 0} (c : Here I A Fine left G) where
-  -- what is taken; after a token less is left in all, and no more of the reader
+module _ {R : Type 0} {I : Reading R} {A : Answers} {Fine : R → Type 0} {left : R → ℕ} (c : Here I A Fine left) where
+  -- how far taking and searching lead: less is left in all, and no more of the reader
+  pub record Comes (e f : Expander R) : Type 0 where
+    pub front : Front c f
+    pub less : size c f < size c e
+    pub kept : left f.reader ≤ left e.reader
+
+  -- what is taken
   pub record Took (e : Expander R) : Type 0 where
     pub given : Taken
     pub after : Expander R
     pub takes : Takes I e given after
     pub fine : Fine after.reader
-    pub front : is_token given ≡ true → Front c after
-    pub less : is_token given ≡ true → size c after < size c e
-    pub kept : is_token given ≡ true → left after.reader ≤ left e.reader
+    pub comes : is_token given ≡ true → Comes e after
 
   pub took_read : (e : Expander R) → e.held ≡ None → after_marks e.list ≡ [] → Fine e.reader → left e.reader ≤ left c.reader → Took e
   took_read e none empty f le =
@@ -56,9 +54,11 @@ module _ {R : Type 0} {I : Reading R} {A : Answers} {Fine : R → Type 0} {left 
         after = after;
         takes = taking I e after first (read g.given first g.after e after none empty g.reads refl refl);
         fine = g.fine;
-        front = λ t. moved after none g.fine (omega (arith, fewer t, le));
-        less = λ t. omega (arith, fewer t);
-        kept = λ t. omega (arith, fewer t);
+        comes = λ t. record {
+          front = moved after none g.fine (omega (arith, fewer t, le));
+          less = omega (arith, fewer t);
+          kept = omega (arith, fewer t);
+        };
       }
 
   took_listed : (e : Expander R) (token : Read) (rest : List Entry) → e.held ≡ None → after_marks e.list ≡ Plain token ∷ rest → Fine e.reader
@@ -73,9 +73,7 @@ module _ {R : Type 0} {I : Reading R} {A : Answers} {Fine : R → Type 0} {left 
         after = after;
         takes = taking I e after first (listed first token rest e after none p refl refl);
         fine = f;
-        front = λ t. front;
-        less = λ t. omega (arith, shorter);
-        kept = λ t. omega arith;
+        comes = λ t. record { front = front; less = omega (arith, shorter); kept = omega arith };
       }
 
   took_here : (S : List Entry) → Covered c S → Took (over c S)
@@ -84,7 +82,7 @@ module _ {R : Type 0} {I : Reading R} {A : Answers} {Fine : R → Type 0} {left 
       go : (L : List Entry) → after_marks S ≡ L → Covered c L → Took (over c S)
       go [] p b = took_read (over c S) refl p c.ready (omega arith)
       go (Plain token ∷ rest) p b = took_listed (over c S) token rest refl p c.ready (here rest (over c rest) refl b.1 b.2)
-      go (End mark ∷ rest) p b = absurd (no_mark_first S rest (End mark) refl p)
+      go (End mark ∷ rest) p b = absurd (no_mark_first S rest mark p)
 
   took_moved : (e : Expander R) → e.held ≡ None → Fine e.reader → left e.reader < left c.reader → Took e
   took_moved e none f less = go (after_marks e.list) refl
@@ -92,7 +90,7 @@ module _ {R : Type 0} {I : Reading R} {A : Answers} {Fine : R → Type 0} {left 
       go : (L : List Entry) → after_marks e.list ≡ L → Took e
       go [] p = took_read e none p f (omega (arith, less))
       go (Plain token ∷ rest) p = took_listed e token rest none p f (moved (record e { list = rest }) none f less)
-      go (End mark ∷ rest) p = absurd (no_mark_first e.list rest (End mark) refl p)
+      go (End mark ∷ rest) p = absurd (no_mark_first e.list rest mark p)
 
   pub took : (e : Expander R) → Front c e → Took e
   took e (moved e1 none f less) = took_moved e none f less

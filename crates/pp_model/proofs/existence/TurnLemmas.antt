@@ -1,22 +1,33 @@
--- One turn of an expander: what is taken opens no macro, or it leads to where the property is known.
+-- One turn of an expander: what is taken opens no macro, or it leads to an expander that goes on.
 use Rattle.std.proofs.Common.{◌≡◌, ℕ, zero, suc, ◌≤◌, ◌<◌, Bool, true, false, List, [], refl, arith, Option, Some, None}
 use Rattle.pp_model.specs.Names.{is_in}
 use Rattle.pp_model.specs.Painting.{taken_among}
 use Rattle.pp_model.specs.Reading.{Reading, Expander, masked_names, Opening, opening}
 use Rattle.pp_model.specs.Taking.{Takes, held}
 use Rattle.pp_model.specs.Calls.{Answers, Called, no_call, refused, fits, Calls}
-use Rattle.pp_model.specs.Emitting.{with_macro}
+use Rattle.pp_model.specs.Emitting.{with_macro, Emits, itself, object, name_alone, call_refused, call}
 use Rattle.pp_model.specs.ApartMarks.{IsRest}
 use Rattle.pp_model.specs.declared.read.Read.{Read}
 use Rattle.pp_model.specs.declared.read.Taken.{Taken}
+use Rattle.pp_model.specs.declared.read.Taken.TheVariants as taken
 use Rattle.pp_model.proofs.OpenNamesLemmas.{opening_known, opening_not_masked}
 use Rattle.pp_model.proofs.ApartMarksLemmas.{call_leaves_rest}
-use Rattle.pp_model.proofs.existence.Turns.{is_token, Leads, stays, object, name_alone, call_refused, call, Here, token_painted}
+use Rattle.pp_model.proofs.existence.Turns.{is_token, Item, GoesOn, goes_on, next_item, Here, token_painted}
 use Rattle.pp_model.proofs.existence.CoveredLists.{still_closed, Front, moved, here, front_goes, front_unheld, size}
-use Rattle.pp_model.proofs.existence.TakingLemmas.{taking}
-use Rattle.pp_model.proofs.existence.SearchLemmas.{Comes, Found, searched}
+use Rattle.pp_model.proofs.existence.TakingLemmas.{taking, Comes}
+use Rattle.pp_model.proofs.existence.SearchLemmas.{Found, searched}
 
-module _ {R : Type 0} {I : Reading R} {A : Answers} {Fine : R → Type 0} {left : R → ℕ} {G : Expander R → Type 0} (c : Here I A Fine left G) where
+module _ {R : Type 0} {I : Reading R} {A : Answers} {Fine : R → Type 0} {left : R → ℕ} (c : Here I A Fine left) where
+  abbrev G : Expander R → Type 0
+  G = GoesOn I A Fine
+
+  abbrev Next : Expander R → Type 0
+  Next = Item I A Fine G
+
+  -- what an expander gives, one that leads to it gives too
+  through : (e f : Expander R) → ((o : Taken) (h : Expander R) → Emits I A f o h → Emits I A e o h) → G f → Next e
+  through e f leads goes = let i = next_item f goes in record { item = i.item; after = i.after; emits = leads i.item i.after i.emits; fine = i.fine; goes = i.goes }
+
   -- a macro opens right after its name, or after its call
   opened_goes : (e f g : Expander R) (x : Taken) (m : Opening) (line : ℕ) (arguments : List (List Read)) → Takes I e x f → Front c f
       → opening I f x ≡ Some m → IsRest f.list g.list → left g.reader ≤ left f.reader → Front c g → G (with_macro m line arguments g)
@@ -31,7 +42,7 @@ module _ {R : Type 0} {I : Reading R} {A : Answers} {Fine : R → Type 0} {left 
       let left_over : IsRest S T = rw (q, u) at rest in
       rw u (v m line arguments defined (still_closed m.name S T c.hidden left_over free_here))
 
-  -- the property is known after a taking that so many steps of searching may follow
+  -- the expander goes on after a taking that so many steps of searching may follow
   abbrev pub Turned : ℕ → Type 0
   Turned fuel = (x : Taken) (e f : Expander R) → Takes I e x f → Fine f.reader → (is_token x ≡ true → Front c f)
       → (is_token x ≡ true → size c f < fuel) → G e
@@ -49,50 +60,55 @@ module _ {R : Type 0} {I : Reading R} {A : Answers} {Fine : R → Type 0} {left 
       (λ k. front_unheld c g (comes (token_painted (masked_names after) y k)).front)
       (λ k. omega (arith, (comes (token_painted (masked_names after) y k)).less, room))
 
-  leads_called : (fuel : ℕ) → Turned fuel → (x : Taken) (e f : Expander R) → Takes I e x f → size c f < suc fuel → (m : Opening)
+  next_called : (fuel : ℕ) → Turned fuel → (x : Taken) (e f : Expander R) → Takes I e x f → size c f < suc fuel → (m : Opening)
       → opening I f x ≡ Some m → m.definition.function_like ≡ true → Front c f → (called : Called) (g : Expander R)
-      → Calls I A m.definition f called g → Found c f called g → Leads I A Fine G x f
-  leads_called fuel again x e f t room m p q front (no_call y) g calls found =
-      name_alone m y g p q calls (held_goes fuel again y f g room found.0 found.1)
-  leads_called fuel again x e f t room m p q front (refused fault) g calls found = call_refused m fault g p q calls found
-  leads_called fuel again x e f t room m p q front (fits arguments line) g calls found =
-      call m arguments line g p q calls
+      → Calls I A m.definition f called g → Found I Fine (Comes c) f called g → Next e
+  next_called fuel again x e f t room m p q front (no_call y) g calls found = record {
+    item = x;
+    after = record g { held = Some y };
+    emits = name_alone x y x m e f g (record g { held = Some y }) t p q calls refl refl;
+    fine = found.0;
+    goes = λ k. held_goes fuel again y f g room found.0 found.1;
+  }
+  next_called fuel again x e f t room m p q front (refused fault) g calls found = record {
+    item = taken.Fault fault;
+    after = g;
+    emits = call_refused x (taken.Fault fault) fault m e f g t p q calls refl;
+    fine = found;
+    goes = λ k. cc;
+  }
+  next_called fuel again x e f t room m p q front (fits arguments line) g calls found =
+      through e (with_macro m line arguments g) (λ o h i. call x o arguments line m e f g h t p q calls i)
       (opened_goes e f g x m line arguments t front p (call_leaves_rest I A m.definition (fits arguments line) f g calls) found.kept found.front)
 
-  leads_opening : (fuel : ℕ) → Turned fuel → (x : Taken) (e f : Expander R) → Takes I e x f → size c f < suc fuel → (m : Opening)
-      → opening I f x ≡ Some m → Front c f → (b : Bool) → m.definition.function_like ≡ b → Leads I A Fine G x f
-  leads_opening fuel again x e f t room m p front false q =
-      object m p q (opened_goes e f f x m m.token.location.line [] t front p ([], refl) (omega arith) front)
-  leads_opening fuel again x e f t room m p front true q =
+  next_opened : (fuel : ℕ) → Turned fuel → (x : Taken) (e f : Expander R) → Takes I e x f → size c f < suc fuel → (m : Opening)
+      → opening I f x ≡ Some m → Front c f → (b : Bool) → m.definition.function_like ≡ b → Next e
+  next_opened fuel again x e f t room m p front false q =
+      through e (with_macro m m.token.location.line [] f) (λ o h i. object x o m e f h t p q i)
+      (opened_goes e f f x m m.token.location.line [] t front p ([], refl) (omega arith) front)
+  next_opened fuel again x e f t room m p front true q =
       let s = searched c m.definition f front in
-      leads_called fuel again x e f t room m p q front s.called s.after s.calls s.found
+      next_called fuel again x e f t room m p q front s.called s.after s.calls s.found
 
-  leads_from : (fuel : ℕ) → Turned fuel → (x : Taken) (e f : Expander R) → Takes I e x f → (is_token x ≡ true → Front c f)
-      → (is_token x ≡ true → size c f < suc fuel) → (o : Option Opening) → opening I f x ≡ o → Leads I A Fine G x f
-  leads_from fuel again x e f t front room None p = stays p
-  leads_from fuel again x e f t front room (Some m) p =
-      leads_opening fuel again x e f t (room (token_opens f x m p)) m p (front (token_opens f x m p)) m.definition.function_like refl
+  -- what is taken is the next item, or opens a macro
+  turned_by : (x : Taken) (e f : Expander R) → Takes I e x f → Fine f.reader → (is_token x ≡ true → Front c f)
+      → ((m : Opening) → opening I f x ≡ Some m → Next e) → G e
+  turned_by x e f t fine front opens = goes_on x next.item e f next.after t fine goes next.emits next.fine next.goes
+    where
+      goes : is_token x ≡ true → G f
+      goes k = front_goes c f (front k)
 
-  leads_nowhere : (x : Taken) (f : Expander R) → (is_token x ≡ true → size c f < zero) → (o : Option Opening) → opening I f x ≡ o
-      → Leads I A Fine G x f
-  leads_nowhere x f room None p = stays p
-  leads_nowhere x f room (Some m) p = absurd (omega (arith, room (token_opens f x m p)))
+      by : (o : Option Opening) → opening I f x ≡ o → Next e
+      by None q = record { item = x; after = f; emits = itself x e f t q; fine = fine; goes = goes }
+      by (Some m) q = opens m q
 
-  -- The property holds of an expander from which something is taken.
+      next : Next e
+      next = by (opening I f x) refl
+
+  -- An expander from which something is taken goes on.
   pub turned : (fuel : ℕ) → Turned fuel
-  turned zero = λ x e f takes fine front room. c.premises.shown e (record {
-    given = x;
-    after = f;
-    takes = takes;
-    fine = fine;
-    goes = λ t. front_goes c f (front t);
-    leads = leads_nowhere x f room (opening I f x) refl;
-  })
-  turned (suc fuel) = λ x e f takes fine front room. c.premises.shown e (record {
-    given = x;
-    after = f;
-    takes = takes;
-    fine = fine;
-    goes = λ t. front_goes c f (front t);
-    leads = leads_from fuel (turned fuel) x e f takes front room (opening I f x) refl;
-  })
+  turned zero = λ x e f t fine front room.
+      turned_by x e f t fine front (λ m p. absurd (omega (arith, room (token_opens f x m p))))
+  turned (suc fuel) = λ x e f t fine front room.
+      turned_by x e f t fine front (λ m p. let is = token_opens f x m p in
+      next_opened fuel (turned fuel) x e f t (room is) m p (front is) m.definition.function_like refl)
