@@ -11,7 +11,7 @@ use Rattle.pp_model.specs.LineWords.{unwanted_part, name_in, is_defined, closed_
 use Rattle.pp_model.specs.ExpansionLaws.{OneAnswer, OneOperand}
 use Rattle.pp_model.specs.declared.read.Taken.{Taken}
 use Rattle.pp_model.specs.declared.word.LineKind.{LineKind}
-use Rattle.pp_model.proofs.TakingLemmas.{line_reads_one, one_taking}
+use Rattle.pp_model.proofs.TakingLemmas.{one_pair, line_reads_one, one_taking}
 use Rattle.pp_model.proofs.EmittingLemmas.{one_item}
 
 module _ (A : Answers) (single : OneAnswer A) (kind : LineKind) (directive : Location) where
@@ -29,7 +29,7 @@ module _ (A : Answers) (single : OneAnswer A) (kind : LineKind) (directive : Loc
       (λ n. (x : Taken) × Emits line_reading A f x g × (r ≡ closed_by kind directive (is_defined g n) x))
 
   one_inside : (m : Option Name) (o : Taken) (x y : Result Bool Fault) (e f g : Expander Listed) → Inside m o e x f → Inside m o e y g → (x ≡ y) × (f ≡ g)
-  one_inside None o x y e f g a b = (a.0 ∙ sym b.0, a.1 ∙ sym b.1)
+  one_inside None o x y e f g a b = one_pair a b
   one_inside (Some n) o x y e f g a b =
       let item = one_item line_reading line_reads_one A single a.0 b.0 e f g a.1 b.1 in
       (a.2 ∙ rw (item.0, item.1) (sym b.2), item.1)
@@ -48,8 +48,8 @@ module _ (A : Answers) (single : OneAnswer A) (kind : LineKind) (directive : Loc
 
   one_whole : (p : Option Location) (m : Option Name) (o : Taken) (x y : Result Bool Fault) (e f g : Expander Listed) → Whole p m o e x f
       → Whole p m o e y g → (x ≡ y) × (f ≡ g)
-  one_whole None None o x y e f g a b = (a.0 ∙ sym b.0, a.1 ∙ sym b.1)
-  one_whole None (Some n) o x y e f g a b = (a.0 ∙ sym b.0, a.1 ∙ sym b.1)
+  one_whole None None o x y e f g a b = one_pair a b
+  one_whole None (Some n) o x y e f g a b = one_pair a b
   one_whole (Some paren) m o x y e f g a b = one_in_parentheses x y e f g a b
 
   one_of_kind : (x y : Result Bool Fault) (e f g : Expander Listed) → Operand kind directive A e x f → Operand kind directive A e y g → (x ≡ y) × (f ≡ g)

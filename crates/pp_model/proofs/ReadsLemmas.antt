@@ -15,11 +15,8 @@ use Rattle.pp_model.specs.declared.outcome.Outcome.{Outcome}
 use Rattle.pp_model.specs.declared.outcome.Outcome.TheVariants as outcome
 use Rattle.pp_model.specs.declared.step.Step.{Step}
 use Rattle.pp_model.specs.declared.step.Step.TheVariants as step
+use Rattle.pp_model.proofs.TakingLemmas.{one_pair}
 use Rattle.pp_model.proofs.LineValueLemmas.{one_condition, one_line_number}
-
--- two pairs of equations with one right side
-one_pair : {X Y : Type 0} {x y z : X} {s t u : Y} → (x ≡ z) × (s ≡ u) → (y ≡ z) × (t ≡ u) → (x ≡ y) × (s ≡ t)
-one_pair a b = (a.0 ∙ sym b.0, a.1 ∙ sym b.1)
 
 one_define : (named : Named) (defined : Option Definition) (after : SourceReader) (x y : Option Outcome) (s t : SourceReader)
     → Defines named defined after x s → Defines named defined after y t → (x ≡ y) × (s ≡ t)

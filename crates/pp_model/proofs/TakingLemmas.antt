@@ -7,11 +7,15 @@ use Rattle.pp_model.specs.ExpansionLaws.{OneReads, OneTaking}
 use Rattle.pp_model.specs.declared.read.Taken.{Taken}
 use Rattle.pp_model.specs.declared.splice.Entry.TheVariants.{Plain}
 
+-- two pairs of equations with one right side
+pub one_pair : {X Y : Type 0} {x y z : X} {s t u : Y} → (x ≡ z) × (s ≡ u) → (y ≡ z) × (t ≡ u) → (x ≡ y) × (s ≡ t)
+one_pair a b = (a.0 ∙ sym b.0, a.1 ∙ sym b.1)
+
 pub argument_reads_one : OneReads argument_reading
-argument_reads_one r x y s t a b = (a.0 ∙ sym b.0, a.1 ∙ sym b.1)
+argument_reads_one r x y s t a b = one_pair a b
 
 pub line_reads_one : OneReads line_reading
-line_reads_one r x y s t a b = (a.0 ∙ sym b.0, a.1 ∙ sym b.1)
+line_reads_one r x y s t a b = one_pair a b
 
 one_fetching : {R : Type 0} (I : Reading R) → OneReads I → (x y : Taken) (e f g : Expander R) → Fetches I e x f → Fetches I e y g → (x ≡ y) × (f ≡ g)
 one_fetching I one x y e f g (held x1 e1 f1 h p) (held y1 e2 g1 k q) = (cc, p ∙ sym q)
