@@ -12,6 +12,7 @@ use Rattle.pp_model.specs.Emitting.{with_macro, Emits, itself, object, name_alon
 use Rattle.pp_model.specs.ApartMarks.{AreApart, HasApartMarks, IsRest, OnlyTakesEntries, OpensNew, KeepsMarksApart, StartsApart}
 use Rattle.pp_model.specs.declared.read.Taken.{Taken}
 use Rattle.pp_model.specs.declared.splice.Entry.TheVariants.{Plain}
+use Rattle.pp_model.proofs.SearchLeadsLemmas.{gathering_leads, call_leads}
 use Rattle.pp_model.proofs.OpenNamesLemmas.{rest_of_rest, after_marks_is_rest, rest_opens_nothing, rest_is_apart, open_spliced, opening_not_open}
 
 module _ {R : Type 0} (I : Reading R) where
@@ -27,23 +28,19 @@ module _ {R : Type 0} (I : Reading R) where
   pub taking_leaves_rest : (o : Taken) (e f : Expander R) → Takes I e o f → IsRest e.list f.list
   taking_leaves_rest o e f t = fetching_leaves_rest t.first e f t.fetches
 
-  pub gathering_leaves_rest : (n : ℕ) (last : Location) (x : Result Gathered Fault) (e f : Expander R) → Gathers I n last e x f → IsRest e.list f.list
-  gathering_leaves_rest n last x e f (closed n1 l1 token e1 f1 x1 t h p) = taking_leaves_rest _ e f t
-  gathering_leaves_rest n last x e f (inside n1 k l1 token e1 f1 f2 rest x1 t h u p) =
-      rest_of_rest e.list f1.list f.list (taking_leaves_rest _ e f1 t) (gathering_leaves_rest k token.token.location rest f1 f u)
-  gathering_leaves_rest n last x e f (overfull n1 l1 token e1 f1 x1 t h p) = taking_leaves_rest _ e f t
-  gathering_leaves_rest n last x e f (ended n1 l1 e1 f1 x1 t p) = taking_leaves_rest _ e f t
-  gathering_leaves_rest n last x e f (failed n1 l1 fault e1 f1 x1 t p) = taking_leaves_rest _ e f t
+  -- what is left of a list goes on being so
+  abbrev LeavesRest : Expander R → Expander R → Type 0
+  LeavesRest e f = IsRest e.list f.list
+
+  leaves_rest_then : (e f g : Expander R) → LeavesRest e f → LeavesRest f g → LeavesRest e g
+  leaves_rest_then e f g = rest_of_rest e.list f.list g.list
 
   pub call_leaves_rest : (A : Answers) (d : Definition) (c : Called) (e f : Expander R) → Calls I A d e c f → IsRest e.list f.list
-  call_leaves_rest A d c e f (alone o e1 f1 c1 t h p) = taking_leaves_rest o e f t
-  call_leaves_rest A d c e f (broken o paren fault e1 f1 f2 c1 t h u p) =
-      rest_of_rest e.list f1.list f.list (taking_leaves_rest o e f1 t) (gathering_leaves_rest 0 paren (Err fault) f1 f u)
-  call_leaves_rest A d c e f (whole o paren gathered answer e1 f1 f2 c1 t h u a p) =
-      rest_of_rest e.list f1.list f.list (taking_leaves_rest o e f1 t) (gathering_leaves_rest 0 paren (Ok gathered) f1 f u)
+  call_leaves_rest = call_leads I LeavesRest leaves_rest_then taking_leaves_rest
 
   pub only_takes_entries : (A : Answers) → OnlyTakesEntries I A
-  only_takes_entries A = record { taking = taking_leaves_rest; gathering = gathering_leaves_rest; call = call_leaves_rest A }
+  only_takes_entries A =
+      record { taking = taking_leaves_rest; gathering = gathering_leads I LeavesRest leaves_rest_then taking_leaves_rest; call = call_leaves_rest A }
 
   pub opens_new : OpensNew I
   opens_new o m d e rest t h r = rest_opens_nothing m.name e.list rest r (opening_not_open I o m d e t h)
@@ -76,7 +73,7 @@ module _ {R : Type 0} (I : Reading R) where
   pub keeps_marks_apart : (A : Answers) → KeepsMarksApart I A
   keeps_marks_apart A = record {
     taking = λ o e f t. rest_is_apart e.list f.list (taking_leaves_rest o e f t);
-    gathering = λ n last x e f g. rest_is_apart e.list f.list (gathering_leaves_rest n last x e f g);
+    gathering = λ n last x e f g. rest_is_apart e.list f.list ((only_takes_entries A).gathering n last x e f g);
     call = λ d c e f k. rest_is_apart e.list f.list (call_leaves_rest A d c e f k);
     opening = opened_is_apart;
     item = item_keeps_apart A;

@@ -17,6 +17,7 @@ use Rattle.pp_model.specs.declared.read.Taken.{Taken}
 use Rattle.pp_model.specs.declared.read.Taken.TheVariants as taken
 use Rattle.pp_model.specs.declared.splice.Entry.{Entry}
 use Rattle.pp_model.specs.declared.splice.Entry.TheVariants.{Plain}
+use Rattle.pp_model.proofs.SearchLeadsLemmas.{call_leads}
 use Rattle.pp_model.proofs.SourceEndLemmas.{IsAtEnd, reading_ends, reading_at_end}
 
 -- nothing is held, listed or left of the source
@@ -88,18 +89,8 @@ module _ (A : Answers) where
   taking_holds_none : (o : Taken) (e f : Expander SourceReader) → Takes (source_reading A) e o f → f.held ≡ None
   taking_holds_none o e f t = fetching_holds_none t.first e f t.fetches
 
-  gathering_holds_none : (n : ℕ) (last : Location) (x : Result Gathered Fault) (e f : Expander SourceReader)
-      → Gathers (source_reading A) n last e x f → f.held ≡ None
-  gathering_holds_none n last x e f (closed n1 l1 token e1 f1 x1 t h p) = taking_holds_none _ e f t
-  gathering_holds_none n last x e f (inside n1 k l1 token e1 g f1 rest x1 t h u p) = gathering_holds_none k token.token.location rest g f u
-  gathering_holds_none n last x e f (overfull n1 l1 token e1 f1 x1 t h p) = taking_holds_none _ e f t
-  gathering_holds_none n last x e f (ended n1 l1 e1 f1 x1 t p) = taking_holds_none _ e f t
-  gathering_holds_none n last x e f (failed n1 l1 fault e1 f1 x1 t p) = taking_holds_none _ e f t
-
   call_holds_none : (m : Definition) (c : Called) (e f : Expander SourceReader) → Calls (source_reading A) A m e c f → f.held ≡ None
-  call_holds_none m c e f (alone x e1 f1 c1 t h p) = taking_holds_none x e f t
-  call_holds_none m c e f (broken x paren fault e1 g f1 c1 t h u p) = gathering_holds_none 0 paren (Err fault) g f u
-  call_holds_none m c e f (whole x paren gathered answer e1 g f1 c1 t h u a p) = gathering_holds_none 0 paren (Ok gathered) g f u
+  call_holds_none = call_leads (source_reading A) (λ e f. f.held ≡ None) (λ e f g first later. later) taking_holds_none A
 
   -- an end that is found in place of a call is the last
   call_ends : (m : Definition) (c : Called) (o : Taken) (e f : Expander SourceReader) → Calls (source_reading A) A m e c f → HoldsLastEnd e

@@ -4,6 +4,7 @@ pub mod TextLemmas
 pub mod GatherLemmas
 pub mod CollectLemmas
 pub mod TakingLemmas
+pub mod SearchLeadsLemmas
 pub mod CallsLemmas
 pub mod EmittingLemmas
 pub mod LevelLemmas

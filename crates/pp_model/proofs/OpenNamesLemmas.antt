@@ -14,9 +14,10 @@ use Rattle.pp_model.specs.Painting.{is_one_of, painted_among, taken_among}
 use Rattle.pp_model.specs.Taking.{Takes}
 use Rattle.pp_model.specs.Reading.{Reading, Expander, masked_names, Opening, opening_of, opening}
 use Rattle.pp_model.specs.inner.Reading.{opening_by}
-use Rattle.pp_model.specs.ApartMarks.{HasApartMarks, IsRest}
+use Rattle.pp_model.specs.ApartMarks.{AreApart, HasApartMarks, IsRest}
 use Rattle.pp_model.specs.declared.read.Taken.{Taken}
 use Rattle.pp_model.specs.declared.read.Taken.TheVariants as taken
+use Rattle.std.proofs.lemmas.List.Folds.{list_any-append}
 use Rattle.pp_model.specs.declared.splice.Entry.{Entry}
 use Rattle.pp_model.specs.declared.splice.Entry.TheVariants.{Plain, End}
 
@@ -32,38 +33,42 @@ after_marks_is_rest (End mark ∷ entries) =
     (End mark ∷ rest.0, ap (λ es. End mark ∷ es) rest.1)
 after_marks_is_rest (Plain token ∷ entries) = ([], refl)
 
+neither : (a b : Bool) → (a || b) ≡ false → (a ≡ false) × (b ≡ false)
+neither true b h = cc
+neither false b h = (refl, h)
+
 pub not_in_tail : (name other : Name) (names : List Name) → is_in name (other ∷ names) ≡ false → is_in name names ≡ false
-not_in_tail name other names h = go (is_same_name name other) refl
-  where
-    go : (b : Bool) → is_same_name name other ≡ b → is_in name names ≡ false
-    go true e = let bad : true ≡ false = rw e at h in cc
-    go false e = rw e at h
+not_in_tail name other names h = (neither (is_same_name name other) (is_in name names) h).1
 
-pub not_in_front : (name : Name) (names others : List Name) → is_in name (names ++ others) ≡ false → is_in name names ≡ false
-not_in_front name [] others h = refl
-not_in_front name (other ∷ names) others h = go (is_same_name name other) refl (λ t. not_in_front name names others t)
-  where
-    go : (b : Bool) → is_same_name name other ≡ b → (is_in name (names ++ others) ≡ false → is_in name names ≡ false) → is_in name (other ∷ names) ≡ false
-    go true e tail = let bad : true ≡ false = rw e at h in cc
-    go false e tail = rw e (tail (rw e at h))
+not_in_both : (name : Name) (names others : List Name) → is_in name (names ++ others) ≡ false → (is_in name names ≡ false) × (is_in name others ≡ false)
+not_in_both name names others h = neither (is_in name names) (is_in name others) (sym (list_any-append (is_same_name name) names others) ∙ h)
 
--- a name that has no mark in a list has none in what is left of it
-not_in_rest : (name : Name) (front rest : List Entry) → is_in name (open_names (front ++ rest)) ≡ false → is_in name (open_names rest) ≡ false
-not_in_rest name [] rest h = h
-not_in_rest name (Plain token ∷ front) rest h = not_in_rest name front rest h
-not_in_rest name (End mark ∷ front) rest h = not_in_rest name front rest (not_in_tail name mark.name (open_names (front ++ rest)) h)
+pub not_in_later : (name : Name) (names others : List Name) → is_in name (names ++ others) ≡ false → is_in name others ≡ false
+not_in_later name names others h = (not_in_both name names others h).1
 
+-- names that are apart are so without the first ones
+pub apart_later : (names others : List Name) → AreApart (names ++ others) → AreApart others
+apart_later [] others h = h
+apart_later (name ∷ names) others h = apart_later names others h.1
+
+open_names-append : (front rest : List Entry) → open_names (front ++ rest) ≡ open_names front ++ open_names rest
+open_names-append [] rest = refl
+open_names-append (Plain token ∷ front) rest = open_names-append front rest
+open_names-append (End mark ∷ front) rest = ap (λ names. mark.name ∷ names) (open_names-append front rest)
+
+-- what is open in a list or around it is open at its front, in what is left of it, or around it
+pub open_around : (old new : List Entry) (rest : IsRest old new) (hidden : List Name)
+    → open_names old ++ hidden ≡ open_names rest.0 ++ (open_names new ++ hidden)
+open_around old new rest hidden =
+    ap (λ (es : List Entry). open_names es ++ hidden) rest.1 ∙ ap (λ names. names ++ hidden) (open_names-append rest.0 new)
+    ∙ append_assoc (open_names rest.0) (open_names new) hidden
+
+-- what has no mark in a list has none in what is left of it, and marks that are apart are so there
 pub rest_opens_nothing : (name : Name) (old new : List Entry) → IsRest old new → is_in name (open_names old) ≡ false → is_in name (open_names new) ≡ false
-rest_opens_nothing name old new (front, p) h = not_in_rest name front new (rw p at h)
-
--- marks that are apart are so in what is left
-apart_after : (front rest : List Entry) → HasApartMarks (front ++ rest) → HasApartMarks rest
-apart_after [] rest h = h
-apart_after (Plain token ∷ front) rest h = apart_after front rest h
-apart_after (End mark ∷ front) rest h = apart_after front rest h.1
+rest_opens_nothing name old new (front, p) h = not_in_later name (open_names front) (open_names new) (rw (p, open_names-append) at h)
 
 pub rest_is_apart : (old new : List Entry) → IsRest old new → HasApartMarks old → HasApartMarks new
-rest_is_apart old new (front, p) h = apart_after front new (rw p at h)
+rest_is_apart old new (front, p) h = apart_later (open_names front) (open_names new) (rw (p, open_names-append) at h)
 
 -- a macro's replacement holds no mark but its own
 open_followed_by : (tokens : List Read) (entries : List Entry) → open_names (followed_by tokens entries) ≡ open_names entries
@@ -121,17 +126,13 @@ module _ {R : Type 0} (I : Reading R) (e : Expander R) where
   opening_known taken.End m h = cc
 
 -- a token that is painted among these names and isn't painted is none of them
-unpainted_before : (a b : Bool) → (a || b) ≡ false → b ≡ false
-unpainted_before true b h = cc
-unpainted_before false b h = h
-
 unpainted_is_none : (names : List Name) (first : Taken) (read : Read) (name : Name) → taken.Token read ≡ taken_among names first
     → read.token.value ≡ Ident name → read.painted ≡ false → is_in name names ≡ false
 unpainted_is_none names (taken.Token before) read name e named bare =
     let same : read ≡ painted_among names before = cc in
     let value : before.token.value ≡ Ident name = ap (λ r. r.token.value) (sym same) ∙ named in
     let painted : before.painted || is_one_of names before.token.value ≡ false = ap (λ r. r.painted) (sym same) ∙ bare in
-    let none : is_one_of names before.token.value ≡ false = unpainted_before before.painted (is_one_of names before.token.value) painted in
+    let none : is_one_of names before.token.value ≡ false = (neither before.painted (is_one_of names before.token.value) painted).1 in
     ap (is_one_of names) (sym value) ∙ none
 unpainted_is_none names (taken.Fault fault) read name e named bare = cc
 unpainted_is_none names taken.End read name e named bare = cc
@@ -146,4 +147,4 @@ opening_not_masked I o m d e t h =
 -- it has no mark in the list
 pub opening_not_open : {R : Type 0} (I : Reading R) (o : Taken) (m : Opening) (d e : Expander R) → Takes I d o e → opening I e o ≡ Some m
     → is_in m.name (open_names e.list) ≡ false
-opening_not_open I o m d e t h = not_in_front m.name (open_names e.list) e.hidden (opening_not_masked I o m d e t h)
+opening_not_open I o m d e t h = (not_in_both m.name (open_names e.list) e.hidden (opening_not_masked I o m d e t h)).0

@@ -9,35 +9,14 @@ use Rattle.pp_model.specs.ApartMarks.{IsRest}
 use Rattle.pp_model.specs.declared.read.Read.{Read}
 use Rattle.pp_model.specs.declared.splice.Entry.{Entry}
 use Rattle.pp_model.specs.declared.splice.Entry.TheVariants.{Plain, End}
-use Rattle.pp_model.proofs.OpenNamesLemmas.{not_in_front, rest_opens_nothing}
+use Rattle.pp_model.proofs.OpenNamesLemmas.{not_in_later, open_around}
 use Rattle.pp_model.proofs.existence.Turns.{GoesOn, Here}
-
--- ---- names that are not open
-
--- a name that is in neither of two lists is not in both
-not_in_both : (name : Name) (names others : List Name) → is_in name names ≡ false → is_in name others ≡ false → is_in name (names ++ others) ≡ false
-not_in_both name [] others h k = k
-not_in_both name (other ∷ names) others h k = go (is_same_name name other) refl (λ t. not_in_both name names others t k)
-  where
-    go : (b : Bool) → is_same_name name other ≡ b → (is_in name names ≡ false → is_in name (names ++ others) ≡ false)
-        → is_in name (other ∷ names ++ others) ≡ false
-    go true e tail = let bad : true ≡ false = rw e at h in cc
-    go false e tail = rw e (tail (rw e at h))
-
-not_in_later : (name : Name) (names others : List Name) → is_in name (names ++ others) ≡ false → is_in name others ≡ false
-not_in_later name [] others h = h
-not_in_later name (other ∷ names) others h = go (is_same_name name other) refl (λ t. not_in_later name names others t)
-  where
-    go : (b : Bool) → is_same_name name other ≡ b → (is_in name (names ++ others) ≡ false → is_in name others ≡ false) → is_in name others ≡ false
-    go true e tail = let bad : true ≡ false = rw e at h in cc
-    go false e tail = tail (rw e at h)
 
 -- What is open neither in a list nor around is open neither in what is left of it nor around.
 pub still_closed : (name : Name) (old new : List Entry) (hidden : List Name) → IsRest old new → is_in name (open_names old ++ hidden) ≡ false
     → is_in name (open_names new ++ hidden) ≡ false
-still_closed name old new hidden r h =
-    not_in_both name (open_names new) hidden (rest_opens_nothing name old new r (not_in_front name (open_names old) hidden h))
-    (not_in_later name (open_names old) hidden h)
+still_closed name old new hidden rest h =
+    not_in_later name (open_names rest.0) (open_names new ++ hidden) (rw (open_around old new rest hidden) at h)
 
 -- ---- lists over one reader
 
