@@ -1,17 +1,13 @@
 -- Dead text gives no token, defines nothing and numbers no line.
 use Rattle.std.proofs.Common.{◌≡◌, ◌∙◌, Bool, true, false, refl, sym, ap, Option, Some, None}
-use Rattle.pp_model.specs.Sights.{sight_of}
-use Rattle.pp_model.specs.Blocks.{Block, is_live}
+use Rattle.pp_model.specs.Blocks.{Block}
 use Rattle.pp_model.specs.SourceReader.{SourceReader}
-use Rattle.pp_model.specs.Moves.{BlockFacts, move_at}
-use Rattle.pp_model.specs.Acts.{Acted, end_by, perform, facts_here}
-use Rattle.pp_model.specs.inner.Acts.{items_left}
+use Rattle.pp_model.specs.Acts.{Acted, end_by}
 use Rattle.pp_model.specs.BlockLaws.{GivesNothing, DeadTextGivesNothing}
 use Rattle.pp_model.specs.declared.outcome.Outcome.TheVariants as outcome
-use Rattle.pp_model.specs.declared.sight.Sight.{Sight}
 use Rattle.pp_model.specs.declared.step.Step.{Step}
 use Rattle.pp_model.specs.declared.step.Step.TheVariants as step
-use Rattle.pp_model.proofs.ActsLemmas.{HoldsOfDead, dead_text_holds}
+use Rattle.pp_model.proofs.ActsLemmas.{act_holds}
 
 abbrev gives_something : Step → Bool
 gives_something (step.Given (outcome.Token token)) = true
@@ -32,22 +28,20 @@ gives_nothing r a h definitions lines = record {
   same_lines = lines;
 }
 
-directives_give_nothing : (r : SourceReader) → HoldsOfDead (GivesNothing r) r
-directives_give_nothing r = record {
-  fault = λ found. gives_nothing r _ refl refl refl;
-  nothing = λ count least. gives_nothing r _ refl refl refl;
-  wanted = λ word tokens. gives_nothing r _ refl refl refl;
-}
-
 -- at the end only faults are given, and the end
 end_gives_nothing : (r : SourceReader) (block : Option Block) → GivesNothing r (end_by block r)
 end_gives_nothing r (Some block) = gives_nothing r _ refl refl refl
 end_gives_nothing r None = gives_nothing r _ refl refl refl
 
-either_gives_nothing : (live : Bool) (block : Option BlockFacts) (s : Sight) (r : SourceReader) → live ≡ false
-    → GivesNothing r (perform (move_at live block s (items_left r)) r)
-either_gives_nothing true block s r dead = absurd cc
-either_gives_nothing false block s r dead = dead_text_holds (GivesNothing r) r (directives_give_nothing r) (end_gives_nothing r) block s
-
 pub dead_text_gives_nothing : DeadTextGivesNothing
-dead_text_gives_nothing r = either_gives_nothing (is_live r.items r.truths r.position) (facts_here r) (sight_of (items_left r)) r
+dead_text_gives_nothing r dead = act_holds (GivesNothing r) r (record {
+  end = λ there. end_gives_nothing r _;
+  fault = λ found. gives_nothing r _ refl refl refl;
+  nothing = λ count least. gives_nothing r _ refl refl refl;
+  wanted = λ word tokens. gives_nothing r _ refl refl refl;
+  numbered = λ live word tokens. cc;
+  defined = λ live word named is. cc;
+  changed = λ live name. cc;
+  decision = λ live holds. cc;
+  token = λ live shown stands count least. cc;
+})

@@ -9,7 +9,7 @@ use Rattle.pp_model.specs.SpliceList.{after_marks}
 use Rattle.pp_model.specs.Painting.{taken_among}
 use Rattle.pp_model.specs.Reading.{Expander, masked_names, Opening, opening}
 use Rattle.pp_model.specs.Taking.{line_number, shown_token, shown_outcome, Takes, Fetches, held, listed, read}
-use Rattle.pp_model.specs.Calls.{Gathered, Fault, Gathers, closed, inside, overfull, ended, failed, Answers, Called, no_call, called_by, Calls, alone, broken, whole}
+use Rattle.pp_model.specs.Calls.{Fault, Answers, Called, no_call, called_by, Calls, alone, broken, whole}
 use Rattle.pp_model.specs.Emitting.{with_macro, Emits, itself, object, name_alone, call_refused, call}
 use Rattle.pp_model.specs.SourceReader.{SourceReader}
 use Rattle.pp_model.specs.Reads.{shown_line, source_reading}

@@ -26,7 +26,6 @@ pub mod EndLemmas
 pub mod RunEndLemmas
 pub mod DirectivePlaceLemmas
 pub mod BlockLemmas
-pub mod KeptItemsLemmas
 pub mod DeadTextLemmas
 pub mod LiveRunLemmas
 pub mod RedefinitionLemmas

@@ -1,13 +1,11 @@
 -- No macro is open twice, here or around: what leaves the list closes names, and what opens is open neither here nor around.
 use Rattle.std.proofs.Common.{◌≡◌, ◌∙◌, ℕ, false, List, [], ◌∷◌, ◌++◌, refl, sym, ap, subst, Some}
-use Rattle.std.specs.Prelude.{Result, Ok, Err}
-use Rattle.pp_lexer.specs.declared.token.Location.{Location}
 use Rattle.pp_model.specs.Names.{Name, is_in}
 use Rattle.pp_model.specs.Definitions.{Definition}
 use Rattle.pp_model.specs.SpliceList.{open_names}
 use Rattle.pp_model.specs.Reading.{Reading, Expander, Listed, Opening, masked_names}
 use Rattle.pp_model.specs.Taking.{Takes, Fetches, held, listed, read}
-use Rattle.pp_model.specs.Calls.{Gathered, Fault, Gathers, closed, inside, overfull, ended, failed, Answers, Called, Calls, alone, broken, whole}
+use Rattle.pp_model.specs.Calls.{Answers, Called, Calls}
 use Rattle.pp_model.specs.Emitting.{with_macro, Emits}
 use Rattle.pp_model.specs.Emitting as emits
 use Rattle.pp_model.specs.SourceReader.{SourceReader}
@@ -18,8 +16,6 @@ use Rattle.pp_model.specs.RunStates.{LeadsTo, nowhere, adding, giving}
 use Rattle.pp_model.specs.OpenOnce.{Passes, here, taking, object, name_alone, call, IsOpenOnce, RunOpensOnce, ListOpensOnce}
 use Rattle.pp_model.specs.declared.read.Read.{Read}
 use Rattle.pp_model.specs.declared.read.Taken.{Taken}
-use Rattle.pp_model.specs.declared.splice.Entry.{Entry}
-use Rattle.pp_model.specs.declared.splice.Entry.TheVariants.{Plain, End}
 use Rattle.pp_model.proofs.SearchLeadsLemmas.{call_leads}
 use Rattle.pp_model.proofs.ApartMarksLemmas.{taking_leaves_rest}
 use Rattle.pp_model.proofs.OpenNamesLemmas.{rest_of_rest, not_in_later, apart_later, open_around, open_spliced, opening_not_masked}

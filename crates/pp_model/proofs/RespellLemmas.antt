@@ -47,7 +47,7 @@ use Rattle.pp_model.proofs.HoldingLemmas.{AreClosed, HoldsOfTaken}
 use Rattle.pp_model.proofs.KeptTokensLemmas.{ReaderKeeps, HoldsOf, item_keeps, answers_keep}
 use Rattle.pp_model.proofs.LineHoldsLemmas.{HoldsOfLexeme, HoldInItems}
 use Rattle.pp_model.proofs.RunStatesLemmas.{run_shows_no_line_name}
-use Rattle.pp_model.proofs.SourceHoldsLemmas.{HoldsOfOutcome, DirectiveItemsHold, HoldsOfReader, source_keeps, defined_now_holds}
+use Rattle.pp_model.proofs.SourceHoldsLemmas.{HoldsOfOutcome, DirectiveItemsHold, HoldsOfReader, source_keeps, changed_holds}
 use Rattle.pp_model.proofs.SpelledRunLemmas.{IsNoHash, IsPlain, starts_there, gives_from}
 use Rattle.pp_model.proofs.PartsLemmas.{content_tokens_is}
 
@@ -179,7 +179,7 @@ module _ (level : ℕ) where
         list = h.list;
         reader = (
           h.reader.0,
-          defined_now_holds IsGood IsLine good_closed e.reader.definitions (chars name) (object_like tokens) h.reader.1 body,
+          changed_holds IsGood IsLine good_closed e.reader.definitions (chars name) (Some (object_like tokens)) h.reader.1 body,
         );
       } in
       subst (λ (rs : List Reply). Each IsGood (given_tokens rs)) (sym p)

@@ -1,7 +1,7 @@
 -- Lists for which the property is known wherever taking leads; and how far taking may have led: less is left of the
 -- reader, or such a list comes before it.
-use Rattle.std.proofs.Common.{◌≡◌, ℕ, ◌+◌, ◌<◌, Bool, true, false, List, [], ◌∷◌, ◌++◌, length, refl, ap, Some, None}
-use Rattle.pp_model.specs.Names.{Name, is_same_name, is_in}
+use Rattle.std.proofs.Common.{◌≡◌, ℕ, ◌+◌, ◌<◌, false, List, [], ◌∷◌, ◌++◌, length, refl, ap, Some, None}
+use Rattle.pp_model.specs.Names.{Name, is_in}
 use Rattle.pp_model.specs.SpliceList.{after_marks, open_names, macro_before}
 use Rattle.pp_model.specs.Reading.{Reading, Expander, Opening}
 use Rattle.pp_model.specs.Calls.{Answers}
