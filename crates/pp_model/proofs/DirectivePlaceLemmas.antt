@@ -13,12 +13,8 @@ use Rattle.pp_model.specs.Sights.{is_directive_hash}
 use Rattle.pp_model.specs.SourceReader.{earlier_on_line, is_on_directive_line}
 
 newline_begins_none : (value : LexerTokenValue) (at_start : Bool) → is_newline value ≡ true → is_hash value && at_start ≡ false
-newline_begins_none Hash at_start e = cc
 newline_begins_none NewLine at_start e = refl
-newline_begins_none (LexerIdent name) at_start e = cc
-newline_begins_none (LexerInteger i) at_start e = cc
-newline_begins_none (LexerFloat f) at_start e = cc
-newline_begins_none (LexerPunct p) at_start e = cc
+newline_begins_none _ at_start e = cc
 
 -- what ends a line is no number sign
 pub end_is_no_hash : (item : Lexeme) → ends_line item ≡ true → is_directive_hash item ≡ false

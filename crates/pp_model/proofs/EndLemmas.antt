@@ -53,9 +53,8 @@ read_end shown_line taken.End h = refl
 
 -- only the end is painted as the end
 painted_end : (names : List Name) (x : Taken) → taken_among names x ≡ taken.End → x ≡ taken.End
-painted_end names (taken.Token token) h = cc
-painted_end names (taken.Fault fault) h = cc
 painted_end names taken.End h = refl
+painted_end names _ h = cc
 
 -- what a call comes to is no missing call
 called_is_a_call : (line : ℕ) (answer : Result (List (List Read)) Fault) (o : Taken) → called_by line answer ≡ no_call o → ⊥

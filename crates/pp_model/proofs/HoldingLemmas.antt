@@ -37,8 +37,7 @@ HoldsOfRead Q read = Q read.token
 
 abbrev pub HoldsOfTaken : (Token → Type 0) → Taken → Type 0
 HoldsOfTaken Q (taken.Token read) = Q read.token
-HoldsOfTaken Q (taken.Fault fault) = ⊤
-HoldsOfTaken Q taken.End = ⊤
+HoldsOfTaken Q _ = ⊤
 
 abbrev pub HoldsOfHeld : (Token → Type 0) → Option Taken → Type 0
 HoldsOfHeld Q None = ⊤
@@ -132,11 +131,9 @@ module _ (Q : Token → Type 0) (L : ℕ → Type 0) where
 
     pub read_holds : (x : Taken) → HoldsOfTaken Q x → HoldsOfTaken Q (shown_outcome shown_line x)
     read_holds (taken.Token token) q = taken_holds [] token tt q
-    read_holds (taken.Fault fault) q = tt
-    read_holds taken.End q = tt
+    read_holds _ q = tt
 
   -- paint changes nothing of it
   pub painted_holds : (names : List Name) (x : Taken) → HoldsOfTaken Q x → HoldsOfTaken Q (taken_among names x)
   painted_holds names (taken.Token token) q = q
-  painted_holds names (taken.Fault fault) q = tt
-  painted_holds names taken.End q = tt
+  painted_holds names _ q = tt

@@ -88,18 +88,12 @@ module _ (Q : Token → Type 0) (L : ℕ → Type 0) (closed_under : AreClosed Q
     opened_value : (e : Expander R) (token : Read) (value : TokenValue) (m : Opening) → opening_of I e token value ≡ Some m → K e.reader → Q token.token
         → Each Q m.definition.body × L m.token.location.line
     opened_value e token (Ident name) m is k q = opened_when (I.is_reserved name || token.painted) e token.token name m is k q
-    opened_value e token (Integer i) m is k q = cc
-    opened_value e token (Float f) m is k q = cc
-    opened_value e token (Punct p) m is k q = cc
-    opened_value e token (Version v) m is k q = cc
-    opened_value e token (Extension x) m is k q = cc
-    opened_value e token (Pragma p) m is k q = cc
+    opened_value e token _ m is k q = cc
 
     opened_holds : (e : Expander R) (x : Taken) (m : Opening) → opening I e x ≡ Some m → HoldsOf Q L K e → HoldsOfTaken Q x
         → Each Q m.definition.body × L m.token.location.line
     opened_holds e (taken.Token token) m is h q = opened_value e token token.token.value m is h.reader q
-    opened_holds e (taken.Fault fault) m is h q = cc
-    opened_holds e taken.End m is h q = cc
+    opened_holds e _ m is h q = cc
 
     fetching_keeps : (o : Taken) (e f : Expander R) → Fetches I e o f → HoldsOf Q L K e → HoldsOfTaken Q o × HoldsOf Q L K f
     fetching_keeps o e f (held o1 e1 f1 is p) h = (

@@ -80,10 +80,7 @@ module _ (A : Answers) (r : SourceReader) (nothing : GivesNothing r (act r)) (o 
 
   no_token : (token : Token) → o ≡ Some (outcome.Token token) → (did : Step) → (act r).step ≡ did → GivenBy did o → ⊥
   no_token token e (step.Given x) h g = let same : x ≡ outcome.Token token = cc in nothing.no_token token (h ∙ ap step.Given same)
-  no_token token e step.Passed h g = otherwise token e g
-  no_token token e (step.Defines named) h g = otherwise token e g
-  no_token token e (step.Condition word tokens) h g = otherwise token e g
-  no_token token e (step.LineNumber word tokens) h g = otherwise token e g
+  no_token token e _ h g = otherwise token e g
 
   without_effect : IsWithoutEffect r o t
   without_effect =

@@ -31,14 +31,12 @@ taken_is_no_line shown_line after token = go (is_identifier line_name token.toke
 
 read_is_no_line : (shown_line : ℕ → Option ℕ) (x : Taken) → is_line_name (shown_outcome shown_line x) ≡ false
 read_is_no_line shown_line (taken.Token token) = taken_is_no_line shown_line [] token
-read_is_no_line shown_line (taken.Fault fault) = refl
-read_is_no_line shown_line taken.End = refl
+read_is_no_line shown_line _ = refl
 
 -- paint changes no name
 painted_is_no_line : (names : List Name) (x : Taken) → is_line_name (taken_among names x) ≡ is_line_name x
 painted_is_no_line names (taken.Token token) = refl
-painted_is_no_line names (taken.Fault fault) = refl
-painted_is_no_line names taken.End = refl
+painted_is_no_line names _ = refl
 
 -- one more token that is none
 one_more : (token : Read) (rest : Result (List Read) Fault) → is_identifier line_name token.token.value ≡ false → IfOk rest AreNoLineNames

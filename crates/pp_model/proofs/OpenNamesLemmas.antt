@@ -122,8 +122,7 @@ module _ {R : Type 0} (I : Reading R) (e : Expander R) where
 
   pub opening_known : (o : Taken) (m : Opening) → opening I e o ≡ Some m → IsOpening I e o m
   opening_known (taken.Token read) m h = opening_of_value read m read.token.value refl h
-  opening_known (taken.Fault fault) m h = cc
-  opening_known taken.End m h = cc
+  opening_known _ m h = cc
 
 -- a token that is painted among these names and isn't painted is none of them
 unpainted_is_none : (names : List Name) (first : Taken) (read : Read) (name : Name) → taken.Token read ≡ taken_among names first

@@ -18,13 +18,11 @@ use Rattle.pp_model.specs.declared.word.LineKind.{LineKind}
 -- a parenthesis has a place
 open_placed : (o : Taken) → is_open_paren o ≡ true → (paren : Location) × (paren_at o ≡ Some paren)
 open_placed (taken.Token read) is = (read.token.location, rw is refl)
-open_placed (taken.Fault f) is = cc
-open_placed taken.End is = cc
+open_placed _ is = cc
 
 not_open_unplaced : (o : Taken) → is_open_paren o ≡ false → paren_at o ≡ None
 not_open_unplaced (taken.Token read) is = rw is refl
-not_open_unplaced (taken.Fault f) is = refl
-not_open_unplaced taken.End is = refl
+not_open_unplaced _ is = refl
 
 -- a name is none
 named_value_not_open : (v : TokenValue) (n : Name) → name_in_value v ≡ Some n → is_left_paren v ≡ false
@@ -33,8 +31,7 @@ named_value_not_open _ n is = cc
 
 named_unplaced : (o : Taken) (n : Name) → name_in o ≡ Some n → paren_at o ≡ None
 named_unplaced (taken.Token read) n is = not_open_unplaced (taken.Token read) (named_value_not_open read.token.value n is)
-named_unplaced (taken.Fault f) n is = refl
-named_unplaced taken.End n is = refl
+named_unplaced _ n is = refl
 
 module _ (kind : LineKind) (directive : Location) (A : Answers) where
   -- after the `(`

@@ -88,10 +88,8 @@ good_value : (location : Location) (value : LexerTokenValue) (blank at_start : B
     → HoldsOfLexeme IsGood (Ok (record { value = value; location = location; leading_whitespace = blank; start_of_line = at_start }))
 good_value location Hash blank at_start h l = tt
 good_value location NewLine blank at_start h l = tt
-good_value location (LexerIdent name) blank at_start h l = (λ o. h, l)
-good_value location (LexerInteger i) blank at_start h l = (λ o. h, l)
-good_value location (LexerFloat f) blank at_start h l = (λ o. h, l)
 good_value location (LexerPunct p) blank at_start h l = (λ o. tt, l)
+good_value location _ blank at_start h l = (λ o. h, l)
 
 good_item : (item : Lexeme) → IsSpelled (item_value item) → IfOk item (λ token. IsLine token.location.line) → HoldsOfLexeme IsGood item
 good_item (Ok token) h l = good_value token.location token.value token.leading_whitespace token.start_of_line h l
@@ -131,13 +129,11 @@ content_good (s ∷ rest) all = rw (content_tokens_is s rest) (content_from_good
 
 item_good : (x : Taken) → HoldsOfTaken IsGood x → HoldsOfOutcome IsGood (item_of x)
 item_good (taken.Token token) q = q
-item_good (taken.Fault fault) q = tt
-item_good taken.End q = tt
+item_good _ q = tt
 
 given_good : (o : Outcome) (later : List Token) → HoldsOfOutcome IsGood o → Each IsGood later → Each IsGood (cons_option (token_of o) later)
 given_good (outcome.Token token) later q all = (q, all)
-given_good (outcome.Fault fault) later q all = all
-given_good outcome.End later q all = all
+given_good _ later q all = all
 
 lines_hold : (total : ℕ) (items : List Item) → total < 2 ^ 32 - 1 → All (λ i. HasLineWithin total i.item) items → HasLines (map seen items)
 lines_hold total [] short all = tt
@@ -208,10 +204,7 @@ module _ (level : ℕ) where
   no_line_more : (answer : Reply) (later : List Token) → gives_line_name answer ≡ false → Each IsNoLine later
       → Each IsNoLine (cons_option (given_token answer) later)
   no_line_more (reply.Given (outcome.Token token)) later e all = (e, all)
-  no_line_more (reply.Given (outcome.Fault fault)) later e all = all
-  no_line_more (reply.Given outcome.End) later e all = all
-  no_line_more (reply.Refused fault) later e all = all
-  no_line_more reply.Added later e all = all
+  no_line_more _ later e all = all
 
   no_line_given : (replies : List Reply) → All (λ answer. gives_line_name answer ≡ false) replies → Each IsNoLine (given_tokens replies)
   no_line_given [] all = tt

@@ -24,9 +24,8 @@ end_is_no_item o is = rw is refl
 
 -- only the end is the end
 item_end : (x : Taken) → item_of x ≡ outcome.End → x ≡ taken.End
-item_end (taken.Token token) e = cc
-item_end (taken.Fault fault) e = cc
 item_end taken.End e = refl
+item_end _ e = cc
 
 -- no list that ends here goes on
 goes_not_on : (former later : List Reply) (answer : Reply) → [] ≡ former ++ (answer ∷ later) → ⊥

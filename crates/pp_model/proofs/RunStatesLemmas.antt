@@ -25,8 +25,7 @@ IsNoLineName answer = gives_line_name answer ≡ false
 -- an item is a `__LINE__` where it was taken as one
 same_name : (x : Taken) → is_line_name (taken_of (item_of x)) ≡ is_line_name x
 same_name (taken.Token token) = refl
-same_name (taken.Fault fault) = refl
-same_name taken.End = refl
+same_name _ = refl
 
 module _ (A : Answers) where
   keeps_apart : (e f : Expander SourceReader) → LeadsTo A e f → HasApartMarks e.list → HasApartMarks f.list

@@ -54,7 +54,6 @@ module _ (Q : Token → Type 0) (L : ℕ → Type 0) (closed : AreClosed Q L) wh
   word_value : (token : LexerToken) (value : LexerTokenValue) → HoldsOfLexeme Q (Ok (record token { value = value }))
       → HoldsOfSight (named_directive (record token { value = value }) (identifier_of value))
   word_value token (LexerIdent name) h = closed.line _ h
-  word_value token NewLine h = tt
   word_value token _ h = tt
 
   word_item : (item : Lexeme) → HoldsOfLexeme Q item → HoldsOfSight (directive_sight item)

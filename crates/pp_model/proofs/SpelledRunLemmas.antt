@@ -53,11 +53,7 @@ same_value token value e = cc
 quiet_value : (position : ℕ) (location : Location) (value : LexerTokenValue) (blank at_start : Bool) (rest : List Seen) → is_hash value ≡ false
     → line_at position (token_sight (record { value = value; location = location; leading_whitespace = blank; start_of_line = at_start }) rest) ≡ None
 quiet_value position location Hash blank at_start rest e = cc
-quiet_value position location NewLine blank at_start rest e = refl
-quiet_value position location (LexerIdent name) blank at_start rest e = refl
-quiet_value position location (LexerInteger i) blank at_start rest e = refl
-quiet_value position location (LexerFloat f) blank at_start rest e = refl
-quiet_value position location (LexerPunct p) blank at_start rest e = refl
+quiet_value position location _ blank at_start rest e = refl
 
 quiet_item : (position : ℕ) (item : Lexeme) (rest : List Seen) (value : LexerTokenValue) → item_value item ≡ Ok value → is_hash value ≡ false
     → line_at position (item_sight item rest) ≡ None
@@ -73,10 +69,8 @@ no_block_lines position (s ∷ rest) all =
     ∙ no_block_lines (position + 1) rest all.1
 
 front_holds : (n : ℕ) (items : List Seen) → Each IsNoHash items → Each IsNoHash (take n items)
-front_holds zero [] all = tt
-front_holds (suc n) [] all = tt
-front_holds zero (s ∷ rest) all = tt
 front_holds (suc n) (s ∷ rest) all = (all.0, front_holds n rest all.1)
+front_holds _ _ all = tt
 
 no_blocks : (items : List Seen) (position : ℕ) → Each IsNoHash items → blocks_at items position ≡ []
 no_blocks items position all = ap open_blocks (no_block_lines 0 (take position items) (front_holds position items all))
@@ -112,12 +106,7 @@ module _ (A : Answers) (items : List Seen) (all : Each IsNoHash items) where
   opens_nothing : (position : ℕ) (value : TokenValue) (location : Location)
       → opening (source_reading A) (state_at items position) (taken.Token (unpainted (record { value = value; location = location }))) ≡ None
   opens_nothing position (Ident name) location = refl
-  opens_nothing position (Integer i) location = refl
-  opens_nothing position (Float f) location = refl
-  opens_nothing position (Punct p) location = refl
-  opens_nothing position (Version v) location = refl
-  opens_nothing position (Extension x) location = refl
-  opens_nothing position (Pragma p) location = refl
+  opens_nothing position _ location = refl
 
   live_there : (position : ℕ) → is_live items [] position ≡ true
   live_there position = ap (list_all (is_branch_live [])) (no_blocks items position all)
@@ -132,8 +121,7 @@ module _ (A : Answers) (items : List Seen) (all : Each IsNoHash items) where
   -- what comes first of this text is taken, unpainted, where no name is open
   painted_none : (x : Taken) → taken_among [] x ≡ x
   painted_none (taken.Token token) = ap (λ b. taken.Token (record token { painted = b })) (or_none token.painted token.token.value)
-  painted_none (taken.Fault fault) = refl
-  painted_none taken.End = refl
+  painted_none _ = refl
 
   taken_there : (position : ℕ) (x o : Taken) (after : ℕ) → Reads A (reader_at items position) x (reader_at items after)
       → o ≡ shown_outcome (shown_line (reader_at items after)) x → Takes (source_reading A) (state_at items position) o (state_at items after)

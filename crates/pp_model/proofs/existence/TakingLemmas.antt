@@ -14,9 +14,8 @@ use Rattle.pp_model.proofs.existence.Turns.{is_token, Here, token_painted, token
 use Rattle.pp_model.proofs.existence.CoveredLists.{over, Covered, covered_after_marks, Front, moved, here, size}
 
 no_mark_first : (entries rest : List Entry) (mark : EndMark) → after_marks entries ≡ End mark ∷ rest → ⊥
-no_mark_first [] rest mark h = cc
 no_mark_first (End first ∷ entries) rest mark h = no_mark_first entries rest mark h
-no_mark_first (Plain token ∷ entries) rest mark h = cc
+no_mark_first _ rest mark h = cc
 
 marks_shorten : (entries : List Entry) → length (after_marks entries) ≤ length entries
 marks_shorten [] = omega arith
