@@ -1,6 +1,6 @@
 -- What holds of tokens and lines, in the entries of a list and in what is spliced into it.
 use Rattle.std.proofs.Common.{◌≡◌, ℕ, zero, suc, pos, false, List, [], ◌∷◌, refl, Option, Some, None}
-use Rattle.std.specs.Prelude.{⊤, Bool, true, ◌&&◌, ◌==◌, unwrap_or, slice_get, if◌then◌else◌}
+use Rattle.std.specs.Prelude.{⊤, IfOk, Result, Ok, Err, Bool, true, ◌&&◌, ◌==◌, unwrap_or, slice_get, if◌then◌else◌}
 use Rattle.std.specs.List.{AllByRecursion as Each}
 use Rattle.pp_lexer.specs.declared.token.Location.{Location}
 use Rattle.pp_lexer.specs.declared.token.Token.{Token}
@@ -11,7 +11,8 @@ use Rattle.pp_model.specs.SpliceList.{after_marks, outermost_line, parameter_of,
 use Rattle.pp_model.specs.inner.SpliceList.{followed_by}
 use Rattle.pp_model.specs.Painting.{taken_among}
 use Rattle.pp_model.specs.Taking.{line_number, shown_token, shown_outcome}
-use Rattle.pp_model.specs.Calls.{Pieces, is_comma, nesting_after, cut_before, pieces, arguments_of}
+use Rattle.pp_model.specs.Calls.{Fault, Pieces, is_comma, nesting_after, cut_before, pieces, arguments_of}
+use Rattle.pp_model.specs.Emitting.{first_before}
 use Rattle.pp_model.specs.declared.read.Read.{Read}
 use Rattle.pp_model.specs.declared.read.Taken.{Taken}
 use Rattle.pp_model.specs.declared.read.Taken.TheVariants as taken
@@ -43,6 +44,15 @@ abbrev pub HoldsOfHeld : (Token → Type 0) → Option Taken → Type 0
 HoldsOfHeld Q None = ⊤
 HoldsOfHeld Q (Some o) = HoldsOfTaken Q o
 
+-- so do the lists of a call's arguments
+abbrev pub HoldInLists : (Token → Type 0) → List (List Read) → Type 0
+HoldInLists Q lists = Each (λ tokens. Each (HoldsOfRead Q) tokens) lists
+
+-- one more has it, before a list whose elements have it
+pub more_holds : {X : Type 0} (P : X → Type 0) (x : X) (rest : Result (List X) Fault) → P x → IfOk rest (Each P) → IfOk (first_before x rest) (Each P)
+more_holds P x (Ok rest) q h = (q, h)
+more_holds P x (Err fault) q h = tt
+
 module _ (Q : Token → Type 0) (L : ℕ → Type 0) where
   -- an entry has it: a token, or the line of an end mark
   abbrev pub HoldsOfEntry : Entry → Type 0
@@ -66,19 +76,19 @@ module _ (Q : Token → Type 0) (L : ℕ → Type 0) where
   followed_hold [] entries all h = h
   followed_hold (token ∷ tokens) entries all h = (all.0, followed_hold tokens entries all.1 h)
 
-  argument_holds : (arguments : List (List Read)) (k : ℕ) → Each (λ tokens. Each (HoldsOfRead Q) tokens) arguments
+  argument_holds : (arguments : List (List Read)) (k : ℕ) → HoldInLists Q arguments
       → Each (HoldsOfRead Q) (unwrap_or (slice_get arguments k) [])
   argument_holds [] k all = tt
   argument_holds (argument ∷ arguments) zero all = all.0
   argument_holds (argument ∷ arguments) (suc k) all = argument_holds arguments k all.1
 
   replacement_holds : (arguments : List (List Read)) (token : Token) (k : Option ℕ) (entries : List Entry)
-      → Each (λ tokens. Each (HoldsOfRead Q) tokens) arguments → Q token → HoldInList entries → HoldInList (replacement arguments token k entries)
+      → HoldInLists Q arguments → Q token → HoldInList entries → HoldInList (replacement arguments token k entries)
   replacement_holds arguments token None entries all q h = (q, h)
   replacement_holds arguments token (Some k) entries all q h = followed_hold (unwrap_or (slice_get arguments k) []) entries (argument_holds arguments k all) h
 
   replaced_holds : (parameters : List Name) (arguments : List (List Read)) (body : List Token) (entries : List Entry)
-      → Each (λ tokens. Each (HoldsOfRead Q) tokens) arguments → Each Q body → HoldInList entries → HoldInList (body_before parameters arguments body entries)
+      → HoldInLists Q arguments → Each Q body → HoldInList entries → HoldInList (body_before parameters arguments body entries)
   replaced_holds parameters arguments [] entries all q h = h
   replaced_holds parameters arguments (token ∷ body) entries all q h =
       replacement_holds arguments token (parameter_of parameters token.value) (body_before parameters arguments body entries) all q.0
@@ -86,26 +96,26 @@ module _ (Q : Token → Type 0) (L : ℕ → Type 0) where
 
   -- a macro's replacement has it where its body, its arguments and its line have it
   pub spliced_holds : (name : Name) (definition : Definition) (line : ℕ) (arguments : List (List Read)) (entries : List Entry)
-      → Each Q definition.body → L line → Each (λ tokens. Each (HoldsOfRead Q) tokens) arguments → HoldInList entries
+      → Each Q definition.body → L line → HoldInLists Q arguments → HoldInList entries
       → HoldInList (macro_before name definition line arguments entries)
   spliced_holds name definition line arguments entries body l all h =
       replaced_holds definition.parameters arguments definition.body (End (record { name = name; line = line }) ∷ entries) all body (l, h)
 
   cut_holds : (parts : Bool) (token : Read) (cut : Pieces) → Q token.token → Each (HoldsOfRead Q) cut.first
-      → Each (λ tokens. Each (HoldsOfRead Q) tokens) cut.others
-      → Each (HoldsOfRead Q) (cut_before parts token cut).first × Each (λ tokens. Each (HoldsOfRead Q) tokens) (cut_before parts token cut).others
+      → HoldInLists Q cut.others
+      → Each (HoldsOfRead Q) (cut_before parts token cut).first × HoldInLists Q (cut_before parts token cut).others
   cut_holds true token cut q first others = (tt, (first, others))
   cut_holds false token cut q first others = ((q, first), others)
 
   pieces_hold : (n : ℕ) (tokens : List Read) → Each (HoldsOfRead Q) tokens
-      → Each (HoldsOfRead Q) (pieces n tokens).first × Each (λ ts. Each (HoldsOfRead Q) ts) (pieces n tokens).others
+      → Each (HoldsOfRead Q) (pieces n tokens).first × HoldInLists Q (pieces n tokens).others
   pieces_hold n [] all = (tt, tt)
   pieces_hold n (token ∷ tokens) all =
       let later = pieces_hold (nesting_after n token.token.value) tokens all.1 in
       cut_holds (is_comma token.token.value && (n == 0)) token (pieces (nesting_after n token.token.value) tokens) all.0 later.0 later.1
 
   -- the arguments of a call have it where the tokens between its parentheses have it
-  pub arguments_hold : (tokens : List Read) → Each (HoldsOfRead Q) tokens → Each (λ ts. Each (HoldsOfRead Q) ts) (arguments_of tokens)
+  pub arguments_hold : (tokens : List Read) → Each (HoldsOfRead Q) tokens → HoldInLists Q (arguments_of tokens)
   arguments_hold tokens all =
       let cut = pieces_hold 0 tokens all in
       (cut.0, cut.1)

@@ -7,7 +7,7 @@ use Rattle.pp_lexer.specs.declared.token.PreprocessorError.{PreprocessorError}
 use Rattle.pp_lexer.specs.declared.token.PreprocessorError.TheVariants.{RecursionLimitReached}
 use Rattle.pp_lexer.specs.declared.token.Token.{Token}
 use Rattle.pp_lexer.specs.declared.token.TokenValue.{TokenValue}
-use Rattle.pp_lexer.specs.declared.token.TokenValue.TheVariants.{Ident, Integer, Float, Punct, Version, Extension, Pragma}
+use Rattle.pp_lexer.specs.declared.token.TokenValue.TheVariants.{Ident}
 use Rattle.pp_model.specs.Names.{Name}
 use Rattle.pp_model.specs.Definitions.{Definition, Definitions}
 use Rattle.pp_model.specs.Reading.{Reading, Expander, Opening, opening_of, opening, masked_names, Listed, argument_reading, reading_of}
@@ -15,12 +15,11 @@ use Rattle.pp_model.specs.inner.Reading.{first_listed, opening_by, after_listed}
 use Rattle.pp_model.specs.Taking.{Takes, Fetches, held, listed, read}
 use Rattle.pp_model.specs.Calls.{Gathered, before, Fault, Gathers, closed, inside, overfull, ended, failed, Answers, Site, misfit, Called, no_call, refused, fits, called_by, Calls, alone, broken, whole}
 use Rattle.pp_model.specs.Emitting.{with_macro, Emits, itself, object, name_alone, call_refused, call, Collects, done, failed as failing, item, Alones, Each as Expanded, none, first_failed, more, answers_by, ExpandsArguments, answers_at, Alone}
-use Rattle.pp_model.specs.inner.Emitting.{read_before, list_before}
 use Rattle.pp_model.specs.declared.read.Read.{Read}
 use Rattle.pp_model.specs.declared.read.Taken.{Taken}
 use Rattle.pp_model.specs.declared.read.Taken.TheVariants as taken
 use Rattle.pp_model.specs.declared.splice.Entry.TheVariants.{Plain}
-use Rattle.pp_model.proofs.HoldingLemmas.{AreClosed, HoldInBodies, HoldsOfRead, HoldsOfTaken, HoldsOfHeld, HoldInList, after_marks_hold, spliced_holds, arguments_hold, taken_holds, read_holds, painted_holds}
+use Rattle.pp_model.proofs.HoldingLemmas.{more_holds, HoldInLists, AreClosed, HoldInBodies, HoldsOfRead, HoldsOfTaken, HoldsOfHeld, HoldInList, after_marks_hold, spliced_holds, arguments_hold, taken_holds, read_holds, painted_holds}
 
 module _ (Q : Token → Type 0) (L : ℕ → Type 0) where
   -- a reader keeps it where this holds of the reader
@@ -32,7 +31,7 @@ module _ (Q : Token → Type 0) (L : ℕ → Type 0) where
   -- so does what calls come to
   abbrev pub AnswersKeep : Answers → Type 0
   AnswersKeep A = (definition : Definition) (site : Site) (answer : Result (List (List Read)) Fault) → A definition site answer
-      → HoldInBodies Q site.visible → Each (λ ts. Each (HoldsOfRead Q) ts) site.arguments → IfOk answer (λ lists. Each (λ ts. Each (HoldsOfRead Q) ts) lists)
+      → HoldInBodies Q site.visible → HoldInLists Q site.arguments → IfOk answer (HoldInLists Q)
 
   -- it holds of what an expander holds, lists and reads
   pub record HoldsOf {R : Type 0} (K : R → Type 0) (e : Expander R) : Type 0 where
@@ -46,7 +45,7 @@ module _ (Q : Token → Type 0) (L : ℕ → Type 0) where
   abbrev pub HoldsOfCalled : Called → Type 0
   HoldsOfCalled (no_call o) = HoldsOfTaken Q o
   HoldsOfCalled (refused fault) = ⊤
-  HoldsOfCalled (fits arguments line) = Each (λ ts. Each (HoldsOfRead Q) ts) arguments × L line
+  HoldsOfCalled (fits arguments line) = HoldInLists Q arguments × L line
 
 module _ (Q : Token → Type 0) (L : ℕ → Type 0) (closed_under : AreClosed Q L) where
   gathered_more : (token : Read) (rest : Result Gathered Fault) → Q token.token → IfOk rest (HoldsOfGathered Q L)
@@ -54,18 +53,7 @@ module _ (Q : Token → Type 0) (L : ℕ → Type 0) (closed_under : AreClosed Q
   gathered_more token (Ok rest) q h = ((q, h.0), h.1)
   gathered_more token (Err fault) q h = tt
 
-  token_more : (token : Read) (rest : Result (List Read) Fault) → Q token.token → IfOk rest (Each (HoldsOfRead Q))
-      → IfOk (read_before token rest) (Each (HoldsOfRead Q))
-  token_more token (Ok rest) q h = (q, h)
-  token_more token (Err fault) q h = tt
-
-  list_more : (tokens : List Read) (rest : Result (List (List Read)) Fault) → Each (HoldsOfRead Q) tokens
-      → IfOk rest (λ lists. Each (λ ts. Each (HoldsOfRead Q) ts) lists)
-      → IfOk (list_before tokens rest) (λ lists. Each (λ ts. Each (HoldsOfRead Q) ts) lists)
-  list_more tokens (Ok rest) q h = (q, h)
-  list_more tokens (Err fault) q h = tt
-
-  called_holds : (line : ℕ) (answer : Result (List (List Read)) Fault) → L line → IfOk answer (λ lists. Each (λ ts. Each (HoldsOfRead Q) ts) lists)
+  called_holds : (line : ℕ) (answer : Result (List (List Read)) Fault) → L line → IfOk answer (HoldInLists Q)
       → HoldsOfCalled Q L (called_by line answer)
   called_holds line (Ok lists) l h = (h, l)
   called_holds line (Err fault) l h = tt
@@ -97,55 +85,52 @@ module _ (Q : Token → Type 0) (L : ℕ → Type 0) (closed_under : AreClosed Q
 
     fetching_keeps : (o : Taken) (e f : Expander R) → Fetches I e o f → HoldsOf Q L K e → HoldsOfTaken Q o × HoldsOf Q L K f
     fetching_keeps o e f (held o1 e1 f1 is p) h = (
-      subst (λ (x : Option Taken). HoldsOfHeld Q x) is h.held,
-      subst (λ (g : Expander R). HoldsOf Q L K g) (sym p) (record { held = tt; list = h.list; reader = h.reader }),
+      rw is at h.held,
+      rw p (record { held = tt; list = h.list; reader = h.reader }),
     )
     fetching_keeps o e f (listed o1 token rest e1 f1 is b q p) h =
         let all : HoldInList Q L (Plain token ∷ rest) = subst (HoldInList Q L) b (after_marks_hold Q L e.list h.list) in (
-          subst (HoldsOfTaken Q) (sym q) (taken_holds Q L closed_under (I.shown_line e.reader) (keeps.shown e.reader h.reader) rest token all.1 all.0),
-          subst (λ (g : Expander R). HoldsOf Q L K g) (sym p) (record { held = h.held; list = all.1; reader = h.reader }),
+          rw q (taken_holds Q L closed_under (I.shown_line e.reader) (keeps.shown e.reader h.reader) rest token all.1 all.0),
+          rw p (record { held = h.held; list = all.1; reader = h.reader }),
         )
     fetching_keeps o e f (read x o1 reader e1 f1 is b r q p) h =
         let more = keeps.reads e.reader reader x r h.reader in (
-          subst (HoldsOfTaken Q) (sym q) (read_holds Q L closed_under (I.shown_line reader) (keeps.shown reader more.1) x more.0),
-          subst (λ (g : Expander R). HoldsOf Q L K g) (sym p) (record { held = h.held; list = tt; reader = more.1 }),
+          rw q (read_holds Q L closed_under (I.shown_line reader) (keeps.shown reader more.1) x more.0),
+          rw p (record { held = h.held; list = tt; reader = more.1 }),
         )
 
     pub taking_keeps : (o : Taken) (e f : Expander R) → Takes I e o f → HoldsOf Q L K e → HoldsOfTaken Q o × HoldsOf Q L K f
     taking_keeps o e f t h =
         let there = fetching_keeps t.first e f t.fetches h in
-        (subst (HoldsOfTaken Q) (sym t.paints) (painted_holds Q L (masked_names f) t.first there.0), there.1)
+        (rw t.paints (painted_holds Q L (masked_names f) t.first there.0), there.1)
 
     pub gathering_keeps : (n : ℕ) (last : Location) (x : Result Gathered Fault) (e f : Expander R) → Gathers I n last e x f → HoldsOf Q L K e
         → IfOk x (HoldsOfGathered Q L) × HoldsOf Q L K f
     gathering_keeps n last x e f (closed n1 l1 token e1 f1 x1 t is p) h =
         let taken = taking_keeps _ e f t h in
-        (subst (λ (y : Result Gathered Fault). IfOk y (HoldsOfGathered Q L)) (sym p) (tt, closed_under.line token.token taken.0), taken.1)
+        (rw p (tt, closed_under.line token.token taken.0), taken.1)
     gathering_keeps n last x e f (inside n1 k l1 token e1 g f1 rest x1 t is u p) h =
         let taken = taking_keeps (taken.Token token) e g t h in
         let later = gathering_keeps k token.token.location rest g f u taken.1 in
-        (subst (λ (y : Result Gathered Fault). IfOk y (HoldsOfGathered Q L)) (sym p) (gathered_more token rest taken.0 later.0), later.1)
-    gathering_keeps n last x e f (overfull n1 l1 token e1 f1 x1 t is p) h =
-        (subst (λ (y : Result Gathered Fault). IfOk y (HoldsOfGathered Q L)) (sym p) tt, (taking_keeps _ e f t h).1)
-    gathering_keeps n last x e f (ended n1 l1 e1 f1 x1 t p) h =
-        (subst (λ (y : Result Gathered Fault). IfOk y (HoldsOfGathered Q L)) (sym p) tt, (taking_keeps _ e f t h).1)
-    gathering_keeps n last x e f (failed n1 l1 fault e1 f1 x1 t p) h =
-        (subst (λ (y : Result Gathered Fault). IfOk y (HoldsOfGathered Q L)) (sym p) tt, (taking_keeps _ e f t h).1)
+        (rw p (gathered_more token rest taken.0 later.0), later.1)
+    gathering_keeps n last x e f (overfull n1 l1 token e1 f1 x1 t is p) h = (rw p tt, (taking_keeps _ e f t h).1)
+    gathering_keeps n last x e f (ended n1 l1 e1 f1 x1 t p) h = (rw p tt, (taking_keeps _ e f t h).1)
+    gathering_keeps n last x e f (failed n1 l1 fault e1 f1 x1 t p) h = (rw p tt, (taking_keeps _ e f t h).1)
 
     module _ (A : Answers) (answers : AnswersKeep Q L A) where
       pub call_keeps : (m : Definition) (c : Called) (e f : Expander R) → Calls I A m e c f → HoldsOf Q L K e → HoldsOfCalled Q L c × HoldsOf Q L K f
       call_keeps m c e f (alone x e1 f1 c1 t is p) h =
           let taken = taking_keeps x e f t h in
-          (subst (HoldsOfCalled Q L) (sym p) taken.0, taken.1)
+          (rw p taken.0, taken.1)
       call_keeps m c e f (broken x paren fault e1 g f1 c1 t is u p) h =
-          (subst (HoldsOfCalled Q L) (sym p) tt, (gathering_keeps 0 paren (Err fault) g f u (taking_keeps x e g t h).1).1)
+          (rw p tt, (gathering_keeps 0 paren (Err fault) g f u (taking_keeps x e g t h).1).1)
       call_keeps m c e f (whole x paren gathered answer e1 g f1 c1 t is u a p) h =
           let later = gathering_keeps 0 paren (Ok gathered) g f u (taking_keeps x e g t h).1 in
           let lists = answers m _ answer a (keeps.visible f.reader later.1.reader) (arguments_hold Q L gathered.tokens later.0.0) in
-          (subst (HoldsOfCalled Q L) (sym p) (called_holds gathered.closing.line answer later.0.1 lists), later.1)
+          (rw p (called_holds gathered.closing.line answer later.0.1 lists), later.1)
 
       opening_keeps : (m : Opening) (line : ℕ) (arguments : List (List Read)) (e : Expander R) → Each Q m.definition.body → L line
-          → Each (λ ts. Each (HoldsOfRead Q) ts) arguments → HoldsOf Q L K e → HoldsOf Q L K (with_macro m line arguments e)
+          → HoldInLists Q arguments → HoldsOf Q L K e → HoldsOf Q L K (with_macro m line arguments e)
       opening_keeps m line arguments e body l all h = record {
         held = h.held;
         list = spliced_holds Q L m.name m.definition line arguments e.list body l all h.list;
@@ -162,12 +147,11 @@ module _ (Q : Token → Type 0) (L : ℕ → Type 0) (closed_under : AreClosed Q
       item_keeps o e f (name_alone x y o1 m e1 g g1 f1 t is k c p q) h =
           let taken = taking_keeps x e g t h in
           let called = call_keeps m.definition (no_call y) g g1 c taken.1 in (
-            subst (HoldsOfTaken Q) (sym p) taken.0,
-            subst (λ (z : Expander R). HoldsOf Q L K z) (sym q)
-                (record { held = called.0; list = called.1.list; reader = called.1.reader }),
+            rw p taken.0,
+            rw q (record { held = called.0; list = called.1.list; reader = called.1.reader }),
           )
       item_keeps o e f (call_refused x o1 fault m e1 g f1 t is k c p) h =
-          (subst (HoldsOfTaken Q) (sym p) tt, (call_keeps m.definition (refused fault) g f c (taking_keeps x e g t h).1).1)
+          (rw p tt, (call_keeps m.definition (refused fault) g f c (taking_keeps x e g t h).1).1)
       item_keeps o e f (call x o1 arguments line m e1 g g1 f1 t is k c i) h =
           let taken = taking_keeps x e g t h in
           let by = opened_holds g x m is taken.1 taken.0 in
@@ -175,11 +159,11 @@ module _ (Q : Token → Type 0) (L : ℕ → Type 0) (closed_under : AreClosed Q
           item_keeps o (with_macro m line arguments g1) f i (opening_keeps m line arguments g1 by.0 called.0.1 called.0.0 called.1)
 
       pub list_keeps : (x : Result (List Read) Fault) (e : Expander R) → Collects I A e x → HoldsOf Q L K e → IfOk x (Each (HoldsOfRead Q))
-      list_keeps x e (done e1 f x1 i p) h = subst (λ (y : Result (List Read) Fault). IfOk y (Each (HoldsOfRead Q))) (sym p) tt
-      list_keeps x e (failing fault e1 f x1 i p) h = subst (λ (y : Result (List Read) Fault). IfOk y (Each (HoldsOfRead Q))) (sym p) tt
+      list_keeps x e (done e1 f x1 i p) h = rw p tt
+      list_keeps x e (failing fault e1 f x1 i p) h = rw p tt
       list_keeps x e (item token rest x1 e1 f i c p) h =
           let given = item_keeps (taken.Token token) e f i h in
-          subst (λ (y : Result (List Read) Fault). IfOk y (Each (HoldsOfRead Q))) (sym p) (token_more token rest given.0 (list_keeps rest f c given.1))
+          rw p (more_holds (HoldsOfRead Q) token rest given.0 (list_keeps rest f c given.1))
 
   -- a list of tokens has it where its tokens have it, and the definitions that are seen
   abbrev HoldsOfListed : Listed → Type 0
@@ -199,8 +183,8 @@ module _ (Q : Token → Type 0) (L : ℕ → Type 0) (closed_under : AreClosed Q
   listed_keeps : ReaderKeeps Q L argument_reading HoldsOfListed
   listed_keeps = record {
     reads = λ old new x is h. (
-      subst (HoldsOfTaken Q) (sym is.0) (first_holds old.tokens h.0),
-      subst HoldsOfListed (sym is.1) (after_holds old.tokens h.0, h.1),
+      rw is.0 (first_holds old.tokens h.0),
+      rw is.1 (after_holds old.tokens h.0, h.1),
     );
     visible = λ r h. h.1;
     shown = λ r h line n l e. subst L (same_line line n e) l;
@@ -213,27 +197,25 @@ module _ (Q : Token → Type 0) (L : ℕ → Type 0) (closed_under : AreClosed Q
 
   each_keeps : (deeper : Alones) → AloneKeeps deeper → (visible : Definitions) (hidden : List Name) (arguments : List (List Read))
       (out : Result (List (List Read)) Fault) → Expanded deeper visible hidden arguments out
-      → HoldInBodies Q visible → Each (λ ts. Each (HoldsOfRead Q) ts) arguments → IfOk out (λ lists. Each (λ ts. Each (HoldsOfRead Q) ts) lists)
-  each_keeps deeper keeps visible hidden arguments out (none out1 p) v all =
-      subst (λ (y : Result (List (List Read)) Fault). IfOk y (λ lists. Each (λ ts. Each (HoldsOfRead Q) ts) lists)) (sym p) tt
-  each_keeps deeper keeps visible hidden arguments out (first_failed t ts c out1 a p) v all =
-      subst (λ (y : Result (List (List Read)) Fault). IfOk y (λ lists. Each (λ ts. Each (HoldsOfRead Q) ts) lists)) (sym p) tt
+      → HoldInBodies Q visible → HoldInLists Q arguments → IfOk out (HoldInLists Q)
+  each_keeps deeper keeps visible hidden arguments out (none out1 p) v all = rw p tt
+  each_keeps deeper keeps visible hidden arguments out (first_failed t ts c out1 a p) v all = rw p tt
   each_keeps deeper keeps visible hidden arguments out (more t c ts r out1 a later p) v all =
-      subst (λ (y : Result (List (List Read)) Fault). IfOk y (λ lists. Each (λ ts. Each (HoldsOfRead Q) ts) lists)) (sym p)
-      (list_more c r (keeps t visible hidden (Ok c) a all.0 v) (each_keeps deeper keeps visible hidden ts r later v all.1))
+      rw p
+      (more_holds (Each (HoldsOfRead Q)) c r (keeps t visible hidden (Ok c) a all.0 v) (each_keeps deeper keeps visible hidden ts r later v all.1))
 
   abbrev ExpansionKeeps : (Site → Result (List (List Read)) Fault → Type 0) → Type 0
   ExpansionKeeps Fitting = (site : Site) (out : Result (List (List Read)) Fault) → Fitting site out
-      → HoldInBodies Q site.visible → Each (λ ts. Each (HoldsOfRead Q) ts) site.arguments → IfOk out (λ lists. Each (λ ts. Each (HoldsOfRead Q) ts) lists)
+      → HoldInBodies Q site.visible → HoldInLists Q site.arguments → IfOk out (HoldInLists Q)
 
-  refused_keeps : (fault : Fault) (out : Result (List (List Read)) Fault) → out ≡ Err fault → IfOk out (λ lists. Each (λ ts. Each (HoldsOfRead Q) ts) lists)
-  refused_keeps fault out is = subst (λ (y : Result (List (List Read)) Fault). IfOk y (λ lists. Each (λ ts. Each (HoldsOfRead Q) ts) lists)) (sym is) tt
+  refused_keeps : (fault : Fault) (out : Result (List (List Read)) Fault) → out ≡ Err fault → IfOk out (HoldInLists Q)
+  refused_keeps fault out is = rw is tt
 
   answers_by_keep : (Fitting : Site → Result (List (List Read)) Fault → Type 0) → ExpansionKeeps Fitting → AnswersKeep Q L (answers_by Fitting)
   answers_by_keep Fitting keeps definition site out is v all = decided (misfit definition.parameters site.arguments) is
     where
       decided : (error : Option PreprocessorError) → MatchOption error (Fitting site out) (λ error. out ≡ Err (error, site.paren))
-          → IfOk out (λ lists. Each (λ ts. Each (HoldsOfRead Q) ts) lists)
+          → IfOk out (HoldInLists Q)
       decided None is = keeps site out is v all
       decided (Some error) is = refused_keeps (error, site.paren) out is
 

@@ -4,6 +4,7 @@ use Rattle.std.specs.Prelude.{⊤, IfOk, Result, Ok, Err}
 use Rattle.std.specs.List.{AllByRecursion as Each}
 use Rattle.pp_lexer.specs.Items.{Lexeme}
 use Rattle.pp_lexer.specs.Lexed.{Seen}
+use Rattle.pp_lexer.specs.declared.lexer.item.Token.{Token as LexerToken}
 use Rattle.pp_lexer.specs.declared.token.Location.{Location}
 use Rattle.pp_lexer.specs.declared.token.Token.{Token}
 use Rattle.pp_model.specs.Names.{Name}
@@ -13,9 +14,12 @@ use Rattle.pp_model.specs.Calls.{Fault}
 use Rattle.pp_model.specs.inner.Emitting.{token_before}
 use Rattle.pp_model.specs.Lines.{line_tokens, first_name, name_of}
 use Rattle.pp_model.specs.inner.Lines.{tokens_from, after_first_token}
+use Rattle.pp_model.specs.Run.{content_tokens}
+use Rattle.pp_model.specs.inner.Run.{content_from}
 use Rattle.pp_expression.specs.Answers.{◌>>=◌}
 use Rattle.pp_model.specs.DefineLines.{Parameters, new_parameter, after_parameter, after_comma, parameters, has_parameters, definition_at, defined_on}
-use Rattle.pp_model.proofs.PartsLemmas.{line_tokens_is}
+use Rattle.pp_model.proofs.PartsLemmas.{line_tokens_is, content_tokens_is}
+use Rattle.pp_model.proofs.HoldingLemmas.{more_holds}
 
 if_ok_then : {A B : Type 0} (P : A → Type 0) (Q : B → Type 0) (result : Result A Fault) (next : A → Result B Fault) → IfOk result P
     → ((a : A) → P a → IfOk (next a) Q) → IfOk (result >>= next) Q
@@ -38,20 +42,27 @@ module _ (Q : Token → Type 0) where
   abbrev pub HoldInItems : List Seen → Type 0
   HoldInItems items = Each (λ s. HoldsOfLexeme s.item) items
 
-  token_before_holds : (token : Token) (later : Result (List Token) Fault) → Q token → IfOk later (Each Q) → IfOk (token_before token later) (Each Q)
-  token_before_holds token (Ok tokens) q h = (q, h)
-  token_before_holds token (Err fault) q h = tt
+  converted_hold : (token : LexerToken) (later : Result (List Token) Fault) → HoldsOfLexeme (Ok token) → IfOk later (Each Q)
+      → IfOk (conversion token >>= λ first. token_before first later) (Each Q)
+  converted_hold token later h all = if_ok_then Q (Each Q) (conversion token) _ h (λ first q. more_holds Q first later q all)
 
   tokens_from_hold : (item : Lexeme) (later : Result (List Token) Fault) → HoldsOfLexeme item → IfOk later (Each Q) → IfOk (tokens_from item later) (Each Q)
   tokens_from_hold (Err fault) later h all = tt
-  tokens_from_hold (Ok token) later h all =
-      either_ok (Each Q) (is_newline token.value) (Ok []) (conversion token >>= λ first. token_before first later) tt
-      (if_ok_then Q (Each Q) (conversion token) (λ first. token_before first later) h (λ first q. token_before_holds first later q all))
+  tokens_from_hold (Ok token) later h all = either_ok (Each Q) (is_newline token.value) (Ok []) _ tt (converted_hold token later h all)
+
+  content_from_holds : (item : Lexeme) (later : Result (List Token) Fault) → HoldsOfLexeme item → IfOk later (Each Q) → IfOk (content_from item later) (Each Q)
+  content_from_holds (Err fault) later h all = tt
+  content_from_holds (Ok token) later h all = either_ok (Each Q) (is_newline token.value) later _ all (converted_hold token later h all)
 
   -- the tokens of a line have it
   pub line_tokens_hold : (rest : List Seen) → HoldInItems rest → IfOk (line_tokens rest) (Each Q)
   line_tokens_hold [] all = tt
   line_tokens_hold (s ∷ rest) all = rw (line_tokens_is s rest) (tokens_from_hold s.item (line_tokens rest) all.0 (line_tokens_hold rest all.1))
+
+  -- so have those of an added content
+  pub content_holds : (items : List Seen) → HoldInItems items → IfOk (content_tokens items) (Each Q)
+  content_holds [] all = tt
+  content_holds (s ∷ rest) all = rw (content_tokens_is s rest) (content_from_holds s.item (content_tokens rest) all.0 (content_holds rest all.1))
 
   pub after_holds : (rest : List Seen) → HoldInItems rest → HoldInItems (after_first_token rest)
   after_holds [] all = tt

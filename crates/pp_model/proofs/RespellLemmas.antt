@@ -12,28 +12,25 @@ use Rattle.pp_lexer.specs.Respelling.{IsSpellable, IsSpelled, lexer_value, item_
 use Rattle.pp_lexer.specs.Spelling.{spelled_text, values_of}
 use Rattle.pp_lexer.specs.Spots.{spots_of}
 use Rattle.pp_lexer.specs.TokenValue.{is_ordinary}
+use Rattle.pp_lexer.specs.declared.lexer.item.Token.{Token as LexerToken}
 use Rattle.pp_lexer.specs.declared.lexer.item.TokenValue.{TokenValue as LexerTokenValue}
-use Rattle.pp_lexer.specs.declared.lexer.item.TokenValue.TheVariants.{Hash, NewLine, Ident as LexerIdent, Integer as LexerInteger, Float as LexerFloat, Punct as LexerPunct}
-use Rattle.pp_lexer.specs.declared.token.Location.{Location}
+use Rattle.pp_lexer.specs.declared.lexer.item.TokenValue.TheVariants.{Hash, NewLine, Punct as LexerPunct}
 use Rattle.pp_lexer.specs.declared.token.Token.{Token}
 use Rattle.pp_lexer.specs.declared.token.TokenValue.{TokenValue}
-use Rattle.pp_lexer.specs.declared.token.TokenValue.TheVariants.{Ident, Integer, Float, Punct, Version, Extension, Pragma}
+use Rattle.pp_lexer.specs.declared.token.TokenValue.TheVariants.{Version, Extension, Pragma}
 use Rattle.pp_lexer.proofs.spelling.RespellingLemmas.{read_back}
 use Rattle.pp_lexer.proofs.spelling.SpelledValuesLemmas.{values_spelled}
 use Rattle.pp_lexer.proofs.items.TokenLinesLemmas.{tokens_have_lines}
 use Rattle.pp_model.specs.Names.{is_identifier, line_name}
-use Rattle.pp_model.specs.Conversions.{is_newline, is_hash, conversion}
+use Rattle.pp_model.specs.Conversions.{is_hash}
 use Rattle.pp_model.specs.Calls.{Fault}
 use Rattle.pp_model.specs.Definitions.{object_like}
 use Rattle.pp_model.specs.Emitting.{answers_at}
-use Rattle.pp_model.specs.inner.Emitting.{token_before}
 use Rattle.pp_model.specs.LineValues.{as_line_number}
-use Rattle.pp_expression.specs.Answers.{◌>>=◌}
 use Rattle.pp_model.specs.Reading.{Expander}
 use Rattle.pp_model.specs.Reads.{source_reading}
 use Rattle.pp_model.specs.RespellLaws.{IsText, HasText, token_of, given_token, given_tokens, IsReadAfresh, RunsAreReadAfresh, calls_for, replies_with}
 use Rattle.pp_model.specs.Run.{by_rules, Call, add_define, next, items_of, content_tokens, start, with_added, Runs, done, added, refused, given, failed}
-use Rattle.pp_model.specs.inner.Run.{content_from}
 use Rattle.pp_model.specs.RunStates.{gives_line_name}
 use Rattle.pp_model.specs.SourceReader.{SourceReader}
 use Rattle.pp_model.specs.declared.call.Reply.{Reply}
@@ -45,11 +42,10 @@ use Rattle.pp_model.specs.declared.read.Taken.TheVariants as taken
 use Rattle.pp_model.specs.Painting.{item_of}
 use Rattle.pp_model.proofs.HoldingLemmas.{AreClosed, HoldsOfTaken}
 use Rattle.pp_model.proofs.KeptTokensLemmas.{ReaderKeeps, HoldsOf, item_keeps, answers_keep}
-use Rattle.pp_model.proofs.LineHoldsLemmas.{HoldsOfLexeme, HoldInItems}
+use Rattle.pp_model.proofs.LineHoldsLemmas.{HoldsOfLexeme, HoldInItems, content_holds}
 use Rattle.pp_model.proofs.RunStatesLemmas.{run_shows_no_line_name}
 use Rattle.pp_model.proofs.SourceHoldsLemmas.{HoldsOfOutcome, DirectiveItemsHold, HoldsOfReader, source_keeps, changed_holds}
 use Rattle.pp_model.proofs.SpelledRunLemmas.{IsNoHash, IsPlain, starts_there, gives_from}
-use Rattle.pp_model.proofs.PartsLemmas.{content_tokens_is}
 
 -- a line whose number can be spelled
 abbrev IsLine : ℕ → Type 0
@@ -84,15 +80,15 @@ shown_is_line (negsuc k) n e = cc
 abbrev HasLines : List Seen → Type 0
 HasLines items = Each (λ s. IfOk s.item (λ token. IsLine token.location.line)) items
 
-good_value : (location : Location) (value : LexerTokenValue) (blank at_start : Bool) → IsSpelled (Ok value) → IsLine location.line
-    → HoldsOfLexeme IsGood (Ok (record { value = value; location = location; leading_whitespace = blank; start_of_line = at_start }))
-good_value location Hash blank at_start h l = tt
-good_value location NewLine blank at_start h l = tt
-good_value location (LexerPunct p) blank at_start h l = (λ o. tt, l)
-good_value location _ blank at_start h l = (λ o. h, l)
+good_value : (token : LexerToken) (value : LexerTokenValue) → IsSpelled (Ok value) → IsLine token.location.line
+    → HoldsOfLexeme IsGood (Ok (record token { value = value }))
+good_value token Hash h l = tt
+good_value token NewLine h l = tt
+good_value token (LexerPunct p) h l = (λ o. tt, l)
+good_value token _ h l = (λ o. h, l)
 
 good_item : (item : Lexeme) → IsSpelled (item_value item) → IfOk item (λ token. IsLine token.location.line) → HoldsOfLexeme IsGood item
-good_item (Ok token) h l = good_value token.location token.value token.leading_whitespace token.start_of_line h l
+good_item (Ok token) h l = good_value token token.value h l
 good_item (Err fault) h l = tt
 
 good_items : (items : List Seen) → All IsSpelled (map (λ s. item_value s.item) items) → HasLines items → HoldInItems IsGood items
@@ -101,31 +97,6 @@ good_items (s ∷ rest) all lines = (
   good_item s.item (All-head IsSpelled (item_value s.item) (map (λ t. item_value t.item) rest) all) lines.0,
   good_items rest (All-tail IsSpelled (item_value s.item) (map (λ t. item_value t.item) rest) all) lines.1,
 )
-
-either_ok : {X : Type 0} (P : X → Type 0) (b : Bool) (x y : Result X Fault) → IfOk x P → IfOk y P → IfOk (if b then x else y) P
-either_ok P true x y h k = h
-either_ok P false x y h k = k
-
-token_before_good : (token : Token) (later : Result (List Token) Fault) → IsGood token → IfOk later (Each IsGood)
-    → IfOk (token_before token later) (Each IsGood)
-token_before_good token (Ok tokens) q h = (q, h)
-token_before_good token (Err fault) q h = tt
-
-converted_good : (converted : Result Token Fault) (later : Result (List Token) Fault) → IfOk converted IsGood → IfOk later (Each IsGood)
-    → IfOk (converted >>= λ first. token_before first later) (Each IsGood)
-converted_good (Ok token) later h all = token_before_good token later h all
-converted_good (Err fault) later h all = tt
-
-content_from_good : (item : Lexeme) (later : Result (List Token) Fault) → HoldsOfLexeme IsGood item → IfOk later (Each IsGood)
-    → IfOk (content_from item later) (Each IsGood)
-content_from_good (Err fault) later h all = tt
-content_from_good (Ok token) later h all = either_ok (Each IsGood) (is_newline token.value) later
-    (conversion token >>= λ first. token_before first later) all (converted_good (conversion token) later h all)
-
--- the tokens of an added content are good
-content_good : (items : List Seen) → HoldInItems IsGood items → IfOk (content_tokens items) (Each IsGood)
-content_good [] all = tt
-content_good (s ∷ rest) all = rw (content_tokens_is s rest) (content_from_good s.item (content_tokens rest) all.0 (content_good rest all.1))
 
 item_good : (x : Taken) → HoldsOfTaken IsGood x → HoldsOfOutcome IsGood (item_of x)
 item_good (taken.Token token) q = q
@@ -161,12 +132,12 @@ module _ (level : ℕ) where
   keeps = source_keeps IsGood IsLine good_closed good_directives (answers_at level) shown_is_line
 
   added_good : (content : List ℕ) (tokens : List Token) → IsText content → content_tokens (items_of content) ≡ Ok tokens → Each IsGood tokens
-  added_good content tokens t e = subst (λ (r : Result (List Token) Fault). IfOk r (Each IsGood)) e (content_good (items_of content) (text_good content t))
+  added_good content tokens t e = subst (λ (r : Result (List Token) Fault). IfOk r (Each IsGood)) e (content_holds IsGood (items_of content) (text_good content t))
 
   -- each token that a run gives is good
   given_are_good : (e : Expander SourceReader) (calls : List Call) (replies : List Reply) → Runs (by_rules (answers_at level)) e calls replies
       → All HasText calls → HoldsOf IsGood IsLine K e → Each IsGood (given_tokens replies)
-  given_are_good e calls replies (done e1 r1 p) texts h = subst (λ (rs : List Reply). Each IsGood (given_tokens rs)) (sym p) tt
+  given_are_good e calls replies (done e1 r1 p) texts h = rw p tt
   given_are_good e calls replies (added name content tokens e1 more rest r1 is runs p) texts h =
       let body = added_good content tokens (All-head HasText (add_define name content) more texts) is in
       let after : HoldsOf IsGood IsLine K (with_added (chars name) tokens e) =
@@ -178,18 +149,16 @@ module _ (level : ℕ) where
           changed_holds IsGood IsLine good_closed e.reader.definitions (chars name) (Some (object_like tokens)) h.reader.1 body,
         );
       } in
-      subst (λ (rs : List Reply). Each IsGood (given_tokens rs)) (sym p)
-      (given_are_good (with_added (chars name) tokens e) more rest runs (All-tail HasText (add_define name content) more texts) after)
+      rw p (given_are_good (with_added (chars name) tokens e) more rest runs (All-tail HasText (add_define name content) more texts) after)
   given_are_good e calls replies (refused name content fault e1 more rest r1 is runs p) texts h =
-      subst (λ (rs : List Reply). Each IsGood (given_tokens rs)) (sym p)
-      (given_are_good e more rest runs (All-tail HasText (add_define name content) more texts) h)
+      rw p (given_are_good e more rest runs (All-tail HasText (add_define name content) more texts) h)
   given_are_good e calls replies (given o e1 f more rest r1 item is runs p) texts h =
       let after = item_keeps IsGood IsLine good_closed (source_reading (answers_at level)) K keeps (answers_at level)
       (answers_keep IsGood IsLine good_closed level) item.taken e f item.emits h in
-      subst (λ (rs : List Reply). Each IsGood (given_tokens rs)) (sym p)
+      rw p
       (given_good o (given_tokens rest) (subst (HoldsOfOutcome IsGood) (sym item.is) (item_good item.taken after.0))
       (given_are_good f more rest runs (All-tail HasText next more texts) after.1))
-  given_are_good e calls replies (failed fault e1 f more r1 item p) texts h = subst (λ (rs : List Reply). Each IsGood (given_tokens rs)) (sym p) tt
+  given_are_good e calls replies (failed fault e1 f more r1 item p) texts h = rw p tt
 
   run_is_good : (text : List ℕ) (calls : List Call) (replies : List Reply) → IsText text → All HasText calls
       → Runs (by_rules (answers_at level)) (start (items_of text)) calls replies → Each IsGood (given_tokens replies)
@@ -225,13 +194,10 @@ module _ (level : ℕ) where
   spellable (value ∷ values) all = All-cons IsSpellable value values all.0.0 (spellable values all.1)
 
   no_hash_value : (value : TokenValue) → IsSpellable value → is_hash (lexer_value value) ≡ false
-  no_hash_value (Ident name) h = refl
-  no_hash_value (Integer i) h = refl
-  no_hash_value (Float f) h = refl
-  no_hash_value (Punct p) h = refl
   no_hash_value (Version v) h = absurd h
   no_hash_value (Extension x) h = absurd h
   no_hash_value (Pragma p) h = absurd h
+  no_hash_value _ h = refl
 
   no_hash_before : (values : List TokenValue) (last : List LexerTokenValue) → Each IsPlain values → Each (λ v. is_hash v ≡ false) last
       → Each (λ v. is_hash v ≡ false) (map lexer_value values ++ last)

@@ -1,5 +1,5 @@
 -- The run of a text of ordinary tokens with a newline after them: it gives the tokens, and then the end.
-use Rattle.std.proofs.Common.{◌≡◌, ◌∙◌, ◌⊎◌, inl, inr, ℕ, zero, suc, pos, ◌+◌, Bool, true, false, ◌||◌, if◌then◌else◌, List, [], ◌∷◌, ◌++◌, length, take, drop, map, refl, ap, sym, Option, Some, None, arith}
+use Rattle.std.proofs.Common.{◌≡◌, ◌∙◌, ◌⊎◌, inl, inr, ℕ, suc, pos, ◌+◌, Bool, true, false, ◌||◌, if◌then◌else◌, List, [], ◌∷◌, ◌++◌, length, take, drop, map, refl, ap, sym, subst, Option, Some, None, arith}
 use Rattle.std.specs.Prelude.{Result, Ok, Err, unwrap_or}
 use Rattle.std.specs.List.{AllByRecursion as Each, cons_option, list_all}
 use Rattle.std.proofs.lemmas.List.{drop-drop}
@@ -9,12 +9,12 @@ use Rattle.pp_lexer.specs.Respelling.{IsSpellable, lexer_value, item_value}
 use Rattle.pp_lexer.specs.Spelling.{values_of}
 use Rattle.pp_lexer.specs.declared.lexer.item.Token.{Token as LexerToken}
 use Rattle.pp_lexer.specs.declared.lexer.item.TokenValue.{TokenValue as LexerTokenValue}
-use Rattle.pp_lexer.specs.declared.lexer.item.TokenValue.TheVariants.{Hash, NewLine, Ident as LexerIdent, Integer as LexerInteger, Float as LexerFloat, Punct as LexerPunct}
+use Rattle.pp_lexer.specs.declared.lexer.item.TokenValue.TheVariants.{Hash, NewLine}
 use Rattle.pp_lexer.specs.declared.token.Location.{Location}
 use Rattle.pp_lexer.specs.declared.token.PreprocessorError.{PreprocessorError}
 use Rattle.pp_lexer.specs.declared.token.Token.{Token}
 use Rattle.pp_lexer.specs.declared.token.TokenValue.{TokenValue}
-use Rattle.pp_lexer.specs.declared.token.TokenValue.TheVariants.{Ident, Integer, Float, Punct, Version, Extension, Pragma}
+use Rattle.pp_lexer.specs.declared.token.TokenValue.TheVariants.{Ident, Version, Extension, Pragma}
 use Rattle.pp_model.specs.Names.{is_identifier, line_name}
 use Rattle.pp_model.specs.Conversions.{is_hash}
 use Rattle.pp_model.specs.inner.Definitions.{nothing_defined}
@@ -50,15 +50,15 @@ IsNoHash s = (value : LexerTokenValue) × (item_value s.item ≡ Ok value) × (i
 same_value : (token : LexerToken) (value : LexerTokenValue) → item_value (Ok token) ≡ Ok value → token.value ≡ value
 same_value token value e = cc
 
-quiet_value : (position : ℕ) (location : Location) (value : LexerTokenValue) (blank at_start : Bool) (rest : List Seen) → is_hash value ≡ false
-    → line_at position (token_sight (record { value = value; location = location; leading_whitespace = blank; start_of_line = at_start }) rest) ≡ None
-quiet_value position location Hash blank at_start rest e = cc
-quiet_value position location _ blank at_start rest e = refl
+quiet_value : (position : ℕ) (token : LexerToken) (value : LexerTokenValue) (rest : List Seen) → is_hash value ≡ false
+    → line_at position (token_sight (record token { value = value }) rest) ≡ None
+quiet_value position token Hash rest e = cc
+quiet_value position token NewLine rest e = refl
+quiet_value position token _ rest e = refl
 
 quiet_item : (position : ℕ) (item : Lexeme) (rest : List Seen) (value : LexerTokenValue) → item_value item ≡ Ok value → is_hash value ≡ false
     → line_at position (item_sight item rest) ≡ None
-quiet_item position (Ok token) rest value e none =
-    quiet_value position token.location token.value token.leading_whitespace token.start_of_line rest (ap is_hash (same_value token value e) ∙ none)
+quiet_item position (Ok token) rest value e none = quiet_value position token token.value rest (ap is_hash (same_value token value e) ∙ none)
 quiet_item position (Err fault) rest value e none = refl
 
 -- where no item is a number sign no line of a block stands
@@ -95,12 +95,7 @@ IsPlain value = IsSpellable value × (is_identifier line_name value ≡ false)
 pub or_none : (b : Bool) (value : TokenValue) → (b || is_one_of [] value) ≡ b
 or_none true value = refl
 or_none false (Ident name) = refl
-or_none false (Integer i) = refl
-or_none false (Float f) = refl
-or_none false (Punct p) = refl
-or_none false (Version v) = refl
-or_none false (Extension x) = refl
-or_none false (Pragma p) = refl
+or_none false _ = refl
 
 module _ (A : Answers) (items : List Seen) (all : Each IsNoHash items) where
   opens_nothing : (position : ℕ) (value : TokenValue) (location : Location)
@@ -205,17 +200,12 @@ module _ (A : Answers) (items : List Seen) (all : Each IsNoHash items) where
   none_there [] e = refl
   none_there (s ∷ rest) e = cc
 
-  plain_value : (location : Location) (value : LexerTokenValue) (blank at_start : Bool) (rest : List Seen) (v : TokenValue) → value ≡ lexer_value v
-      → IsSpellable v
-      → token_sight (record { value = value; location = location; leading_whitespace = blank; start_of_line = at_start }) rest ≡ sight.Token
-      (record { value = v; location = location })
-  plain_value location value blank at_start rest (Ident name) e h = rw e refl
-  plain_value location value blank at_start rest (Integer i) e h = rw e refl
-  plain_value location value blank at_start rest (Float f) e h = rw e refl
-  plain_value location value blank at_start rest (Punct p) e h = rw e refl
-  plain_value location value blank at_start rest (Version v) e h = absurd h
-  plain_value location value blank at_start rest (Extension x) e h = absurd h
-  plain_value location value blank at_start rest (Pragma p) e h = absurd h
+  plain_value : (token : LexerToken) (rest : List Seen) (v : TokenValue) → IsSpellable v
+      → token_sight (record token { value = lexer_value v }) rest ≡ sight.Token (record { value = v; location = token.location })
+  plain_value token rest (Version v) h = absurd h
+  plain_value token rest (Extension x) h = absurd h
+  plain_value token rest (Pragma p) h = absurd h
+  plain_value token rest _ h = refl
 
   abbrev ShowsToken : Lexeme → List Seen → TokenValue → Type 0
   ShowsToken item rest v = (location : Location) × (item_sight item rest ≡ sight.Token (record { value = v; location = location }))
@@ -223,17 +213,14 @@ module _ (A : Answers) (items : List Seen) (all : Each IsNoHash items) where
   plain_item : (item : Lexeme) (rest : List Seen) (v : TokenValue) → item_value item ≡ Ok (lexer_value v) → IsSpellable v → ShowsToken item rest v
   plain_item (Ok token) rest v e h = (
     token.location,
-    plain_value token.location token.value token.leading_whitespace token.start_of_line rest v
-        (same_value token (lexer_value v) e) h,
+    subst (λ (x : LexerTokenValue). token_sight (record token { value = x }) rest ≡ sight.Token (record { value = v; location = token.location }))
+        (sym (same_value token (lexer_value v) e)) (plain_value token rest v h),
   )
   plain_item (Err fault) rest v e h = cc
 
-  newline_value : (location : Location) (value : LexerTokenValue) (blank at_start : Bool) (rest : List Seen) → value ≡ NewLine
-      → token_sight (record { value = value; location = location; leading_whitespace = blank; start_of_line = at_start }) rest ≡ sight.NewLine
-  newline_value location value blank at_start rest e = rw e refl
-
   newline_item : (item : Lexeme) (rest : List Seen) → item_value item ≡ Ok NewLine → item_sight item rest ≡ sight.NewLine
-  newline_item (Ok token) rest e = newline_value token.location token.value token.leading_whitespace token.start_of_line rest (same_value token NewLine e)
+  newline_item (Ok token) rest e =
+      subst (λ (x : LexerTokenValue). token_sight (record token { value = x }) rest ≡ sight.NewLine) (sym (same_value token NewLine e)) refl
   newline_item (Err fault) rest e = cc
 
   newline_last : (position : ℕ) (rest : List Seen) → drop position items ≡ rest → map (λ s. item_value s.item) rest ≡ Ok NewLine ∷ [] → GivesFrom position []
