@@ -1,5 +1,5 @@
 -- Where the lines of blocks are, and so the marks of the open blocks.
-use Rattle.std.proofs.Common.{◌≡◌, ℕ, zero, suc, ◌+◌, ◌≤◌, ◌<◌, Bool, true, false, ◌&&◌, if◌then◌else◌, List, [], ◌∷◌, ◌++◌, length, take, refl, sym, subst, Option, Some, None, arith}
+use Rattle.std.proofs.Common.{◌≡◌, ℕ, zero, suc, ◌+◌, ◌≤◌, ◌<◌, Bool, true, false, ◌&&◌, if◌then◌else◌, List, [], ◌∷◌, ◌++◌, length, take, refl, subst, Option, Some, None, arith}
 use Rattle.std.specs.List.{AllByRecursion as Each, cons_option}
 use Rattle.pp_lexer.specs.Lexed.{Seen}
 use Rattle.pp_lexer.specs.declared.token.Location.{Location}
@@ -37,13 +37,7 @@ part_stands position word None line e = cc
 -- the line of a block stands where its number sign does
 pub line_stands : (position : ℕ) (shown : Sight) (line : BlockLine) → line_at position shown ≡ Some line → line.position ≡ position
 line_stands position (sight.Directive directive word) line e = part_stands position word (part_of directive) line e
-line_stands position sight.End line e = cc
-line_stands position sight.NewLine line e = cc
-line_stands position (sight.Fault fault) line e = cc
-line_stands position (sight.Token token) line e = cc
-line_stands position (sight.Hash location) line e = cc
-line_stands position sight.Lone line e = cc
-line_stands position (sight.NoWord fault) line e = cc
+line_stands position _ line e = cc
 
 stand_later : (from end : ℕ) (lines : List BlockLine) → Each (StandsWithin (from + 1) end) lines → Each (StandsWithin from end) lines
 stand_later from end lines = each_weaker (StandsWithin (from + 1) end) (StandsWithin from end) (λ line there. (omega (arith, there.0), there.1)) lines
@@ -86,8 +80,7 @@ module _ (P : BlockLine → Type 0) where
   pub each_mark : (lines : List BlockLine) → Each P lines → Each (λ block. Each P (marks block)) (open_blocks lines)
   each_mark [] all = tt
   each_mark (line ∷ later) all =
-      subst (λ (blocks : List Block). Each (λ block. Each P (marks block)) blocks) (sym (open_blocks_step line later))
-      (each_block_if (opens line.part && stays_open 0 later) (record { first = line; partings = parting 0 later }) (open_blocks later)
+      rw (open_blocks_step line later) (each_block_if (opens line.part && stays_open 0 later) (record { first = line; partings = parting 0 later }) (open_blocks later)
       (all.0, each_parting 0 later all.1) (each_mark later all.1))
 
 -- all marks of a block stand before a position

@@ -1,5 +1,6 @@
 -- A stack of the blocks that are open, the outermost first, and whether a position is live.
-use Rattle.std.proofs.Common.{◌≡◌, ◌∙◌, ℕ, ◌-◌, Bool, true, ◌&&◌, List, [], ◌∷◌, ◌++◌, length, refl, ap, sym, Some, arith}
+use Rattle.std.proofs.Common.{◌≡◌, ◌∙◌, ℕ, ◌-◌, Bool, true, ◌&&◌, List, [], ◌∷◌, ◌++◌, length, refl, ap, sym, Option, Some, None, arith}
+use Rattle.std.specs.Prelude.{option_map}
 use Rattle.std.specs.List.{AllByRecursion as Each, slice_get, list_all}
 use Rattle.std.proofs.lemmas.List.{length_push}
 use Rattle.std.proofs.lemmas.List.Folds.{list_all-append}
@@ -13,6 +14,11 @@ use Rattle.pp_rs.proofs.blocks.BlockPositionLemmas.{LiesBefore}
 use Rattle.pp_rs.proofs.blocks.TruthLemmas.{with_truth, branch_live_before, taken_branch_before, surroundings_before}
 use Rattle.pp_rs.proofs.blocks.BranchLemmas as branch
 use Rattle.pp_rs.proofs.blocks.CutLinesLemmas.{blocks_around}
+
+-- what is there once it was mapped was there before
+pub mapped_some : {X Y : Type 0} (f : X → Y) (o : Option X) (y : Y) → option_map f o ≡ Some y → (x : X) × (o ≡ Some x) × (f x ≡ y)
+mapped_some f (Some x) y e = (x, refl, cc)
+mapped_some f None y e = cc
 
 -- the innermost block is the last one
 pub innermost_last : (before : List Block) (block : Block) → innermost (before ++ block ∷ []) ≡ Some block

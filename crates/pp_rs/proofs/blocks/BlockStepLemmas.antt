@@ -1,7 +1,7 @@
 -- What each line of a block does to the stack of the open blocks.
 use Rattle.std.proofs.Common.{◌≡◌, ◌∙◌, ℕ, Bool, true, false, ◌&&◌, ◌||◌, not, List, [], ◌∷◌, ◌++◌, take, refl, ap, sym, subst, arith}
 use Rattle.std.proofs.lemmas.Slice.Zip.{all_zipped_more}
-use Rattle.std.proofs.Math.Bool.{or-true}
+use Rattle.std.proofs.Math.Bool.{or-true, or-false}
 use Rattle.pp_lexer.specs.Lexed.{Seen}
 use Rattle.pp_model.specs.Blocks.{block_lines, opens, is_else, Block, open_blocks, blocks_at, Truths, is_live, has_else}
 use Rattle.pp_model.specs.declared.block.BlockLine.{BlockLine}
@@ -104,7 +104,7 @@ module _ (source : List Seen) (line : BlockLine) (next : ℕ) (adds : AddsLine s
             live_around = i.stands.live_around;
             taken = branch.skipped_taken kept.live_around truths i.block line is unread ∙ i.stands.taken;
             with_else = branch.else_parted i.block line ∙ ap (λ other. has_else i.block || other) (ap is_else is)
-                ∙ branch.or_false (has_else i.block) ∙ i.stands.with_else;
+                ∙ or-false (has_else i.block) ∙ i.stands.with_else;
             chosen = branch.skipped_live kept.live_around truths i.block line is unread;
             settled = branch.skipped_settled kept.live_around truths i.block line is unread
                 (ap (λ taken. kept.live_around && not taken) i.stands.taken ∙ skips);
@@ -125,7 +125,7 @@ module _ (source : List Seen) (line : BlockLine) (next : ℕ) (adds : AddsLine s
             live_around = surroundings_before line.position holds truths source i.block (omega (arith, before.0)) ∙ i.stands.live_around;
             taken = branch.elif_taken truths i.block line holds is before settled (i.stands.taken ∙ untaken);
             with_else = branch.else_parted i.block line ∙ ap (λ other. has_else i.block || other) (ap is_else is)
-                ∙ branch.or_false (has_else i.block) ∙ i.stands.with_else;
+                ∙ or-false (has_else i.block) ∙ i.stands.with_else;
             chosen = branch.elif_live truths i.block line holds is before settled (i.stands.taken ∙ untaken);
             settled = subst (λ (around : Bool). IsSettled around (with_truth line.position holds truths) (parted i.block line)) (sym live)
                 (branch.elif_settled truths i.block line holds is before settled (i.stands.taken ∙ untaken));

@@ -1,6 +1,5 @@
 -- Each step of a source keeps what is known of the blocks that its reader has met.
 use Rattle.std.proofs.Common.{◌≡◌, ◌∙◌, Bool, true, false, refl, ap, Option, Some, None}
-use Rattle.std.specs.Prelude.{option_map}
 use Rattle.pp_lexer.specs.declared.token.Location.{Location}
 use Rattle.pp_model.specs.Calls.{Answers}
 use Rattle.pp_model.specs.Sights.{sight_of}
@@ -17,24 +16,12 @@ use Rattle.pp_model.specs.declared.sight.Sight.{Sight}
 use Rattle.pp_model.specs.declared.sight.Sight.TheVariants as sight
 use Rattle.pp_model.proofs.MovesLemmas.{skips, Passes, plain, unread, parting, skipping, closing, Decides, opening, choosing, directive_holds}
 use Rattle.pp_model.proofs.ReadsLemmas.{HoldsAfter, holds_after}
+use Rattle.pp_rs.proofs.blocks.BlockStackLemmas.{mapped_some}
 use Rattle.pp_rs.proofs.blocks.KnownAfterLemmas.{HasRead, one_keeps, bare_keeps, unknown_keeps, line_keeps, opening_keeps, unread_keeps, closing_keeps, parting_keeps, skipping_keeps, choosing_keeps}
 
 -- it is known after each step of this act
 abbrev Keeps : SourceReader → Acted → Type 0
 Keeps r a = HoldsAfter HasRead r a.step a.after
-
--- the innermost block of the facts that the table asks
-record Found (r : SourceReader) (found : BlockFacts) : Type 0 where
-  block : Block
-  here : block_here r ≡ Some block
-  facts : facts_of r block ≡ found
-
-found_here : (r : SourceReader) (found : BlockFacts) → facts_here r ≡ Some found → Found r found
-found_here r found e = go (block_here r) refl e
-  where
-    go : (block : Option Block) → block_here r ≡ block → option_map (facts_of r) block ≡ Some found → Found r found
-    go None is e = cc
-    go (Some block) is e = record { block = block; here = is; facts = (let same : facts_of r block ≡ found = cc in same) }
 
 module _ (r : SourceReader) (b : HasRead r) where
   end_keeps : (block : Option Block) → Keeps r (end_by block r)
@@ -44,23 +31,23 @@ module _ (r : SourceReader) (b : HasRead r) where
   module _ (directive : Directive) (word : Location) (e : sight_of (items_left r) ≡ sight.Directive directive word) where
     part_keeps : part_of directive ≡ Some part.Else → (found : BlockFacts) → facts_here r ≡ Some found → found.has_else ≡ false → HasRead (after_line r)
     part_keeps its found is none =
-        let f = found_here r found is in
-        parting_keeps r b directive word e f.block f.here its (ap (λ facts. facts.has_else) f.facts ∙ none)
+        let (block, here, facts) = mapped_some (facts_of r) (block_here r) found is in
+        parting_keeps r b directive word e block here its (ap (λ f. f.has_else) facts ∙ none)
 
     skip_keeps : part_of directive ≡ Some part.Elif → (found : BlockFacts) → facts_here r ≡ Some found → found.has_else ≡ false → skips found ≡ true
         → HasRead (after_line r)
     skip_keeps its found is none skipped =
-        let f = found_here r found is in
-        skipping_keeps r b directive word e f.block f.here its (ap (λ facts. facts.has_else) f.facts ∙ none) (ap skips f.facts ∙ skipped)
+        let (block, here, facts) = mapped_some (facts_of r) (block_here r) found is in
+        skipping_keeps r b directive word e block here its (ap (λ f. f.has_else) facts ∙ none) (ap skips facts ∙ skipped)
 
     choose_keeps : part_of directive ≡ Some part.Elif → (found : BlockFacts) → facts_here r ≡ Some found → found.has_else ≡ false → skips found ≡ false
         → (holds : Bool) → HasRead (after_condition r holds)
     choose_keeps its found is none reads holds =
-        let f = found_here r found is in
-        choosing_keeps r b directive word e f.block f.here its (ap (λ facts. facts.has_else) f.facts ∙ none) (ap skips f.facts ∙ reads) holds
+        let (block, here, facts) = mapped_some (facts_of r) (block_here r) found is in
+        choosing_keeps r b directive word e block here its (ap (λ f. f.has_else) facts ∙ none) (ap skips facts ∙ reads) holds
 
     close_keeps : part_of directive ≡ Some part.Closes → (found : BlockFacts) → facts_here r ≡ Some found → HasRead (after_line r)
-    close_keeps its found is = let f = found_here r found is in closing_keeps r b directive word e f.block f.here its
+    close_keeps its found is = let (block, here, facts) = mapped_some (facts_of r) (block_here r) found is in closing_keeps r b directive word e block here its
 
     passing_keeps : (live : Bool) → is_live r.items r.truths r.position ≡ live → Passes live (facts_here r) directive → HasRead (after_line r)
     passing_keeps live alive (plain its) = line_keeps r b directive word e its

@@ -2,6 +2,7 @@
 use Rattle.std.proofs.Common.{◌≡◌, ◌∙◌, ℕ, zero, suc, ◌≤◌, ◌<◌, Bool, true, false, ◌&&◌, ◌||◌, not, List, [], ◌∷◌, ◌++◌, length, take, refl, ap, sym, subst, arith}
 use Rattle.std.specs.List.{AllByRecursion as Each, list_any}
 use Rattle.std.proofs.Math.Seq.{take-length}
+use Rattle.std.proofs.Math.Bool.{or-false}
 use Rattle.std.proofs.lemmas.Bool.{or_parts}
 use Rattle.std.proofs.lemmas.List.{length_push, take-append-le}
 use Rattle.pp_lexer.specs.Lexed.{Seen}
@@ -11,7 +12,7 @@ use Rattle.pp_model.specs.declared.block.BlockLine.{BlockLine}
 use Rattle.pp_rs.specs.LiveBranch.{IsChosen}
 use Rattle.pp_macros.specs.inner.OpenBlocks.{marks, all_fail, IsSettled}
 use Rattle.pp_rs.proofs.blocks.BlockPositionLemmas.{LiesBefore}
-use Rattle.pp_rs.proofs.blocks.BranchLemmas.{or_false, takes, branch_live_parted, taken_parted, else_parted, settled_before, opens_no_else, opened_live, opened_taken, opened_settled, unread_settled}
+use Rattle.pp_rs.proofs.blocks.BranchLemmas.{takes, branch_live_parted, taken_parted, else_parted, settled_before, opens_no_else, opened_live, opened_taken, opened_settled, unread_settled}
 use Rattle.pp_rs.proofs.blocks.OpenBlocksLemmas.{opened, parted}
 use Rattle.pp_rs.proofs.blocks.TruthLemmas.{with_truth, IsUnread, branch_live_before, taken_branch_before, is_live_before, surroundings_before}
 
@@ -77,7 +78,7 @@ module _ (source : List Seen) (truths : Truths) (line : BlockLine) (begins : ope
       record {
         stands = omega arith;
         chosen = opened_live truths line holds begins ∙ sym (opened_taken truths line holds begins)
-            ∙ sym (or_false (has_taken_branch (with_truth line.position holds truths) (opened line))) ∙ any;
+            ∙ sym (or-false (has_taken_branch (with_truth line.position holds truths) (opened line))) ∙ any;
       },
     );
   }

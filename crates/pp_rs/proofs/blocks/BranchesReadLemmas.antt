@@ -1,5 +1,5 @@
 -- What is known of the blocks that a reader has met, and how it stays known when a line of a block is read.
-use Rattle.std.proofs.Common.{◌≡◌, ◌∙◌, ◌⊎◌, inl, inr, ℕ, ◌+◌, ◌≤◌, ◌<◌, Bool, true, false, ◌&&◌, ◌||◌, not, List, [], ◌∷◌, ◌++◌, take, drop, refl, ap, sym, subst, append-nil, Option, Some, None, arith}
+use Rattle.std.proofs.Common.{◌≡◌, ◌∙◌, ◌⊎◌, inl, inr, ℕ, ◌+◌, ◌≤◌, ◌<◌, Bool, true, false, ◌||◌, not, List, [], ◌∷◌, ◌++◌, take, drop, ap, sym, subst, append-nil, Option, Some, None, arith}
 use Rattle.std.specs.List.{AllByRecursion as Each, cons_option}
 use Rattle.std.proofs.lemmas.Bool.{cases_lt}
 use Rattle.pp_lexer.specs.Lexed.{Seen}
@@ -9,7 +9,7 @@ use Rattle.pp_model.specs.declared.block.Part.TheVariants as part
 use Rattle.pp_directives.specs.inner.Lined.{AreLined}
 use Rattle.pp_macros.specs.inner.OpenBlocks.{IsSettled, AreBefore}
 use Rattle.pp_rs.proofs.blocks.BlockPositionLemmas.{each_weaker, each_before, each_after, LiesBefore, lies_before_later, blocks_lie_before, last_lies_before}
-use Rattle.pp_rs.proofs.blocks.BranchLemmas.{else_settled, skipped_settled, elif_settled}
+use Rattle.pp_rs.proofs.blocks.BranchLemmas.{skipped_dead, else_settled, skipped_settled, elif_settled}
 use Rattle.pp_rs.proofs.blocks.BranchedLemmas.{IsBranched, all_branched_before, opened_branched, unread_branched, parted_branched}
 use Rattle.pp_rs.proofs.blocks.FewerLinesLemmas.{open_between}
 use Rattle.pp_rs.proofs.blocks.LinesBeforeLemmas.{AreLinesBefore, AddsLines, lines_here, lines_further}
@@ -67,11 +67,6 @@ module _ (items : List Seen) (position : ℕ) (truths : Truths) (b : BranchesRea
       ap open_blocks (lines_now None adds ∙ append-nil (block_lines 0 (take position items))) in
       read_further None adds truths (before_later position (position + count) truths (omega arith) b.before) b.read
       (subst (λ (blocks : List Block). AreBranched items truths blocks) (sym same) (b.read position (omega arith)))
-
-skips_branch : (live taken : Bool) → not live || taken ≡ true → live && not taken ≡ false
-skips_branch true true h = refl
-skips_branch true false h = cc
-skips_branch false taken h = refl
 
 -- a line of a block
 module _ (items : List Seen) (line : BlockLine) (truths : Truths) (b : BranchesRead items line.position truths)
@@ -154,7 +149,7 @@ module _ (items : List Seen) (line : BlockLine) (truths : Truths) (b : BranchesR
       read_skipped is skips =
           parted_unread (ap (λ p. parts_block p 0) is)
           (skipped_settled (are_surroundings_live items truths block) truths block line is unread
-          (skips_branch (are_surroundings_live items truths block) (has_taken_branch truths block) skips))
+          (skipped_dead (are_surroundings_live items truths block) (has_taken_branch truths block) skips))
 
       -- an `#elif` whose condition is read
       pub read_elif : (holds : Bool) → 1 ≤ count → line.part ≡ part.Elif → are_surroundings_live items truths block ≡ true

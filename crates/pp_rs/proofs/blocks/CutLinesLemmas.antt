@@ -5,9 +5,9 @@ use Rattle.std.proofs.lemmas.List.{take-take}
 use Rattle.std.specs.List.{AllByRecursion as Each, cons_option}
 use Rattle.pp_lexer.specs.Lexed.{Seen}
 use Rattle.pp_lexer.specs.Items.{Lexeme}
+use Rattle.pp_lexer.specs.declared.lexer.item.Token.{Token as LexerToken}
 use Rattle.pp_lexer.specs.declared.lexer.item.TokenValue.{TokenValue as LexerTokenValue}
-use Rattle.pp_lexer.specs.declared.lexer.item.TokenValue.TheVariants.{Hash, NewLine, Ident as LexerIdent, Integer as LexerInteger, Float as LexerFloat, Punct as LexerPunct}
-use Rattle.pp_lexer.specs.declared.token.Location.{Location}
+use Rattle.pp_lexer.specs.declared.lexer.item.TokenValue.TheVariants.{Hash, NewLine}
 use Rattle.pp_model.specs.Sights.{sight_of, is_directive_hash}
 use Rattle.pp_model.specs.Blocks.{line_at, block_lines, Block, open_blocks, blocks_at}
 use Rattle.pp_model.specs.declared.block.BlockLine.{BlockLine}
@@ -18,22 +18,15 @@ use Rattle.pp_macros.proofs.work.DirectiveLineLemmas.{begins_directive}
 use Rattle.pp_rs.proofs.blocks.BlockPositionLemmas.{StandsWithin, line_stands, each_after, block_lines_within, last_lies_before}
 use Rattle.pp_rs.proofs.blocks.SurroundingsLemmas.{none_within, open_at}
 
-alone_value : (position : ℕ) (location : Location) (value : LexerTokenValue) (blank at_start comments : Bool)
-    → block_lines position
-    (record {
-      item = Ok (record { value = value; location = location; leading_whitespace = blank; start_of_line = at_start });
-      had_comments = comments;
-    } ∷ []) ≡ []
-alone_value position location Hash blank true comments = refl
-alone_value position location Hash blank false comments = refl
-alone_value position location NewLine blank at_start comments = refl
-alone_value position location (LexerIdent name) blank at_start comments = refl
-alone_value position location (LexerInteger i) blank at_start comments = refl
-alone_value position location (LexerFloat f) blank at_start comments = refl
-alone_value position location (LexerPunct p) blank at_start comments = refl
+alone_value : (position : ℕ) (token : LexerToken) (value : LexerTokenValue) (at_start comments : Bool)
+    → block_lines position (record { item = Ok (record token { value = value; start_of_line = at_start }); had_comments = comments } ∷ []) ≡ []
+alone_value position token Hash true comments = refl
+alone_value position token Hash false comments = refl
+alone_value position token NewLine at_start comments = refl
+alone_value position token _ at_start comments = refl
 
 alone_lexeme : (position : ℕ) (item : Lexeme) (comments : Bool) → block_lines position (record { item = item; had_comments = comments } ∷ []) ≡ []
-alone_lexeme position (Ok token) comments = alone_value position token.location token.value token.leading_whitespace token.start_of_line comments
+alone_lexeme position (Ok token) comments = alone_value position token token.value token.start_of_line comments
 alone_lexeme position (Err fault) comments = refl
 
 -- an item alone is no line of a block
@@ -59,12 +52,7 @@ word_quiet position s next later line (sight.Directive directive word) e found =
     let same : b.name ≡ next = cc in
     quiet_item (position + 1) next later (ap (λ (x : Seen). is_directive_hash x.item) (sym same) ∙ b.plain)
 word_quiet position s next later line sight.End e found = cc
-word_quiet position s next later line sight.NewLine e found = cc
-word_quiet position s next later line (sight.Fault fault) e found = cc
-word_quiet position s next later line (sight.Token token) e found = cc
-word_quiet position s next later line (sight.Hash location) e found = cc
-word_quiet position s next later line sight.Lone e found = cc
-word_quiet position s next later line (sight.NoWord fault) e found = cc
+word_quiet position s next later line _ e found = cc
 
 -- a line among those of some items stands among them
 among : (position : ℕ) (items : List Seen) (earlier later : List BlockLine) (line : BlockLine) → block_lines position items ≡ earlier ++ line ∷ later

@@ -63,12 +63,9 @@ parted_with : (p : Part) (line : BlockLine) (inner : ℕ) (rest : ℕ → Option
 parted_with part.Opens line inner rest stays marks h = h
 parted_with part.Closes line zero rest stays marks h = refl
 parted_with part.Closes line (suc inner) rest stays marks h = rw (is_not_zero inner) h
-parted_with part.Elif line zero rest true marks h = ap (option_map (λ lines. line ∷ lines)) h
-parted_with part.Elif line zero rest false marks h = ap (option_map (λ lines. line ∷ lines)) h
-parted_with part.Elif line (suc inner) rest stays marks h = rw (is_not_zero inner) h
-parted_with part.Else line zero rest true marks h = ap (option_map (λ lines. line ∷ lines)) h
-parted_with part.Else line zero rest false marks h = ap (option_map (λ lines. line ∷ lines)) h
-parted_with part.Else line (suc inner) rest stays marks h = rw (is_not_zero inner) h
+parted_with _ line zero rest true marks h = ap (option_map (λ lines. line ∷ lines)) h
+parted_with _ line zero rest false marks h = ap (option_map (λ lines. line ∷ lines)) h
+parted_with _ line (suc inner) rest stays marks h = rw (is_not_zero inner) h
 
 partings_are : (inner : ℕ) (lines : List BlockLine) → partings_of inner lines ≡ (if stays_open inner lines then Some (parting inner lines) else None)
 partings_are inner [] = refl
@@ -81,8 +78,7 @@ opened_with : (begins stays : Bool) (line : BlockLine) (marks : List BlockLine) 
     (if stays then Some marks else None) else None) blocks
     ≡ (if begins && stays then record { first = line; partings = marks } ∷ blocks else blocks)
 opened_with true true line marks blocks = refl
-opened_with true false line marks blocks = refl
-opened_with false stays line marks blocks = refl
+opened_with _ _ line marks blocks = refl
 
 -- the blocks that are open after a line and those after it
 pub open_blocks_step : (line : BlockLine) (later : List BlockLine) → open_blocks (line ∷ later)
@@ -99,8 +95,7 @@ enough_with part.Closes zero closing later h e = cc
 enough_with part.Closes (suc inner) closing later h e =
     let stays = rw (is_not_zero inner) at e in
     omega (arith, h stays)
-enough_with part.Elif inner closing later h e = h e
-enough_with part.Else inner closing later h e = h e
+enough_with _ inner closing later h e = h e
 
 -- a block that stays open has as many inner ones as are closed
 pub enough_inner : (inner : ℕ) (lines : List BlockLine) → stays_open inner lines ≡ true → closing_outer lines ≤ inner
@@ -115,8 +110,7 @@ fewer_with part.Closes zero closing later h e = omega arith
 fewer_with part.Closes (suc inner) closing later h e =
     let stays = rw (is_not_zero inner) at e in
     omega (arith, h stays)
-fewer_with part.Elif inner closing later h e = h e
-fewer_with part.Else inner closing later h e = h e
+fewer_with _ inner closing later h e = h e
 
 -- a block that is closed has fewer
 pub fewer_inner : (inner : ℕ) (lines : List BlockLine) → stays_open inner lines ≡ false → inner < closing_outer lines
@@ -138,8 +132,7 @@ counted_with part.Closes stays later first blocks zero closing after few many e 
 counted_with part.Closes stays later first blocks (suc inner) closing after few many e h =
     let open_later = rw (is_not_zero inner) at e in
     omega (arith, h open_later)
-counted_with part.Elif stays later first blocks inner closing after few many e h = h e
-counted_with part.Else stays later first blocks inner closing after few many e h = h e
+counted_with _ stays later first blocks inner closing after few many e h = h e
 
 -- so many inner blocks are left, and those that these lines open
 inner_counted : (inner : ℕ) (lines : List BlockLine) → stays_open inner lines ≡ true

@@ -16,6 +16,8 @@ use Rattle.pp_model.specs.declared.directive.Directive.{Directive}
 use Rattle.pp_model.specs.declared.sight.Sight.{Sight}
 use Rattle.pp_model.specs.declared.sight.Sight.TheVariants as sight
 use Rattle.pp_directives.specs.inner.Lined.{AreLined}
+use Rattle.pp_rs.proofs.source.StandsLineLemmas.{block_line}
+use Rattle.pp_rs.proofs.blocks.BranchLemmas.{read_untaken}
 use Rattle.pp_rs.proofs.blocks.BranchesReadLemmas.{BranchesRead, read_quiet, read_unread, read_opened, read_closed, read_else, read_skipped, read_elif}
 use Rattle.pp_macros.proofs.work.DirectiveLineLemmas.{begins_directive, quiet_word}
 use Rattle.pp_rs.proofs.blocks.LastLemmas.{last_split}
@@ -76,52 +78,46 @@ module _ (r : SourceReader) (b : HasRead r) where
     -- which opens a block in live text
     pub opening_keeps : part_of directive ≡ Some part.Opens → is_live r.items r.truths r.position ≡ true → (holds : Bool) → HasRead (after_condition r holds)
     opening_keeps its live holds =
-        read_opened r.items (record { position = r.position; word = word; part = part.Opens }) r.truths b (2 + line_length (after_word r))
+        read_opened r.items (block_line r word part.Opens) r.truths b (2 + line_length (after_word r))
         (line_adds (Some part.Opens) its) holds (omega arith) refl live
 
     -- which opens one in dead text
     pub unread_keeps : part_of directive ≡ Some part.Opens → is_live r.items r.truths r.position ≡ false → HasRead (after_line r)
     unread_keeps its dead =
-        read_unread r.items (record { position = r.position; word = word; part = part.Opens }) r.truths b (2 + line_length (after_word r))
+        read_unread r.items (block_line r word part.Opens) r.truths b (2 + line_length (after_word r))
         (line_adds (Some part.Opens) its) refl dead
 
     -- which parts or closes the innermost block:
     module _ (block : Block) (found : block_here r ≡ Some block) where
-      split : blocks_at r.items r.position ≡ take (length (blocks_at r.items r.position) - 1) (blocks_at r.items r.position) ++ block ∷ []
+      abbrev outer : List Block
+      outer = take (length (blocks_at r.items r.position) - 1) (blocks_at r.items r.position)
+
+      split : blocks_at r.items r.position ≡ outer ++ block ∷ []
       split = last_split (blocks_at r.items r.position) block found
 
       -- an `#endif`
       pub closing_keeps : part_of directive ≡ Some part.Closes → HasRead (after_line r)
       closing_keeps its =
-          read_closed r.items (record { position = r.position; word = word; part = part.Closes }) r.truths b (2 + line_length (after_word r))
-          (line_adds (Some part.Closes) its)
-          (take (length (blocks_at r.items r.position) - 1) (blocks_at r.items r.position)) block split refl
+          read_closed r.items (block_line r word part.Closes) r.truths b (2 + line_length (after_word r))
+          (line_adds (Some part.Closes) its) outer block split refl
 
       -- an `#else`
       pub parting_keeps : part_of directive ≡ Some part.Else → has_else block ≡ false → HasRead (after_line r)
       parting_keeps its none =
-          read_else r.items (record { position = r.position; word = word; part = part.Else }) r.truths b (2 + line_length (after_word r))
-          (line_adds (Some part.Else) its)
-          (take (length (blocks_at r.items r.position) - 1) (blocks_at r.items r.position)) block split none refl
+          read_else r.items (block_line r word part.Else) r.truths b (2 + line_length (after_word r))
+          (line_adds (Some part.Else) its) outer block split none refl
 
       -- an `#elif` that is skipped
       pub skipping_keeps : part_of directive ≡ Some part.Elif → has_else block ≡ false
           → not (are_surroundings_live r.items r.truths block) || has_taken_branch r.truths block ≡ true → HasRead (after_line r)
       skipping_keeps its none skips =
-          read_skipped r.items (record { position = r.position; word = word; part = part.Elif }) r.truths b (2 + line_length (after_word r))
-          (line_adds (Some part.Elif) its)
-          (take (length (blocks_at r.items r.position) - 1) (blocks_at r.items r.position)) block split none refl skips
+          read_skipped r.items (block_line r word part.Elif) r.truths b (2 + line_length (after_word r))
+          (line_adds (Some part.Elif) its) outer block split none refl skips
 
       -- an `#elif` whose condition is read
       pub choosing_keeps : part_of directive ≡ Some part.Elif → has_else block ≡ false
           → not (are_surroundings_live r.items r.truths block) || has_taken_branch r.truths block ≡ false → (holds : Bool) → HasRead (after_condition r holds)
       choosing_keeps its none reads holds =
-          let n = reads_branch (are_surroundings_live r.items r.truths block) (has_taken_branch r.truths block) reads in
-          read_elif r.items (record { position = r.position; word = word; part = part.Elif }) r.truths b (2 + line_length (after_word r))
-          (line_adds (Some part.Elif) its)
-          (take (length (blocks_at r.items r.position) - 1) (blocks_at r.items r.position)) block split none holds (omega arith) refl n.0 n.1
-        where
-          reads_branch : (live taken : Bool) → not live || taken ≡ false → (live ≡ true) × (taken ≡ false)
-          reads_branch true false h = (refl, refl)
-          reads_branch true true h = cc
-          reads_branch false taken h = cc
+          let n = read_untaken (are_surroundings_live r.items r.truths block) (has_taken_branch r.truths block) reads in
+          read_elif r.items (block_line r word part.Elif) r.truths b (2 + line_length (after_word r))
+          (line_adds (Some part.Elif) its) outer block split none holds (omega arith) refl n.0 n.1

@@ -42,17 +42,11 @@ inner_step : (p : Part) (first line : BlockLine) (marks : List BlockLine) (inner
     } ∷ blocks_after p line inner else blocks_after p line inner)
     ≡ blocks_after p line (record { first = first; partings = marks } ∷ inner)
 inner_step part.Opens first line marks [] = ap (λ (m : List BlockLine). record { first = first; partings = m } ∷ opened line ∷ []) (append-nil marks)
-inner_step part.Closes first line marks [] = refl
-inner_step part.Elif first line marks [] = refl
-inner_step part.Else first line marks [] = refl
 inner_step part.Opens first line marks (next ∷ inner) =
     ap (λ (m : List BlockLine). record { first = first; partings = m } ∷ blocks_after part.Opens line (next ∷ inner)) (append-nil marks)
-inner_step part.Closes first line marks (next ∷ inner) = rw (is_not_zero (length inner))
-    (ap (λ (m : List BlockLine). record { first = first; partings = m } ∷ blocks_after part.Closes line (next ∷ inner)) (append-nil marks))
-inner_step part.Elif first line marks (next ∷ inner) = rw (is_not_zero (length inner))
-    (ap (λ (m : List BlockLine). record { first = first; partings = m } ∷ blocks_after part.Elif line (next ∷ inner)) (append-nil marks))
-inner_step part.Else first line marks (next ∷ inner) = rw (is_not_zero (length inner))
-    (ap (λ (m : List BlockLine). record { first = first; partings = m } ∷ blocks_after part.Else line (next ∷ inner)) (append-nil marks))
+inner_step p first line marks [] = refl
+inner_step p first line marks (next ∷ inner) = rw (is_not_zero (length inner))
+    (ap (λ (m : List BlockLine). record { first = first; partings = m } ∷ blocks_after p line (next ∷ inner)) (append-nil marks))
 
 block_step : (p : Part) (begins stays : Bool) (depth : ℕ) (first line : BlockLine) (marks : List BlockLine) (inner : List Block)
     → (stays ≡ true → depth ≡ length inner)
@@ -65,9 +59,7 @@ block_step p true true depth first line marks inner e = rw (and-true (not (close
 
 first_line : (p : Part) (line : BlockLine) → cons_option (if opens p then Some (opened line) else None) [] ≡ blocks_from_none p line
 first_line part.Opens line = refl
-first_line part.Closes line = refl
-first_line part.Elif line = refl
-first_line part.Else line = refl
+first_line _ line = refl
 
 -- the blocks that are open after one more line
 pub open_blocks_more : (lines : List BlockLine) (line : BlockLine) → open_blocks (lines ++ line ∷ []) ≡ blocks_after line.part line (open_blocks lines)
@@ -92,16 +84,14 @@ after_closes line (first ∷ []) block = refl
 after_closes line (first ∷ next ∷ inner) block = ap (λ blocks. first ∷ blocks) (after_closes line (next ∷ inner) block)
 
 none_parts : (p : Part) (line : BlockLine) → parts_block p 0 ≡ true → blocks_from_none p line ≡ []
-none_parts part.Opens line h = cc
-none_parts part.Closes line h = cc
 none_parts part.Elif line h = refl
 none_parts part.Else line h = refl
+none_parts _ line h = cc
 
 one_parts : (p : Part) (line : BlockLine) (block : Block) → parts_block p 0 ≡ true → blocks_from_one p line block ≡ parted block line ∷ []
-one_parts part.Opens line block h = cc
-one_parts part.Closes line block h = cc
 one_parts part.Elif line block h = refl
 one_parts part.Else line block h = refl
+one_parts _ line block h = cc
 
 -- a line that parts a block parts the last one
 pub after_parts : (p : Part) (line : BlockLine) (before : List Block) (block : Block) → parts_block p 0 ≡ true

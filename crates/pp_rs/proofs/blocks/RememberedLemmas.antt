@@ -27,14 +27,8 @@ pub record IsRemembered (source : Source) (items : List Seen) (truths : Truths) 
   pub off_line : is_live_in (last_block source.blocks) ≡ true → source.rest ≢ [] → is_on_directive_line items position ≡ false
 
 begins_no_text : (shown : Sight) → begins_with_hash shown ≡ true → is_text shown ≡ false
-begins_no_text sight.End h = refl
-begins_no_text sight.NewLine h = refl
-begins_no_text (sight.Fault fault) h = refl
 begins_no_text (sight.Token token) h = cc
-begins_no_text (sight.Hash location) h = refl
-begins_no_text sight.Lone h = refl
-begins_no_text (sight.NoWord fault) h = refl
-begins_no_text (sight.Directive directive word) h = refl
+begins_no_text _ h = refl
 
 both : (a b c d : Bool) → a ≡ b → c ≡ d → (a || c) ≡ (b || d)
 both a b c d e f = ap (λ x. x || c) e ∙ ap (λ y. b || y) f

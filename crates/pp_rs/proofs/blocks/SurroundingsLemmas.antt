@@ -1,5 +1,6 @@
 -- The blocks around an open block are those that were open at its first line.
 use Rattle.std.proofs.Common.{◌≡◌, ◌∙◌, ℕ, zero, suc, ◌+◌, ◌≤◌, ◌<◌, Bool, true, false, ◌&&◌, not, if◌then◌else◌, List, [], ◌∷◌, ◌++◌, refl, ap, sym, subst, append-nil, arith}
+use Rattle.std.proofs.lemmas.Bool.{and_parts}
 use Rattle.pp_model.specs.Blocks.{opens, Block, open_blocks}
 use Rattle.pp_model.specs.declared.block.BlockLine.{BlockLine}
 use Rattle.pp_model.specs.declared.block.Part.{Part}
@@ -40,20 +41,12 @@ part_no_outer inner deeper (line ∷ later) h e =
 opens_stays : (p : Part) (line : BlockLine) (inner : ℕ) (later : List BlockLine) → opens p ≡ true → stays_open 0 later ≡ true
     → not (closes_block p inner) && stays_open (inner_after p inner) later ≡ true
 opens_stays part.Opens line inner later is e = stays_deeper 0 (inner + 1) later (omega arith) e
-opens_stays part.Closes line inner later is e = cc
-opens_stays part.Elif line inner later is e = cc
-opens_stays part.Else line inner later is e = cc
+opens_stays _ line inner later is e = cc
 
 opens_parts : (p : Part) (line : BlockLine) (inner : ℕ) (later : List BlockLine) → opens p ≡ true → stays_open 0 later ≡ true
     → (if parts_block p inner then line ∷ parting (inner_after p inner) later else parting (inner_after p inner) later) ≡ []
 opens_parts part.Opens line inner later is e = part_no_outer 0 (inner + 1) later (omega arith) e
-opens_parts part.Closes line inner later is e = cc
-opens_parts part.Elif line inner later is e = cc
-opens_parts part.Else line inner later is e = cc
-
-first_holds : (a b : Bool) → a && b ≡ true → a ≡ true
-first_holds true b h = refl
-first_holds false b h = h
+opens_parts _ line inner later is e = cc
 
 -- Among these lines stands the first line of a block that is open after them, and before it these blocks are open.
 pub record IsOpen (lines : List BlockLine) (before : List Block) (block : Block) : Type 0 where
@@ -65,6 +58,17 @@ pub record IsOpen (lines : List BlockLine) (before : List Block) (block : Block)
   pub around : open_blocks earlier ≡ before
 
 module _ (line : BlockLine) (later : List BlockLine) (block : Block) where
+  -- one line more before it
+  one_earlier : (before outer : List Block) (o : IsOpen later before block) → open_blocks (line ∷ o.earlier) ≡ outer → IsOpen (line ∷ later) outer block
+  one_earlier before outer o around = record {
+    earlier = line ∷ o.earlier;
+    later = o.later;
+    split = ap (λ lines. line ∷ lines) o.split;
+    begins = o.begins;
+    stays = o.stays;
+    around = around;
+  }
+
   -- a line that opens a block around it
   around_it : (before : List Block) → opens line.part ≡ true → stays_open 0 later ≡ true → IsOpen later before block
       → IsOpen (line ∷ later) (record { first = line; partings = parting 0 later } ∷ before) block
@@ -72,30 +76,18 @@ module _ (line : BlockLine) (later : List BlockLine) (block : Block) where
       let depth = inner_after_lines 0 o.earlier in
       let whole : stays_open 0 o.earlier && stays_open depth (block.first ∷ o.later) ≡ true =
       sym (stays_open_append 0 o.earlier (block.first ∷ o.later)) ∙ ap (stays_open 0) (sym o.split) ∙ stays in
-      let front : stays_open 0 o.earlier ≡ true = first_holds (stays_open 0 o.earlier) (stays_open depth (block.first ∷ o.later)) whole in
+      let front : stays_open 0 o.earlier ≡ true = (and_parts (stays_open 0 o.earlier) (stays_open depth (block.first ∷ o.later)) whole).0 in
       let same : parting 0 o.earlier ≡ parting 0 later =
       sym (append-nil (parting 0 o.earlier)) ∙ ap (λ more. parting 0 o.earlier ++ more)
       (sym (opens_parts block.first.part block.first depth o.later o.begins o.stays))
       ∙ sym (parting_append 0 o.earlier (block.first ∷ o.later)) ∙ ap (parting 0) (sym o.split) in
-      record {
-        earlier = line ∷ o.earlier;
-        later = o.later;
-        split = ap (λ lines. line ∷ lines) o.split;
-        begins = o.begins;
-        stays = o.stays;
-        around = open_blocks_step line o.earlier ∙ rw (begins, front, same, o.around) refl;
-      }
+      one_earlier before (record { first = line; partings = parting 0 later } ∷ before) o
+      (open_blocks_step line o.earlier ∙ rw (begins, front, same, o.around) refl)
 
   -- a line that opens none of the blocks around it
   beside_it : (before : List Block) → opens line.part && stays_open 0 later ≡ false → IsOpen later before block → IsOpen (line ∷ later) before block
-  beside_it before none o = record {
-    earlier = line ∷ o.earlier;
-    later = o.later;
-    split = ap (λ lines. line ∷ lines) o.split;
-    begins = o.begins;
-    stays = o.stays;
-    around = open_blocks_step line o.earlier ∙ rw (still (opens line.part) (stays_open 0 o.earlier) refl refl) o.around;
-  }
+  beside_it before none o =
+      one_earlier before before o (open_blocks_step line o.earlier ∙ rw (still (opens line.part) (stays_open 0 o.earlier) refl refl) o.around)
     where
       still : (begins front : Bool) → opens line.part ≡ begins → stays_open 0 o.earlier ≡ front → opens line.part && stays_open 0 o.earlier ≡ false
       still false front b f = rw b refl
@@ -110,19 +102,9 @@ module _ (line : BlockLine) (later : List BlockLine) (block : Block) where
 
   at_line : (begins stays : Bool) (before inner : List Block) → opens line.part ≡ begins → stays_open 0 later ≡ stays
       → ((around : List Block) → open_blocks later ≡ around ++ block ∷ inner → IsOpen later around block)
-      → (if begins && stays then record {
-        first = line;
-        partings =
-            parting 0 later;
-      } ∷ open_blocks later else open_blocks later) ≡ before ++ block ∷ inner → IsOpen (line ∷ later) before block
-  at_line true true [] inner b s deeper e = record {
-    earlier = [];
-    later = later;
-    split = cc;
-    begins = cc;
-    stays = s;
-    around = refl;
-  }
+      → (if begins && stays then record { first = line; partings = parting 0 later } ∷ open_blocks later else open_blocks later) ≡ before ++ block ∷ inner
+      → IsOpen (line ∷ later) before block
+  at_line true true [] inner b s deeper e = record { earlier = []; later = later; split = cc; begins = cc; stays = s; around = refl }
   at_line true true (first ∷ before) inner b s deeper e =
       let same : record { first = line; partings = parting 0 later } ≡ first = cc in
       let rest : open_blocks later ≡ before ++ block ∷ inner = cc in
