@@ -35,14 +35,9 @@ bare_quiet position b none lined later =
     ∙ quiet_item (position + 1) b.name later (there.0 b.goes_on) ∙ ap (λ n. block_lines n later) (omega arith)
 
 bare_begins : (shown : Sight) → is_bare shown ≡ true → begins_with_hash shown ≡ true
-bare_begins sight.End h = cc
-bare_begins sight.NewLine h = cc
-bare_begins (sight.Fault fault) h = cc
-bare_begins (sight.Token token) h = cc
-bare_begins (sight.Hash location) h = cc
 bare_begins sight.Lone h = refl
 bare_begins (sight.NoWord fault) h = refl
-bare_begins (sight.Directive directive word) h = cc
+bare_begins _ h = cc
 
 module _ {old : Source} {r : SourceReader} (s : StandsForReader old r) (move : Step Token) (new : Source) where
   bare_passes : {shown : Sight} (e : sight_of old.rest ≡ shown) → is_bare shown ≡ true → ((position : ℕ) → line_at position shown ≡ None)

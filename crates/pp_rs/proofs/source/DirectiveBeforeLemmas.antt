@@ -4,8 +4,9 @@ use Rattle.std.proofs.Math.Bool.{or-false, or_assoc}
 use Rattle.std.proofs.Math.Seq.{take-add}
 use Rattle.pp_lexer.specs.Items.{Lexeme}
 use Rattle.pp_lexer.specs.Lexed.{Seen}
+use Rattle.pp_lexer.specs.declared.lexer.item.Token.{Token as LexerToken}
 use Rattle.pp_lexer.specs.declared.lexer.item.TokenValue.{TokenValue as LexerTokenValue}
-use Rattle.pp_lexer.specs.declared.lexer.item.TokenValue.TheVariants.{Hash, NewLine, Ident as LexerIdent, Integer as LexerInteger, Float as LexerFloat, Punct as LexerPunct}
+use Rattle.pp_lexer.specs.declared.lexer.item.TokenValue.TheVariants.{Hash, NewLine}
 use Rattle.pp_lexer.specs.declared.token.Location.{Location}
 use Rattle.pp_lexer.specs.declared.token.Token.{Token}
 use Rattle.pp_model.specs.Calls.{Fault}
@@ -31,18 +32,15 @@ text_begins_none : (converted : Result Token Fault) → begins_with_hash (text_s
 text_begins_none (Ok token) = refl
 text_begins_none (Err fault) = refl
 
-token_begins_none : (location : Location) (value : LexerTokenValue) (blank at_start : Bool) (rest : List Seen) → is_hash value && at_start ≡ false
-    → begins_with_hash (token_sight (record { value = value; location = location; leading_whitespace = blank; start_of_line = at_start }) rest) ≡ false
-token_begins_none location Hash blank true rest h = cc
-token_begins_none location Hash blank false rest h = refl
-token_begins_none location NewLine blank at_start rest h = refl
-token_begins_none location (LexerIdent name) blank at_start rest h = refl
-token_begins_none location (LexerInteger i) blank at_start rest h = refl
-token_begins_none location (LexerFloat f) blank at_start rest h = refl
-token_begins_none location (LexerPunct p) blank at_start rest h = refl
+token_begins_none : (token : LexerToken) (value : LexerTokenValue) (at_start : Bool) (rest : List Seen) → is_hash value && at_start ≡ false
+    → begins_with_hash (token_sight (record token { value = value; start_of_line = at_start }) rest) ≡ false
+token_begins_none token Hash true rest h = cc
+token_begins_none token Hash false rest h = refl
+token_begins_none token NewLine at_start rest h = refl
+token_begins_none token _ at_start rest h = refl
 
 item_begins_none : (item : Lexeme) (rest : List Seen) → is_directive_hash item ≡ false → begins_with_hash (item_sight item rest) ≡ false
-item_begins_none (Ok token) rest h = token_begins_none token.location token.value token.leading_whitespace token.start_of_line rest h
+item_begins_none (Ok token) rest h = token_begins_none token token.value token.start_of_line rest h
 item_begins_none (Err fault) rest h = refl
 
 hash_by : (item : Lexeme) (rest : List Seen) (hash : Bool) → is_directive_hash item ≡ hash → begins_with_hash (item_sight item rest) ≡ true → hash ≡ true
@@ -55,14 +53,10 @@ pub hash_in_front : (s : Seen) (rest : List Seen) (shown : Sight) → sight_of (
 hash_in_front s rest shown e begins = hash_by s.item rest (is_directive_hash s.item) refl (ap begins_with_hash e ∙ begins)
 
 begins_is_directive : (shown : Sight) → begins_with_hash shown ≡ false → is_directive shown ≡ false
-begins_is_directive sight.End e = refl
-begins_is_directive sight.NewLine e = refl
-begins_is_directive (sight.Fault fault) e = refl
-begins_is_directive (sight.Token token) e = refl
-begins_is_directive (sight.Hash location) e = refl
 begins_is_directive sight.Lone e = cc
 begins_is_directive (sight.NoWord fault) e = cc
 begins_is_directive (sight.Directive directive word) e = cc
+begins_is_directive _ e = refl
 
 -- an item that is no number sign of a directive adds none
 pub item_adds_none : (s : Seen) (rest : List Seen) → is_directive_hash s.item ≡ false → has_directive (s ∷ rest) ≡ has_directive rest

@@ -1,6 +1,7 @@
 -- Which positions of a source are on a directive's line, by the items there.
 use Rattle.std.proofs.Common.{◌≡◌, ◌≢◌, ◌∙◌, ℕ, zero, suc, ◌+◌, Bool, true, false, ◌&&◌, ◌||◌, not, if◌then◌else◌, List, [], ◌∷◌, drop, refl, ap, sym, Some, arith}
 use Rattle.std.specs.List.{slice_get}
+use Rattle.std.proofs.Math.Bool.{and-false, or-true}
 use Rattle.std.proofs.lemmas.List.{drop-drop}
 use Rattle.pp_lexer.specs.Lexed.{Seen}
 use Rattle.pp_model.specs.Lines.{ends_line, line_length}
@@ -33,39 +34,27 @@ module _ (source : List Seen) where
   on_line_after_hash position s rest e hash = on_line_after position s rest e
       ∙ ap (λ b. b || (not (ends_line s.item) && is_on_directive_line source position)) hash
 
-  goes_on : (hash : Bool) (last on : Bool) → last ≡ false → on ≡ true → (hash || (not last && on)) ≡ true
-  goes_on true last on e f = refl
-  goes_on false true on e f = cc
-  goes_on false false on e f = f
-
   -- and it goes on after an item that doesn't end it
   pub on_line_further : (position : ℕ) (s : Seen) (rest : List Seen) → drop position source ≡ s ∷ rest → ends_line s.item ≡ false
       → is_on_directive_line source position ≡ true → is_on_directive_line source (suc position) ≡ true
   on_line_further position s rest e within on = on_line_after position s rest e
-      ∙ goes_on (is_directive_hash s.item) (ends_line s.item) (is_on_directive_line source position) within on
-
-  ended : (hash last on : Bool) → hash ≡ false → last ≡ true → (hash || (not last && on)) ≡ false
-  ended true last on h e = cc
-  ended false true on h e = refl
-  ended false false on h e = cc
+      ∙ ap (λ last. is_directive_hash s.item || (not last && is_on_directive_line source position)) within
+      ∙ ap (λ now. is_directive_hash s.item || now) on ∙ or-true (is_directive_hash s.item)
 
   -- after the end of a line none goes on
   pub off_line_after_end : (position : ℕ) (s : Seen) (rest : List Seen) → drop position source ≡ s ∷ rest → ends_line s.item ≡ true
       → is_on_directive_line source (suc position) ≡ false
   off_line_after_end position s rest e last =
-      on_line_after position s rest e ∙ ended (is_directive_hash s.item) (ends_line s.item) (is_on_directive_line source position)
-      (end_is_no_hash s.item last) last
-
-  off : (hash last on : Bool) → hash ≡ false → on ≡ false → (hash || (not last && on)) ≡ false
-  off true last on h e = cc
-  off false true on h e = refl
-  off false false on h e = e
+      on_line_after position s rest e
+      ∙ ap (λ hash. hash || (not (ends_line s.item) && is_on_directive_line source position)) (end_is_no_hash s.item last)
+      ∙ ap (λ end. not end && is_on_directive_line source position) last
 
   -- nor after an item of a line that has none
   pub off_line_further : (position : ℕ) (s : Seen) (rest : List Seen) → drop position source ≡ s ∷ rest → is_directive_hash s.item ≡ false
       → is_on_directive_line source position ≡ false → is_on_directive_line source (suc position) ≡ false
   off_line_further position s rest e quiet on = on_line_after position s rest e
-      ∙ off (is_directive_hash s.item) (ends_line s.item) (is_on_directive_line source position) quiet on
+      ∙ ap (λ hash. hash || (not (ends_line s.item) && is_on_directive_line source position)) quiet
+      ∙ ap (λ now. not (ends_line s.item) && now) on ∙ and-false (not (ends_line s.item))
 
   off_by : (position : ℕ) (s : Seen) (rest : List Seen) (last : Bool) → drop position source ≡ s ∷ rest → ends_line s.item ≡ last
       → (drop (line_length rest) rest ≢ [] → is_on_directive_line source (suc position + line_length rest) ≡ false)

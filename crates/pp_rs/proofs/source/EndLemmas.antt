@@ -41,16 +41,9 @@ directive_goes_on live block directive word after =
 sight_goes_on : (live : Bool) (block : Option BlockFacts) (shown : Sight) (rest : List Seen) → (shown ≡ sight.End → ⊥)
     → is_end_effect (move_at live block shown rest).effect ≡ false
 sight_goes_on live block sight.End rest h = absurd (h refl)
-sight_goes_on live block sight.NewLine rest h = refl
-sight_goes_on live block (sight.Fault fault) rest h = refl
-sight_goes_on true block (sight.Token token) rest h = refl
-sight_goes_on false block (sight.Token token) rest h = refl
-sight_goes_on true block (sight.Hash location) rest h = refl
-sight_goes_on false block (sight.Hash location) rest h = refl
-sight_goes_on live block sight.Lone rest h = refl
-sight_goes_on true block (sight.NoWord fault) rest h = refl
-sight_goes_on false block (sight.NoWord fault) rest h = refl
 sight_goes_on live block (sight.Directive directive word) rest h = directive_goes_on live block directive word (drop 2 rest)
+sight_goes_on true block _ rest h = refl
+sight_goes_on false block _ rest h = refl
 
 -- after the end of a source no item is left, and no open block
 abbrev HasNothing : Source → Type 0

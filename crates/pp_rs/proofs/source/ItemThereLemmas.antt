@@ -5,8 +5,7 @@ use Rattle.pp_lexer.specs.Lexed.{Seen}
 use Rattle.pp_lexer.specs.Items.{Lexeme}
 use Rattle.pp_lexer.specs.declared.lexer.item.Token.{Token as LexerToken}
 use Rattle.pp_lexer.specs.declared.lexer.item.TokenValue.{TokenValue as LexerTokenValue}
-use Rattle.pp_lexer.specs.declared.lexer.item.TokenValue.TheVariants.{Hash, NewLine, Ident as LexerIdent, Integer as LexerInteger, Float as LexerFloat, Punct as LexerPunct}
-use Rattle.pp_lexer.specs.declared.token.Location.{Location}
+use Rattle.pp_lexer.specs.declared.lexer.item.TokenValue.TheVariants.{Hash, NewLine}
 use Rattle.pp_model.specs.Names.{Name}
 use Rattle.pp_model.specs.Conversions.{is_newline, identifier_of, refused_token}
 use Rattle.pp_model.specs.Calls.{Fault}
@@ -27,20 +26,17 @@ directive_there : (first : Result LexerToken Fault) → directive_sight first �
 directive_there (Ok token) e = word_there token (identifier_of token.value) e
 directive_there (Err fault) e = cc
 
-token_there : (location : Location) (value : LexerTokenValue) (blank at_start : Bool) (rest : List Seen)
-    → token_sight (record { value = value; location = location; leading_whitespace = blank; start_of_line = at_start }) rest ≡ sight.End → ⊥
-token_there location Hash blank true rest e = directive_there (first_token location rest) e
-token_there location Hash blank false rest e = cc
-token_there location NewLine blank at_start rest e = cc
-token_there location (LexerIdent name) blank at_start rest e = cc
-token_there location (LexerInteger i) blank at_start rest e = cc
-token_there location (LexerFloat f) blank at_start rest e = cc
-token_there location (LexerPunct p) blank at_start rest e = cc
+token_there : (token : LexerToken) (value : LexerTokenValue) (at_start : Bool) (rest : List Seen)
+    → token_sight (record token { value = value; start_of_line = at_start }) rest ≡ sight.End → ⊥
+token_there token Hash true rest e = directive_there (first_token token.location rest) e
+token_there token Hash false rest e = cc
+token_there token NewLine at_start rest e = cc
+token_there token _ at_start rest e = cc
 
 -- where an item stands in front, it is not the end that is seen
 pub item_there : (item : Lexeme) (rest : List Seen) → item_sight item rest ≡ sight.End → ⊥
 item_there (Err fault) rest e = cc
-item_there (Ok token) rest e = token_there token.location token.value token.leading_whitespace token.start_of_line rest e
+item_there (Ok token) rest e = token_there token token.value token.start_of_line rest e
 
 -- where the end is seen, no item is left
 pub none_left : (rest : List Seen) → sight_of rest ≡ sight.End → rest ≡ []

@@ -1,13 +1,12 @@
 -- Each effect of a directive's line is a step of the source's reader.
-use Rattle.std.proofs.Common.{◌≡◌, ◌∙◌, inl, inr, Bool, true, false, ◌&&◌, ◌||◌, not, ℕ, List, [], ◌∷◌, ◌++◌, drop, refl, ap, sym, subst, Option, Some, None, is_some}
-use Rattle.std.specs.Prelude.{pos, ◌-ℤ◌, Ok, Err, option_map}
+use Rattle.std.proofs.Common.{◌≡◌, ◌∙◌, inl, inr, Bool, true, false, ◌||◌, not, ℕ, List, [], ◌∷◌, ◌++◌, drop, refl, ap, sym, subst, Option, Some, None, is_some}
+use Rattle.std.specs.Prelude.{pos, ◌-ℤ◌, Ok, Err}
 use Rattle.pp_lexer.specs.declared.token.Location.{Location}
 use Rattle.pp_lexer.specs.declared.token.Token.{Token}
 use Rattle.pp_lexer.specs.declared.token.TokenValue.{TokenValue}
 use Rattle.pp_model.specs.Names.{Name}
 use Rattle.pp_model.specs.Definitions.{Definition, Definitions, with_change}
 use Rattle.pp_model.specs.Emitting.{answers_at, expansion_limit}
-use Rattle.pp_model.specs.LineValues.{IsCondition, IsLineNumber}
 use Rattle.pp_model.specs.Sights.{sight_of}
 use Rattle.pp_model.specs.Blocks.{part_of}
 use Rattle.pp_model.specs.SourceReader.{SourceReader}
@@ -38,7 +37,10 @@ use Rattle.pp_rs.specs.inner.Stands.{StandsForReader}
 use Rattle.pp_macros.proofs.work.DirectiveLineLemmas.{begins_directive, quiet_word}
 use Rattle.pp_directives.proofs.ConditionActsLemmas.{with_last_is}
 use Rattle.pp_rs.proofs.source.DirectiveBeforeLemmas.{word_adds}
+use Rattle.pp_rs.proofs.blocks.BlockStackLemmas.{mapped_some}
+use Rattle.pp_rs.proofs.blocks.BranchLemmas.{skipped_dead, read_untaken}
 use Rattle.pp_rs.proofs.source.Simulates.{Simulates}
+use Rattle.pp_rs.proofs.source.StandsAfterLemmas.{stands_with}
 use Rattle.pp_rs.proofs.source.StandsBlockLemmas.{opened_read, opened_unread, closed_last, parted_last, skipped_last, decided_last}
 use Rattle.pp_rs.proofs.source.StandsLineLemmas.{stands_line, line_stays}
 use Rattle.pp_rs.proofs.source.StandsQuietLemmas.{stands_two}
@@ -47,55 +49,6 @@ use Rattle.pp_rs.proofs.source.StepHereLemmas.{whole_line, PausesAt, gives_here,
 defined_now : {old : Source} {r : SourceReader} (s : StandsForReader old r) (name : Name) {found : Option Definition}
     → meaning_of old.definitions name ≡ found → r.definitions name ≡ found
 defined_now s name known = ap (λ (m : Definitions). m name) s.definitions ∙ known
-
--- where an `#elif` is skipped, no branch of the block can be the first to be taken
-skipped_dead : (around taken : Bool) → not around || taken ≡ true → around && not taken ≡ false
-skipped_dead true true e = refl
-skipped_dead true false e = cc
-skipped_dead false taken e = refl
-
-read_live : (around taken : Bool) → not around || taken ≡ false → around ≡ true
-read_live true taken e = refl
-read_live false taken e = cc
-
-read_untaken : (around taken : Bool) → not around || taken ≡ false → taken ≡ false
-read_untaken true true e = cc
-read_untaken false true e = cc
-read_untaken around false e = refl
-
--- the same source with other numbers of lines
-renumbered_stands : (old : Source) (r : SourceReader) (s : StandsForReader old r) (word : Location) (n : ℕ)
-    → StandsForReader (record old { line_offset = pos n -ℤ pos word.line }) (record r { line_offset = pos n -ℤ pos word.line })
-renumbered_stands old r s word n = record {
-  rest = s.rest;
-  within = s.within;
-  definitions = s.definitions;
-  line_offset = refl;
-  lined = s.lined;
-  lines = s.lines;
-  blocks = s.blocks;
-  truths = s.truths;
-  unfinished = s.unfinished;
-  unspent = s.unspent;
-  not_dead = s.not_dead;
-  remembers_text = s.remembers_text;
-  remembers_directive = s.remembers_directive;
-  directives = s.directives;
-  off_line = s.off_line;
-}
-
--- the innermost block of the facts that the table asks
-record Kept (blocks : List OpenBlock) (found : BlockFacts) : Type 0 where
-  block : OpenBlock
-  last : last_block blocks ≡ Some block
-  facts : kept_facts block ≡ found
-
-kept_among : (blocks : List OpenBlock) (found : BlockFacts) → facts_among blocks ≡ Some found → Kept blocks found
-kept_among blocks found e = go (last_block blocks) refl e
-  where
-    go : (last : Option OpenBlock) → last_block blocks ≡ last → option_map kept_facts last ≡ Some found → Kept blocks found
-    go None is e = cc
-    go (Some block) is e = record { block = block; last = is; facts = (let same : kept_facts block ≡ found = cc in same) }
 
 module _ {old : Source} {r : SourceReader} (s : StandsForReader old r) (move : Step Token) (new : Source)
     {directive : Directive} {word : Location} (e : sight_of old.rest ≡ sight.Directive directive word) where
@@ -182,18 +135,15 @@ module _ {old : Source} {r : SourceReader} (s : StandsForReader old r) (move : S
       → Simulates move r new
   number_simulates its tokens a (numbers n number pauses) =
       let there = line_here s (λ n. record { step = step.LineNumber word tokens; after = advanced_by n r }) a in
-      let same : IsLineNumber (answers_at expansion_limit) word tokens r.definitions (Ok n) =
-      subst (λ (m : Definitions). IsLineNumber (answers_at expansion_limit) word tokens m (Ok n)) (sym s.definitions) number in
+      let offset = pos n -ℤ pos word.line in
       rw pauses.0 (record {
         after = after_line_number r word n;
-        steps = steps_by (step.LineNumber word tokens) None (after_line_number r word n) there (Ok n, same, (refl, refl));
-        stands = line_stays (renumbered_stands old r s word n) e its pauses.1 pauses.2;
+        steps = steps_by (step.LineNumber word tokens) None (after_line_number r word n) there (Ok n, rw s.definitions number, (refl, refl));
+        stands = line_stays (stands_with old r s old.definitions r.definitions offset offset s.definitions refl) e its pauses.1 pauses.2;
       })
   number_simulates its tokens a (faulty_number fault number failed left) =
       let there = line_here s (λ n. record { step = step.LineNumber word tokens; after = advanced_by n r }) a in
-      let same : IsLineNumber (answers_at expansion_limit) word tokens r.definitions (Err fault) =
-      subst (λ (m : Definitions). IsLineNumber (answers_at expansion_limit) word tokens m (Err fault)) (sym s.definitions) number in
-      rw failed (record { after = r; steps = steps_by (step.LineNumber word tokens) _ r there (Err fault, same, (refl, refl)) })
+      rw failed (record { after = r; steps = steps_by (step.LineNumber word tokens) _ r there (Err fault, rw s.definitions number, (refl, refl)) })
 
   -- a line whose condition holds or not, or is at fault
   condition_simulates : (tokens : List Token) → ActsBy (decides word tokens)
@@ -203,18 +153,14 @@ module _ {old : Source} {r : SourceReader} (s : StandsForReader old r) (move : S
   condition_simulates tokens a stands (holds value condition pauses) =
       let acts = line_here s (λ n. record { step = step.Condition word tokens; after = advanced_by n r }) a in
       let there = stands value pauses in
-      let same : IsCondition (answers_at expansion_limit) word tokens r.definitions (Ok value) =
-      subst (λ (m : Definitions). IsCondition (answers_at expansion_limit) word tokens m (Ok value)) (sym s.definitions) condition in
       rw there.0 (record {
         after = after_condition r value;
-        steps = steps_by (step.Condition word tokens) None (after_condition r value) acts (Ok value, same, (refl, refl));
+        steps = steps_by (step.Condition word tokens) None (after_condition r value) acts (Ok value, rw s.definitions condition, (refl, refl));
         stands = there.1;
       })
   condition_simulates tokens a stands (faulty fault condition failed left) =
       let acts = line_here s (λ n. record { step = step.Condition word tokens; after = advanced_by n r }) a in
-      let same : IsCondition (answers_at expansion_limit) word tokens r.definitions (Err fault) =
-      subst (λ (m : Definitions). IsCondition (answers_at expansion_limit) word tokens m (Err fault)) (sym s.definitions) condition in
-      rw failed (record { after = r; steps = steps_by (step.Condition word tokens) _ r acts (Err fault, same, (refl, refl)) })
+      rw failed (record { after = r; steps = steps_by (step.Condition word tokens) _ r acts (Err fault, rw s.definitions condition, (refl, refl)) })
 
   -- lines of blocks: a block opens,
   ask_simulates : is_live_in (last_block old.blocks) ≡ true → part_of directive ≡ Some part.Opens → (asked : Bool → Bool) (name : Name)
@@ -240,31 +186,31 @@ module _ {old : Source} {r : SourceReader} (s : StandsForReader old r) (move : S
   part_simulates : part_of directive ≡ Some part.Else → (found : BlockFacts) → facts_among old.blocks ≡ Some found → ActsBy passes → Has passes
       → Simulates move r new
   part_simulates its found is a h =
-      let k = kept_among old.blocks found is in
-      passes_line s move new a (parted_last s e k.block k.last its (last_changed (Some part.Else) its None block_parted refl k.block k.last h))
+      let (block, last, facts) = mapped_some kept_facts (last_block old.blocks) found is in
+      passes_line s move new a (parted_last s e block last its (last_changed (Some part.Else) its None block_parted refl block last h))
 
   skip_simulates : part_of directive ≡ Some part.Elif → (found : BlockFacts) → facts_among old.blocks ≡ Some found → skips found ≡ true
       → ActsBy passes → Has passes → Simulates move r new
   skip_simulates its found is skipped a h =
-      let k = kept_among old.blocks found is in
-      let dead : skips (kept_facts k.block) ≡ true = ap skips k.facts ∙ skipped in
-      passes_line s move new a (skipped_last s e k.block k.last its (skipped_dead k.block.live_around k.block.taken dead)
-      (last_changed (Some part.Elif) its None (block_branched None) refl k.block k.last h))
+      let (block, last, facts) = mapped_some kept_facts (last_block old.blocks) found is in
+      let dead : skips (kept_facts block) ≡ true = ap skips facts ∙ skipped in
+      passes_line s move new a (skipped_last s e block last its (skipped_dead block.live_around block.taken dead)
+      (last_changed (Some part.Elif) its None (block_branched None) refl block last h))
 
   choose_simulates : part_of directive ≡ Some part.Elif → (found : BlockFacts) → facts_among old.blocks ≡ Some found → skips found ≡ false
       → (tokens : List Token) → ActsBy (decides word tokens) → Has (decides word tokens) → Simulates move r new
   choose_simulates its found is reads tokens a h =
-      let k = kept_among old.blocks found is in
-      let live : skips (kept_facts k.block) ≡ false = ap skips k.facts ∙ reads in
-      condition_simulates tokens a (λ value pauses.
-      decided_last s e k.block k.last its (read_live k.block.live_around k.block.taken live) (read_untaken k.block.live_around k.block.taken live) value
-      (last_changed (Some part.Elif) its (Some value) (block_branched (Some value)) refl k.block k.last pauses)) h
+      let (block, last, facts) = mapped_some kept_facts (last_block old.blocks) found is in
+      let live : skips (kept_facts block) ≡ false = ap skips facts ∙ reads in
+      let first = read_untaken block.live_around block.taken live in
+      condition_simulates tokens a (λ value pauses. decided_last s e block last its first.0 first.1 value
+      (last_changed (Some part.Elif) its (Some value) (block_branched (Some value)) refl block last pauses)) h
 
   close_simulates : part_of directive ≡ Some part.Closes → (found : BlockFacts) → facts_among old.blocks ≡ Some found → ActsBy passes → Has passes
       → Simulates move r new
   close_simulates its found is a h =
-      let k = kept_among old.blocks found is in
-      passes_line s move new a (closed_last s e k.block k.last its (changed (Some part.Closes) its (whole_line old.rest) None h))
+      let (block, last, facts) = mapped_some kept_facts (last_block old.blocks) found is in
+      passes_line s move new a (closed_last s e block last its (changed (Some part.Closes) its (whole_line old.rest) None h))
 
   passes_simulates : (live : Bool) → is_live_in (last_block old.blocks) ≡ live → Passes live (facts_among old.blocks) directive → ActsBy passes → Has passes
       → Simulates move r new

@@ -1,15 +1,13 @@
 -- What each step of a source, and each definition that is added, keeps for its reader holds of the reader in each state
 -- of a run.
-use Rattle.std.proofs.Common.{ℕ, List, [], sym, ap, subst, Option, Some, None}
-use Rattle.std.specs.Prelude.{Result, Ok, Err}
+use Rattle.std.proofs.Common.{List, [], sym, ap, subst, Option, Some, None}
 use Rattle.pp_lexer.specs.Lexed.{Seen}
-use Rattle.pp_lexer.specs.declared.token.Location.{Location}
 use Rattle.pp_lexer.specs.declared.token.Token.{Token}
 use Rattle.pp_model.specs.Names.{Name}
 use Rattle.pp_model.specs.Definitions.{Definition}
 use Rattle.pp_model.specs.Reading.{Expander}
 use Rattle.pp_model.specs.Taking.{Fetches, held, listed, read, Takes}
-use Rattle.pp_model.specs.Calls.{Fault, Gathered, Gathers, closed, inside, overfull, ended, failed, Answers, Called, Calls, alone, broken, whole}
+use Rattle.pp_model.specs.Calls.{Answers, Called, Calls}
 use Rattle.pp_model.specs.Emitting.{with_macro, Emits, itself, object, name_alone, call_refused, call}
 use Rattle.pp_model.specs.SourceReader.{SourceReader, reader_at_start}
 use Rattle.pp_model.specs.Reads.{Steps, Reads, here, later, source_reading}
@@ -18,6 +16,7 @@ use Rattle.pp_model.specs.inner.Run.{after_addition as with_definition}
 use Rattle.pp_model.specs.RunStates.{LeadsTo, nowhere, adding, giving, IsReached}
 use Rattle.pp_model.specs.declared.outcome.Outcome.{Outcome}
 use Rattle.pp_model.specs.declared.read.Taken.{Taken}
+use Rattle.pp_model.proofs.SearchLeadsLemmas.{call_leads}
 
 -- each step keeps it, and so does a definition that is added
 pub record IsKept (A : Answers) (P : SourceReader → Type 0) : Type 0 where
@@ -37,18 +36,8 @@ module _ (A : Answers) (P : SourceReader → Type 0) (kept : IsKept A P) where
   taking_keeps : (o : Taken) (e f : Expander SourceReader) → Takes (source_reading A) e o f → P e.reader → P f.reader
   taking_keeps o e f takes h = fetching_keeps takes.first e f takes.fetches h
 
-  gathering_keeps : (n : ℕ) (last : Location) (x : Result Gathered Fault) (e f : Expander SourceReader) → Gathers (source_reading A) n last e x f
-      → P e.reader → P f.reader
-  gathering_keeps n last x e f (closed n1 l1 token e1 f1 x1 t is p) h = taking_keeps _ e f t h
-  gathering_keeps n last x e f (inside n1 k l1 token e1 g f1 rest x1 t is u p) h = gathering_keeps k token.token.location rest g f u (taking_keeps _ e g t h)
-  gathering_keeps n last x e f (overfull n1 l1 token e1 f1 x1 t is p) h = taking_keeps _ e f t h
-  gathering_keeps n last x e f (ended n1 l1 e1 f1 x1 t p) h = taking_keeps _ e f t h
-  gathering_keeps n last x e f (failed n1 l1 fault e1 f1 x1 t p) h = taking_keeps _ e f t h
-
   call_keeps : (m : Definition) (c : Called) (e f : Expander SourceReader) → Calls (source_reading A) A m e c f → P e.reader → P f.reader
-  call_keeps m c e f (alone x e1 f1 c1 t is p) h = taking_keeps x e f t h
-  call_keeps m c e f (broken x paren fault e1 g f1 c1 t is u p) h = gathering_keeps 0 paren (Err fault) g f u (taking_keeps x e g t h)
-  call_keeps m c e f (whole x paren gathered answer e1 g f1 c1 t is u a p) h = gathering_keeps 0 paren (Ok gathered) g f u (taking_keeps x e g t h)
+  call_keeps = call_leads (source_reading A) (λ e f. P e.reader → P f.reader) (λ e f g first later h. later (first h)) taking_keeps A
 
   item_keeps : (o : Taken) (e f : Expander SourceReader) → Emits (source_reading A) A e o f → P e.reader → P f.reader
   item_keeps o e f (itself o1 e1 f1 t none) h = taking_keeps o e f t h

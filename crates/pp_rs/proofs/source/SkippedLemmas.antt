@@ -28,11 +28,6 @@ quiet_up_to_end position [] after quiet lined = ap (λ p. block_lines p after) (
 quiet_up_to_end position (s ∷ rest) after quiet lined =
     quiet_first position s rest after (ends_line s.item) refl quiet (λ e. quiet_up_to_end (position + 1) rest after (lined.0 e) lined.1)
 
--- nor does the rest of a line, after an item that does not end it
-pub quiet_skipped : (position : ℕ) (s : Seen) (rest after : List Seen) → ends_line s.item ≡ false → AreLined (s ∷ rest)
-    → block_lines position (take (line_length rest) rest ++ after) ≡ block_lines (position + line_length rest) after
-quiet_skipped position s rest after e lined = quiet_up_to_end position rest after (lined.0 e) lined.1
-
 -- nor do the items after a directive's word, up to the end of its line
 pub quiet_after_word : (position : ℕ) (rest after : List Seen) (directive : Directive) (word : Location)
     → sight_of rest ≡ sight.Directive directive word → AreLined rest
@@ -41,4 +36,4 @@ quiet_after_word position rest after directive word e lined =
     let b = begins_directive rest directive word e in
     let there : AreLined (b.hash ∷ b.name ∷ b.after) = subst AreLined b.front lined in
     subst (λ items. IsQuietLine position items after (line_length items)) (sym (ap (λ items. drop 2 items) b.front))
-    (quiet_skipped position b.name b.after after b.goes_on there.1)
+    (quiet_up_to_end position b.after after (there.1.0 b.goes_on) there.1.1)

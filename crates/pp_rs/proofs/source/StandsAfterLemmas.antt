@@ -1,6 +1,6 @@
 -- The reader that a source stands for: whether its text is live, its innermost block, and its position some items
 -- further on.
-use Rattle.std.proofs.Common.{◌≡◌, ◌∙◌, ℕ, ◌+◌, ◌-◌, ◌≤◌, false, List, [], ◌∷◌, ◌++◌, length, take, drop, refl, ap, sym, subst, Option, Some, None, arith, append-nil, length-drop}
+use Rattle.std.proofs.Common.{◌≡◌, ◌∙◌, ℕ, ℤ, ◌+◌, ◌-◌, ◌≤◌, false, List, [], ◌∷◌, ◌++◌, length, take, drop, refl, ap, sym, subst, Option, Some, None, arith, append-nil, length-drop}
 use Rattle.std.proofs.lemmas.List.{drop-drop}
 use Rattle.std.specs.List.{slice_get}
 use Rattle.pp_lexer.specs.Lexed.{Seen}
@@ -9,7 +9,7 @@ use Rattle.pp_model.specs.Blocks.{Truths, open_blocks, block_lines, blocks_at, i
 use Rattle.pp_model.specs.SourceReader.{SourceReader}
 use Rattle.pp_model.specs.inner.Acts.{after_word}
 use Rattle.pp_model.specs.declared.block.BlockLine.{BlockLine}
-use Rattle.pp_macros.specs.inner.Defined.{meaning_of}
+use Rattle.pp_macros.specs.inner.Defined.{Defined, meaning_of}
 use Rattle.pp_directives.specs.inner.Lined.{AreLined}
 use Rattle.pp_macros.specs.inner.OpenBlocks.{last_block, outer_blocks, is_live_in, StandForBlocks, AreBefore}
 use Rattle.pp_macros.specs.declared.blocks.OpenBlock.{OpenBlock}
@@ -72,6 +72,27 @@ module _ (old : Source) (r : SourceReader) (s : StandsForReader old r) where
 
   pub remembered_here : IsRemembered old r.items r.truths r.position
   remembered_here = record { text = s.remembers_text; directive = s.remembers_directive; apart = s.directives; off_line = s.off_line }
+
+  -- with other definitions, and other numbers of lines
+  pub stands_with : (definitions : List Defined) (meaning : Definitions) (offset other : ℤ) → meaning ≡ meaning_of definitions → other ≡ offset
+      → StandsForReader (record old { definitions = definitions; line_offset = offset }) (record r { definitions = meaning; line_offset = other })
+  stands_with definitions meaning offset other means same = record {
+    rest = s.rest;
+    within = s.within;
+    definitions = means;
+    line_offset = same;
+    lined = s.lined;
+    lines = s.lines;
+    blocks = s.blocks;
+    truths = s.truths;
+    unfinished = s.unfinished;
+    unspent = s.unspent;
+    not_dead = s.not_dead;
+    remembers_text = s.remembers_text;
+    remembers_directive = s.remembers_directive;
+    directives = s.directives;
+    off_line = s.off_line;
+  }
 
   -- some items further on
   pub stands_further : (n : ℕ) (definitions : Definitions) (truths : Truths) (more : List BlockLine) (new : Source) → n ≤ length old.rest

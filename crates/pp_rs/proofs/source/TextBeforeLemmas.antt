@@ -22,11 +22,9 @@ dead_none false on live e = refl
 -- a position off such a line in live text
 text_by : (text on live : Bool) → (live ≡ true → on ≡ false) → (text && not on && live) ≡ (live && text)
 text_by true true true h = let bad : true ≡ false = h refl in cc
-text_by true true false h = refl
 text_by true false true h = refl
-text_by true false false h = refl
 text_by false on true h = refl
-text_by false on false h = refl
+text_by _ _ _ h = refl
 
 module _ (source : List Seen) (truths : Truths) where
   -- what one position more adds

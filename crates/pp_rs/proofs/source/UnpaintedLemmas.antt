@@ -7,17 +7,15 @@ use Rattle.pp_macros.specs.inner.Reader.{of_source, Reads}
 use Rattle.pp_macros.specs.inner.Reading.{unpainted_step}
 use Rattle.pp_macros.specs.inner.Source.{Source, StepsSource, unreported_of}
 use Rattle.pp_macros.specs.inner.Unreported.{Unreported, StepReports}
-use Rattle.pp_macros.specs.declared.step.StepExit.TheVariants.{Error, Continue, Finished}
+use Rattle.pp_macros.specs.declared.step.StepExit.TheVariants.{Finished}
 
 pub unpainted_reported : (given : Step Token) → wants_memory (unpainted_step given) ≡ false → wants_memory given ≡ false
 unpainted_reported (Ok token) h = refl
 unpainted_reported (Err exit) h = h
 
 pub unpainted_end : (given : Step Token) → unpainted_step given ≡ Err Finished → given ≡ Err Finished
-unpainted_end (Ok token) e = cc
-unpainted_end (Err Continue) e = cc
 unpainted_end (Err Finished) e = refl
-unpainted_end (Err (Error fault)) e = cc
+unpainted_end _ e = cc
 
 pub unpainted_tells : (given : Step Token) (old new : Unreported) → StepReports given old new → StepReports (unpainted_step given) old new
 unpainted_tells (Ok token) old new h = h
