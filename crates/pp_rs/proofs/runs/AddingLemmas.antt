@@ -1,5 +1,5 @@
 -- What adding a definition does to a preprocessor.
-use Rattle.std.proofs.Common.{◌≡◌, ◌∙◌, ℕ, ◌+◌, Bool, true, false, if◌then◌else◌, List, [], ◌∷◌, length, Option, Some, None, Ok, Err, IsSome, refl, ap, sym, subst}
+use Rattle.std.proofs.Common.{◌≡◌, ◌∙◌, ℕ, ◌+◌, Bool, true, false, if◌then◌else◌, List, [], ◌∷◌, length, Option, Some, Ok, Err, IsSome, refl, ap, sym, subst}
 use Rattle.std.specs.Str.{chars}
 use Rattle.pp_lexer.specs.PreprocessorError.{out_of_memory}
 use Rattle.pp_lexer.specs.declared.token.Token.{Token}
@@ -26,38 +26,20 @@ use Rattle.pp_macros.specs.inner.Unreported.{unreported_with}
 use Rattle.pp_rs.specs.inner.Stands.{StandsForReader, StandsForHeld, StandsFor}
 use Rattle.pp_macros.specs.declared.step.StepExit.TheVariants.{Error, Continue, Finished}
 use Rattle.pp_macros.proofs.open_frames.OpenSoundLemmas.{numbers_more}
+use Rattle.pp_rs.proofs.source.StandsAfterLemmas.{stands_with}
 use Rattle.pp_rs.proofs.runs.LeftLemmas.{no_more_work}
 
 module _ (name : Name) (tokens : List Token) (old new : Source) (h : IsSetIn name tokens old new) where
   reader_added : (definitions : List Defined) → IsChanged name (Some (object_like tokens)) old.definitions definitions → (r : SourceReader)
       → StandsForReader old r → StandsForReader (record old { definitions = definitions }) (after_addition name tokens r)
-  reader_added definitions c r s = record {
-    rest = s.rest;
-    within = s.within;
-    definitions = ap (λ (m : Definitions). with_change m name (Some (object_like tokens))) s.definitions ∙ sym c.meaning;
-    line_offset = s.line_offset;
-    lined = s.lined;
-    lines = s.lines;
-    blocks = s.blocks;
-    truths = s.truths;
-    unfinished = s.unfinished;
-    unspent = s.unspent;
-    not_dead = s.not_dead;
-    remembers_text = s.remembers_text;
-    remembers_directive = s.remembers_directive;
-    directives = s.directives;
-    off_line = s.off_line;
-  }
+  reader_added definitions c r s =
+      stands_with old r s definitions (with_change r.definitions name (Some (object_like tokens))) old.line_offset r.line_offset
+      (ap (λ (m : Definitions). with_change m name (Some (object_like tokens))) s.definitions ∙ sym c.meaning) s.line_offset
 
   held_added : (o : Option (Step Read)) (r : SourceReader) → StandsForHeld o old r → StandsForHeld o new (after_addition name tokens r)
-  held_added None r s = subst (λ (source : Source). StandsForReader source (after_addition name tokens r)) (sym h.others)
-      (reader_added new.definitions h.definitions r s)
-  held_added (Some (Ok read)) r s = subst (λ (source : Source). StandsForReader source (after_addition name tokens r)) (sym h.others)
-      (reader_added new.definitions h.definitions r s)
-  held_added (Some (Err Finished)) r s = subst (λ (source : Source). StandsForReader source (after_addition name tokens r)) (sym h.others)
-      (reader_added new.definitions h.definitions r s)
-  held_added (Some (Err Continue)) r s = s
   held_added (Some (Err (Error fault))) r s = tt
+  held_added (Some (Err Continue)) r s = s
+  held_added _ r s = subst (λ (source : Source). StandsForReader source (after_addition name tokens r)) (sym h.others) (reader_added new.definitions h.definitions r s)
 
   -- each state is now one in which the definition was added
   pub stands_added : (m : kept.Expander) (e : Expander SourceReader) → StandsFor m old e → StandsFor m new (with_added name tokens e)
@@ -86,11 +68,8 @@ module _ (name : Name) (tokens : List Token) (old new : Source) (h : IsSetIn nam
   last_added o frames last = subst (λ (source : Source). EndIsLast o frames (of_source source)) (sym h.others) (same o last)
     where
       same : (o : Option (Step Read)) → EndIsLast o frames (of_source old) → EndIsLast o frames (of_source (record old { definitions = new.definitions }))
-      same None last = tt
-      same (Some (Ok read)) last = tt
-      same (Some (Err Continue)) last = tt
       same (Some (Err Finished)) last = last
-      same (Some (Err (Error fault))) last = tt
+      same _ last = tt
 
   pub fit_added : (m : kept.Expander) → IsFit m old → IsFit m new
   fit_added m fit = record {

@@ -19,8 +19,7 @@ use Rattle.pp_rs.specs.Kept.{Preprocessing, IsAhead, kept_line, call_line}
 
 -- if nothing is held, the line of the call is that of the outermost frame
 free_call_line : (o : Option (Step Read)) (line : Option ℕ) (frames : List Frame) → o ≡ None → kept_line o line frames ≡ outermost_frame_line frames
-free_call_line None line frames free = refl
-free_call_line (Some step) line frames free = cc
+free_call_line o line frames free = rw free refl
 
 -- a token that is taken, with nothing held after it, leaves the outermost macro open
 turn_line : (m n : Expander) (r s : Reader) (step : Step Taken) (read : Read) → TurnsTo m r step n s → step ≡ Ok (taken.Token read) → n.held ≡ None

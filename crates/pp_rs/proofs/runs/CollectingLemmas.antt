@@ -3,8 +3,6 @@ use Rattle.std.proofs.Common.{◌≡◌, ◌∙◌, ◌⊎◌, append_assoc, inl
 use Rattle.std.specs.Prelude.{Ok, Err, MatchBool}
 use Rattle.std.proofs.lemmas.List.{append-nil}
 use Rattle.std.proofs.lemmas.List.Elements.{All-nil, All-push}
-use Rattle.pp_lexer.specs.declared.token.Token.{Token}
-use Rattle.pp_model.specs.declared.outcome.Outcome.TheVariants as outcome
 use Rattle.pp_rs.specs.Collecting.{tokens_before_error, first_error, error_or_end, AreItemsFrom, AreItemsOf, Reports, AreReported, HaveComeFrom, HaveCome, AreAll, AreAppended, AreAllAppended}
 use Rattle.pp_rs.specs.Collecting.{AreNextItems, nothing, one_more, AreItemsToEnd, of_list, of_item, IsDrained}
 use Rattle.pp_rs.specs.Comes.{State, IsRunFrom}
@@ -19,64 +17,38 @@ use Rattle.pp_lexer.specs.declared.token.Location.{Location}
 use Rattle.pp_rs.proofs.runs.ComesLemmas.{gives_nothing, gives_more}
 
 -- after an error nothing changes
-error_stays : (items more : List Item) (fault : Fault) → first_error items ≡ Some fault → first_error (items ++ more) ≡ Some fault
+error_stays : (items more : List Item) (fault : Fault) → first_error items ≡ Some fault
+    → (first_error (items ++ more) ≡ Some fault) × (tokens_before_error (items ++ more) ≡ tokens_before_error items)
 error_stays [] more fault e = cc
-error_stays (Ok token ∷ items) more fault e = error_stays items more fault e
-error_stays (Err first ∷ items) more fault e = e
-
-tokens_stay : (items more : List Item) (fault : Fault) → first_error items ≡ Some fault → tokens_before_error (items ++ more) ≡ tokens_before_error items
-tokens_stay [] more fault e = cc
-tokens_stay (Ok token ∷ items) more fault e = ap (λ ts. token ∷ ts) (tokens_stay items more fault e)
-tokens_stay (Err first ∷ items) more fault e = refl
+error_stays (Ok token ∷ items) more fault e = let h = error_stays items more fault e in (h.0, ap (λ ts. token ∷ ts) h.1)
+error_stays (Err first ∷ items) more fault e = (e, refl)
 
 -- one item more, where there was no error
-error_of_more : (items more : List Item) → first_error items ≡ None → first_error (items ++ more) ≡ first_error more
-error_of_more [] more e = refl
-error_of_more (Ok token ∷ items) more e = error_of_more items more e
-error_of_more (Err first ∷ items) more e = cc
-
-tokens_of_more : (items more : List Item) → first_error items ≡ None
-    → tokens_before_error (items ++ more) ≡ tokens_before_error items ++ tokens_before_error more
-tokens_of_more [] more e = refl
-tokens_of_more (Ok token ∷ items) more e = ap (λ ts. token ∷ ts) (tokens_of_more items more e)
-tokens_of_more (Err first ∷ items) more e = cc
-
-no_tokens_more : (tokens : List Token) → tokens ++ [] ≡ tokens
-no_tokens_more [] = refl
-no_tokens_more (token ∷ tokens) = ap (λ ts. token ∷ ts) (no_tokens_more tokens)
-
--- the same run of equal tokens
-run_as : (state : State) (tokens others : List Token) (fault : Fault) → others ≡ tokens → IsRunFrom state tokens (outcome.Fault fault)
-    → IsRunFrom state others (outcome.Fault fault)
-run_as state tokens others fault e h = subst (λ ts. IsRunFrom state ts (outcome.Fault fault)) (sym e) h
-
-have_as : (state : State) (items : List Item) (new : Preprocessing) (error other : Option Fault) → other ≡ error
-    → HaveComeFrom state items error new → HaveComeFrom state items other new
-have_as state items new error other e h = subst (λ x. HaveComeFrom state items x new) (sym e) h
+after_no_error : (items more : List Item) → first_error items ≡ None
+    → (first_error (items ++ more) ≡ first_error more) × (tokens_before_error (items ++ more) ≡ tokens_before_error items ++ tokens_before_error more)
+after_no_error [] more e = (refl, refl)
+after_no_error (Ok token ∷ items) more e = let h = after_no_error items more e in (h.0, ap (λ ts. token ∷ ts) h.1)
+after_no_error (Err first ∷ items) more e = cc
 
 module _ (state : State) (items : List Item) (now new : Preprocessing) where
   -- one item more
   item_more : (item : Item) (error : Option Fault) → is_spent now ≡ false → first_error items ≡ error → HaveComeFrom state items error now
       → IsGivenItem now (Some item) new → HaveComeFrom state (items ++ item ∷ []) (first_error (items ++ item ∷ [])) new
   item_more item (Some fault) ready e h given =
-      have_as state (items ++ item ∷ []) new (Some fault) _ (error_stays items (item ∷ []) fault e)
-      (run_as state _ _ fault (tokens_stay items (item ∷ []) fault e) h)
+      let same = error_stays items (item ∷ []) fault e in
+      rw (same.0, same.1) h
   item_more (Ok token) None ready e h given =
       let next = given.item h.0 (h.2 ready) in
-      have_as state (items ++ Ok token ∷ []) new None _ (error_of_more items (Ok token ∷ []) e) (
+      let all = after_no_error items (Ok token ∷ []) e in
+      rw all.0 (
         next.after,
-        rw (tokens_of_more items (Ok token ∷ []) e) (gives_more (tokens_before_error items) token state h.0 next.after h.1 next.emits),
+        rw all.1 (gives_more (tokens_before_error items) token state h.0 next.after h.1 next.emits),
         λ unspent. next.goes_on,
       )
   item_more (Err fault) None ready e h given =
       let next = given.item h.0 (h.2 ready) in
-      have_as state (items ++ Err fault ∷ []) new (Some fault) _ (error_of_more items (Err fault ∷ []) e)
-      (run_as state (tokens_before_error items) _ fault (tokens_of_more items (Err fault ∷ []) e ∙ no_tokens_more (tokens_before_error items)) (record {
-        before = h.0;
-        gives = h.1;
-        after = next.after;
-        ends = next.emits;
-      }))
+      let all = after_no_error items (Err fault ∷ []) e in
+      rw (all.0, all.1, append-nil) (record { before = h.0; gives = h.1; after = next.after; ends = next.emits })
 
   -- memory for the next one was refused
   item_refused : (error : Option Fault) → is_spent new ≡ true → HaveComeFrom state items error now → HaveComeFrom state items error new

@@ -23,9 +23,7 @@ use Rattle.pp_rs.proofs.runs.PassedLemmas.{passed_nothing}
 -- a token reference refers to an ordinary token
 value_ordinary : (v : ValueRef) → IsTrue (is_ordinary (value_of v))
 value_ordinary (value.Ident name) = refl
-value_ordinary (value.Integer integer) = refl
-value_ordinary (value.Float text width) = refl
-value_ordinary (value.Punct punct) = refl
+value_ordinary _ = refl
 
 pub refers_to_ordinary : (t : TokenRef) → IsTrue (is_ordinary (token_of t).value)
 refers_to_ordinary t = value_ordinary t.value

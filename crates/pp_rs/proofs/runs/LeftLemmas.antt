@@ -1,14 +1,12 @@
 -- A turn that isn't the end had something left to read.
 use Rattle.std.proofs.Common.{◌≡◌, ◌≢◌, ◌⊎◌, ◌∙◌, inl, inr, ℕ, ◌<◌, length, arith, true, false, Bool, List, [], ◌∷◌, refl, ap, sym, subst, Option, Some, None}
-use Rattle.std.specs.Prelude.{Ok, Err, ◌-◌, ℤ}
+use Rattle.std.specs.Prelude.{Ok, Err, ◌-◌}
 use Rattle.std.specs.Fn.{iterate}
 use Rattle.pp_lexer.specs.Lexed.{Seen}
-use Rattle.pp_lexer.specs.declared.token.Location.{Location}
 use Rattle.pp_lexer.specs.declared.token.Token.{Token}
 use Rattle.pp_model.specs.Names.{Name}
 use Rattle.pp_model.specs.declared.read.Read.{Read}
 use Rattle.pp_macros.specs.inner.CallTurns.{TakesSomething}
-use Rattle.pp_macros.specs.inner.Defined.{Defined}
 use Rattle.pp_macros.specs.inner.Frames.{Frame}
 use Rattle.pp_macros.specs.Item.{Step}
 use Rattle.pp_macros.specs.inner.Left.{work_of, regions, regions_of, most_open, most_bodies, holding_step}
@@ -35,61 +33,25 @@ abbrev pub SomethingLeft : Expander → Source → Type 0
 SomethingLeft expander source = HoldsMore expander.held ⊎ (expander.frames ≢ []) ⊎ (source.rest ≢ []) ⊎ (source.blocks ≢ [])
 
 -- a source with nothing left is at its end
-empty_source : (places : List Location) (error_place : Option Location) (definitions : List Defined)
-    (line_offset : ℤ) (has_text has_directive dead : Bool) (new : Source) (step : Step Token)
-    → StepsSource (record {
-      rest = [];
-      places = places;
-      error_place = error_place;
-      definitions = definitions;
-      blocks = [];
-      line_offset = line_offset;
-      spent = false;
-      has_text = has_text;
-      has_directive = has_directive;
-      dead_for_good = dead;
-    }) step new → step ≡ Err Finished
-empty_source places error_place definitions line_offset has_text has_directive dead new step (inl h) = absurd (h.some_left refl)
-empty_source places error_place definitions line_offset has_text has_directive true new step (inr h) = h.0
-empty_source places error_place definitions line_offset has_text has_directive false new step (inr h) = h.0
+empty_source : (old : Source) (dead : Bool) (new : Source) (step : Step Token)
+    → StepsSource (record old { rest = []; blocks = []; spent = false; dead_for_good = dead }) step new → step ≡ Err Finished
+empty_source old dead new step (inl h) = absurd (h.some_left refl)
+empty_source old true new step (inr h) = h.0
+empty_source old false new step (inr h) = h.0
 
-read_before : (rest : List Seen) (places : List Location) (error_place : Option Location) (definitions : List Defined) (blocks : List OpenBlock)
-    (line_offset : ℤ) (has_text has_directive dead : Bool) (s : Reader) (step : Step Read)
-    → Reads (of_source (record {
-      rest = rest;
-      places = places;
-      error_place = error_place;
-      definitions = definitions;
-      blocks = blocks;
-      line_offset = line_offset;
-      spent = false;
-      has_text = has_text;
-      has_directive = has_directive;
-      dead_for_good = dead;
-    })) step s → (step ≡ Err Finished → ⊥)
+read_before : (old : Source) (rest : List Seen) (blocks : List OpenBlock) (s : Reader) (step : Step Read)
+    → Reads (of_source (record old { rest = rest; blocks = blocks; spent = false })) step s → (step ≡ Err Finished → ⊥)
     → (rest ≢ []) ⊎ (blocks ≢ [])
-read_before (x ∷ rest) places error_place definitions blocks line_offset has_text has_directive dead s step h goes = inl (λ e. cc)
-read_before [] places error_place definitions (block ∷ blocks) line_offset has_text has_directive dead s step h goes = inr (λ e. cc)
-read_before [] places error_place definitions [] line_offset has_text has_directive dead (of_source new) step h goes =
-    absurd (goes (h.is ∙ ap unpainted_step (empty_source places error_place definitions line_offset has_text has_directive dead new h.given h.steps)))
-read_before [] places error_place definitions [] line_offset has_text has_directive dead (of_list new) step h goes = absurd h
+read_before old (x ∷ rest) blocks s step h goes = inl (λ e. cc)
+read_before old [] (block ∷ blocks) s step h goes = inr (λ e. cc)
+read_before old [] [] (of_source new) step h goes =
+    absurd (goes (h.is ∙ ap unpainted_step (empty_source old old.dead_for_good new h.given h.steps)))
+read_before old [] [] (of_list new) step h goes = absurd h
 
 left_in_source : (old : Source) (s : Reader) (step : Step Read) → old.spent ≡ false → Reads (of_source old) step s → (step ≡ Err Finished → ⊥)
     → (old.rest ≢ []) ⊎ (old.blocks ≢ [])
 left_in_source old s step unspent h goes =
-    read_before old.rest old.places old.error_place old.definitions old.blocks old.line_offset old.has_text old.has_directive old.dead_for_good s step
-    (subst (λ (b : Bool). Reads (of_source (record {
-      rest = old.rest;
-      places = old.places;
-      error_place = old.error_place;
-      definitions = old.definitions;
-      blocks = old.blocks;
-      line_offset = old.line_offset;
-      spent = b;
-      has_text = old.has_text;
-      has_directive = old.has_directive;
-      dead_for_good = old.dead_for_good;
-    })) step s) unspent h) goes
+    read_before old old.rest old.blocks s step (subst (λ (b : Bool). Reads (of_source (record old { spent = b })) step s) unspent h) goes
 
 reads_more : (frames : List Frame) (old : Source) → (old.rest ≢ []) ⊎ (old.blocks ≢ []) → (frames ≢ []) ⊎ (old.rest ≢ []) ⊎ (old.blocks ≢ [])
 reads_more frames old (inl h) = inr (inl h)

@@ -11,7 +11,7 @@ use Rattle.pp_model.specs.Reading.{Expander}
 use Rattle.pp_model.specs.SourceReader.{SourceReader}
 use Rattle.pp_model.specs.declared.outcome.Outcome.{Outcome}
 use Rattle.pp_rs.specs.Comes.{Comes}
-use Rattle.pp_rs.specs.inner.Fit.{EndIsLast, IsFit, IsReported}
+use Rattle.pp_rs.specs.inner.Fit.{IsFit, IsReported}
 use Rattle.pp_macros.specs.Held.{HoldsOrdinary}
 use Rattle.pp_macros.specs.Item.{Item, Step, is_out_of_memory, wants_memory}
 use Rattle.pp_macros.specs.inner.CallTurns.{TakesSomething}
@@ -25,7 +25,7 @@ use Rattle.pp_rs.specs.inner.SourceTurns.{TurnsSource, StepsOver}
 use Rattle.pp_rs.specs.inner.Stands.{StandsFor}
 use Rattle.pp_rs.specs.Kept.{Preprocessing, Stands, is_spent, most_items, errors_left, error_place, kept_line, call_line}
 use Rattle.pp_rs.specs.Preprocessing.{IsLessLeft, IsErrorAt, of_lexer, of_its_own, IsRefusedItem, IsGivenItem, IsNextItem}
-use Rattle.pp_macros.specs.inner.Unreported.{with_read, IsReportedBut}
+use Rattle.pp_macros.specs.inner.Unreported.{with_read}
 use Rattle.pp_macros.specs.declared.step.StepExit.TheVariants.{Error, Continue, Finished}
 use Rattle.pp_rs.proofs.runs.Leads.{GivesItem, LeadsFrom, Leads, leads_then}
 use Rattle.pp_rs.proofs.runs.LeftLemmas.{SomethingLeft, some_left, left_is_work, no_work}
@@ -58,6 +58,10 @@ reached_first expander now source source_now e f fit = rw (e, f) (record {
 })
 
 module _ (expander now after : kept.Expander) (source source_now source_after : Source) (r : Reached expander source now source_now) where
+  -- what is kept after the turn
+  abbrev pub kept_with : Source → Bool → Location → Option ℕ → Preprocessing
+  kept_with source spent place line = record { expander = after; source = source; spent = spent; place = place; name_line = line }
+
   abbrev pub Over : Step Token → Type 0
   Over step = StepsOver expansion_limit now source_now step after source_after
 
@@ -117,13 +121,8 @@ module _ (expander now after : kept.Expander) (source source_now source_after : 
       let fit = fits (Err (Error fault)) h reported in
       let free = (errors_last (Err (Error fault)) h reported).0 in
       rw is (
-        record {
-          unspent = fit.unspent;
-          sound = fit.sound;
-          last =
-              subst (λ (o : Option (Step Read)). EndIsLast o after.frames (of_source (record source_after { error_place = None }))) (sym free) tt;
-        },
-        subst (λ (o : Option (Step Read)). IsReportedBut o (unreported_of (record source_after { error_place = None }))) (sym free) refl,
+        record { unspent = fit.unspent; sound = fit.sound; last = rw free tt },
+        rw free refl,
       )
 
   -- the answers from a state that isn't spent
@@ -146,7 +145,7 @@ module _ (expander now after : kept.Expander) (source source_now source_after : 
 
     -- less is left after a token or a fault
     less_last : (step : Step Token) (place : Location) (line : Option ℕ) → Over step → wants_memory step ≡ false → (step ≡ Err Finished → ⊥)
-        → most_items (record { expander = after; source = source_after; spent = false; place = place; name_line = line }) < most_items old
+        → most_items (kept_with source_after false place line) < most_items old
     unfolding most_items
     less_last step place line turn reported goes =
         let lower = falls step turn reported goes in
@@ -159,11 +158,11 @@ module _ (expander now after : kept.Expander) (source source_now source_after : 
     pub next_token : (token : Token) (spent : Bool) (place : Location) (line : Option ℕ) → spent ≡ false → place ≡ old.place
         → kept_line after.held line after.frames ≡ kept_line after.held (outermost_frame_line now.frames) after.frames → Over (Ok token)
         → HoldsOrdinary token.value
-        → IsNextItem old (Some (Ok token)) (record { expander = after; source = source_after; spent = spent; place = place; name_line = line })
+        → IsNextItem old (Some (Ok token)) (kept_with source_after spent place line)
     unfolding Stands is_spent errors_left error_place call_line
     next_token token true place line fresh_now same kept turn holds = cc
     next_token token false place line fresh_now same kept turn holds =
-        as_next (Some (Ok token)) (record { expander = after; source = source_after; spent = false; place = place; name_line = line }) (inr (record {
+        as_next (Some (Ok token)) (kept_with source_after false place line) (inr (record {
           item = λ e stands.
               let leads : LeadsFrom (answers_at expansion_limit) e (Ok token) (outermost_frame_line now.frames) after source_after =
               (leads_last (Ok token) turn refl).from e (stands_first e stands) in
@@ -194,7 +193,7 @@ module _ (expander now after : kept.Expander) (source source_now source_after : 
     some_items turn = omega (arith, falls_more turn, r.less, most_first)
 
     end_last : (place : Location) (line : Option ℕ) → Over (Err Finished)
-        → most_items (record { expander = after; source = source_after; spent = false; place = place; name_line = line }) ≡ 0
+        → most_items (kept_with source_after false place line) ≡ 0
     unfolding most_items
     end_last place line turn =
         let e = source_ends expansion_limit now source_now source_after r.fit after (turned (Err Finished) turn refl) in
@@ -209,18 +208,17 @@ module _ (expander now after : kept.Expander) (source source_now source_after : 
     -- if nothing is held, no line is kept for it
     pub free_line : (o : Option (Step Read)) (line : Option ℕ) → o ≡ None
         → kept_line o line after.frames ≡ kept_line o (outermost_frame_line now.frames) after.frames
-    free_line None line free = refl
-    free_line (Some step) line free = cc
+    free_line o line free = rw free refl
 
     end_free : Over (Err Finished) → after.held ≡ None
     end_free turn = (source_ends expansion_limit now source_now source_after r.fit after (turned (Err Finished) turn refl)).0
 
     pub next_end : (spent : Bool) (place : Location) (line : Option ℕ) → spent ≡ false → place ≡ old.place → Over (Err Finished)
-        → IsNextItem old None (record { expander = after; source = source_after; spent = spent; place = place; name_line = line })
+        → IsNextItem old None (kept_with source_after spent place line)
     unfolding Stands is_spent errors_left error_place call_line
     next_end true place line fresh_now same turn = cc
     next_end false place line fresh_now same turn =
-        as_next None (record { expander = after; source = source_after; spent = false; place = place; name_line = line }) (inr (record {
+        as_next None (kept_with source_after false place line) (inr (record {
           item = λ e stands.
               let leads : LeadsFrom (answers_at expansion_limit) e (Err Finished) (outermost_frame_line now.frames) after source_after =
               (leads_last (Err Finished) turn refl).from e (stands_first e stands) in
@@ -239,30 +237,30 @@ module _ (expander now after : kept.Expander) (source source_now source_after : 
     -- a fault is reported where it stands: the place that was taken is that of an error of the lexer
     module _ (fault : Fault) (reported_source : Source) (place : Location) (line : Option ℕ) (is : reported_source ≡ record source_after { error_place = None }) where
       error_reported : (taken : Option Location) (left : List ErrorAt) → errors_of expander source ≡ with_read fault taken left
-          → place ≡ unwrap_or taken fault.1 → errors_left (record { expander = after; source = reported_source; spent = false; place = place; name_line = line }) ≡ left
-          → IsErrorAt fault old (record { expander = after; source = reported_source; spent = false; place = place; name_line = line })
+          → place ≡ unwrap_or taken fault.1 → errors_left (kept_with reported_source false place line) ≡ left
+          → IsErrorAt fault old (kept_with reported_source false place line)
       unfolding error_place
       error_reported (Some there) left e at same = of_lexer (errors_first ∙ e
           ∙ ap (λ (es : List ErrorAt). record { item = fault; place = there } ∷ es) (sym same)
           ∙ ap (λ (p : Location). record { item = fault; place = p } ∷ errors_left
-          (record { expander = after; source = reported_source; spent = false; place = place; name_line = line })) (sym at))
+          (kept_with reported_source false place line)) (sym at))
       error_reported None left e at same = of_its_own at (same ∙ sym e ∙ sym errors_first)
 
       errors_now : Over (Err (Error fault)) → is_out_of_memory fault.0 ≡ false
-          → errors_left (record { expander = after; source = reported_source; spent = false; place = place; name_line = line }) ≡ (unreported_of source_after).later
+          → errors_left (kept_with reported_source false place line) ≡ (unreported_of source_after).later
       unfolding errors_left
       errors_now turn reported = rw (is, (errors_last (Err (Error fault)) turn reported).0) refl
 
       less_now : Over (Err (Error fault)) → is_out_of_memory fault.0 ≡ false
-          → most_items (record { expander = after; source = reported_source; spent = false; place = place; name_line = line }) < most_items old
+          → most_items (kept_with reported_source false place line) < most_items old
       unfolding most_items
       less_now turn reported = rw is (less_last (Err (Error fault)) place line turn reported (λ e. cc))
 
       next_fault : Over (Err (Error fault)) → is_out_of_memory fault.0 ≡ false → place ≡ unwrap_or source_after.error_place fault.1
-          → IsNextItem old (Some (Err fault)) (record { expander = after; source = reported_source; spent = false; place = place; name_line = line })
+          → IsNextItem old (Some (Err fault)) (kept_with reported_source false place line)
       unfolding is_spent call_line
       next_fault turn reported at =
-          as_next (Some (Err fault)) (record { expander = after; source = reported_source; spent = false; place = place; name_line = line }) (inr (record {
+          as_next (Some (Err fault)) (kept_with reported_source false place line) (inr (record {
             item = λ e stands.
                 let leads : LeadsFrom (answers_at expansion_limit) e (Err (Error fault)) (outermost_frame_line now.frames) after source_after =
                 (leads_last (Err (Error fault)) turn reported).from e (stands_first e stands) in
@@ -280,17 +278,17 @@ module _ (expander now after : kept.Expander) (source source_now source_after : 
           })) (less_now turn reported)
 
       next_refusal : Over (Err (Error fault)) → IsNextItem old (Some (Err out_of_memory))
-          (record { expander = after; source = reported_source; spent = true; place = place; name_line = line })
+          (kept_with reported_source true place line)
       unfolding is_spent most_items
       next_refusal turn =
           let left : SomethingLeft expander source = left_now (Err (Error fault)) turn (λ e. cc) in
-          as_next (Some (Err out_of_memory)) (record { expander = after; source = reported_source; spent = true; place = place; name_line = line })
+          as_next (Some (Err out_of_memory)) (kept_with reported_source true place line)
           (inl (record { item = refl; spent = refl })) (omega (arith, left_is_work expansion_limit expander source left, most_first))
 
       pub next_error : (want : Bool) → is_out_of_memory fault.0 ≡ want → Over (Err (Error fault))
           → place ≡ unwrap_or source_after.error_place (if want then out_of_memory else fault).1
           → IsNextItem old (Some (Err (if want then out_of_memory else fault)))
-          (record { expander = after; source = reported_source; spent = want; place = place; name_line = line })
+          (kept_with reported_source want place line)
       next_error true e turn at = next_refusal turn
       next_error false e turn at = next_fault turn e at
 

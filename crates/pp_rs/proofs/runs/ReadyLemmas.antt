@@ -130,7 +130,7 @@ step_end m n r s step e ready last steps =
     fetch_end m n r s steps.first (painted_end (masks n.frames s) steps.first (sym steps.paints ∙ e)) ready last steps.fetches
 
 free_last : (o : Option (Step Read)) (fs : List Frame) (r : Reader) → o ≡ None → EndIsLast o fs r
-free_last o fs r e = subst (λ (x : Option (Step Read)). EndIsLast x fs r) (sym e) tt
+free_last o fs r e = rw e tt
 
 next_end : (m n : Expander) (r s : Reader) (step : Step Read) → step ≡ Err Finished → IsReady r → EndIsLast m.held m.frames r
     → TakesNext m r step n s → (n.frames ≡ []) × NothingIn s
@@ -150,10 +150,8 @@ seeks_ready m n r s c ready (called next paren m1 between n1 r1 s1 t1 g c1 taken
 
 -- what is held after a search is what was found, or nothing
 held_last : (next : Step Read) (m n : Expander) (r s : Reader) → IsReady r → m.held ≡ None → TakesNext m r next n s → EndIsLast (Some next) n.frames s
-held_last (Ok read) m n r s ready free next = tt
-held_last (Err Continue) m n r s ready free next = tt
 held_last (Err Finished) m n r s ready free next = next_end m n r s (Err Finished) refl ready (free_last m.held m.frames r free) next
-held_last (Err (Error fault)) m n r s ready free next = tt
+held_last _ m n r s ready free next = tt
 
 finds_last : (read : Read) (opened : Macro) (c : Sought) (step : Step Taken) (m n p : Expander) (r s : Reader) → IsReady r
     → m.held ≡ None → Seeks m r c n s → Finds read opened c step n p → EndIsLast p.held p.frames s

@@ -101,7 +101,7 @@ record IsAfter (levels : ℕ) (m : kept.Expander) (old : Source) (step : Step To
 
 module _ (levels : ℕ) (m : kept.Expander) (old new : Source) (fit : IsFit m old) where
   free_last : (o : Option (Step Read)) (n : kept.Expander) → o ≡ None → EndIsLast o n.frames (of_source new)
-  free_last o n e = subst (λ (x : Option (Step Read)). EndIsLast x n.frames (of_source new)) (sym e) tt
+  free_last o n e = rw e tt
 
   opened_less : (levels' : ℕ) → levels' ≡ levels → (c : MacroCall) (n p : kept.Expander) → IsPending levels' m (of_source old) c n (of_source new)
       → IsOpened levels' new.definitions (names_of n.frames ++ []) c n p → IsLess levels' m (of_source old) p (of_source new)
@@ -159,11 +159,8 @@ module _ (levels : ℕ) (m : kept.Expander) (old new : Source) (fit : IsFit m ol
 
   taken_reported : (step : Step Token) (n p : kept.Expander) (t : Step Taken) → FollowsTurn levels new.definitions t n step p → wants_memory step ≡ false
       → wants_taken t ≡ false
-  taken_reported step n p (Ok (taken.Token read)) follows reported = refl
-  taken_reported step n p (Ok (taken.Call c)) follows reported = refl
-  taken_reported step n p (Err Continue) follows reported = refl
-  taken_reported step n p (Err Finished) follows reported = refl
   taken_reported step n p (Err (Error fault)) follows reported = rw follows.0 at reported
+  taken_reported step n p _ follows reported = refl
 
   module _ (step : Step Token) (n : kept.Expander) (h : TurnsSource levels m old step n new) (reported : wants_memory step ≡ false) where
     after : IsAfter levels m old step n new
@@ -198,19 +195,13 @@ module _ (levels : ℕ) (m : kept.Expander) (old new : Source) (fit : IsFit m ol
 
 -- the states that are stood for, as the lemmas on all readers say it
 held_in : (o : Option (Step Read)) (source : Source) (x : SourceReader) → StandsForHeld o source x → StandsHeld source_rules IsSource [] o (of_source source) x
-held_in None source x h = h
-held_in (Some (Ok read)) source x h = h
-held_in (Some (Err Continue)) source x h = h
-held_in (Some (Err Finished)) source x h = h
 held_in (Some (Err (Error fault))) source x h = tt
+held_in _ source x h = h
 
 held_for : (o : Option (Step Read)) (source : Source) (x : SourceReader) → StandsHeld source_rules IsSource [] o (of_source source) x
     → StandsForHeld o source x
-held_for None source x h = h
-held_for (Some (Ok read)) source x h = h
-held_for (Some (Err Continue)) source x h = h
-held_for (Some (Err Finished)) source x h = h
 held_for (Some (Err (Error fault))) source x h = tt
+held_for _ source x h = h
 
 stands_in : (m : kept.Expander) (source : Source) (e : Expander SourceReader) → StandsFor m source e → StandsIn source_rules IsSource [] m (of_source source) e
 stands_in m source e h = record { holds = h.held; list = h.list; reader = held_in m.held source e.reader h.reader; names = h.hidden }

@@ -82,9 +82,8 @@ quiet None old new same none = nothing_read old new same none
 quiet (Some fault) old new same none = own_fault fault old.later new (nothing_read old new same none)
 
 exit_leaves : (exit : StepExit) (old new : Unreported) → ExitReports exit old new → old.read ≡ None → Leaves (fault_of_exit exit) old.later new
-exit_leaves Continue old new h none = quiet None old new h none
-exit_leaves Finished old new h none = quiet None old new h none
 exit_leaves (Error fault) old new h none = λ reported. h reported none
+exit_leaves _ old new h none = quiet None old new h none
 
 taken_leaves : (move : Step Read) (fs : List Frame) (s : Reader) (old new : Unreported) → StepReports move old new → old.read ≡ None
     → Leaves (fault_of (taken_as move fs s)) old.later new
@@ -93,10 +92,8 @@ taken_leaves (Err exit) fs s old new h none = exit_leaves exit old new h none
 
 -- what was held is reported
 held_leaves : (step : Step Read) (u : Unreported) → IsReportedBut (Some step) u → Leaves (fault_of step) (unreported_with (Some step) u) u
-held_leaves (Ok read) u h = (refl, h)
-held_leaves (Err Continue) u h = (refl, h)
-held_leaves (Err Finished) u h = (refl, h)
 held_leaves (Err (Error fault)) u h = λ reported. refl
+held_leaves _ u h = (refl, h)
 
 abbrev UnreportedFirst : Expander → Reader → List ErrorAt
 UnreportedFirst m r = unreported_with m.held (unreported_in r)
@@ -107,9 +104,7 @@ IsReportedFirst m r = IsReportedBut m.held (unreported_in r)
 fetch_leaves : (m n : Expander) (r s : Reader) (step : Step Read) → StepsFetching m r step n s → IsReportedFirst m r
     → Leaves (fault_of step) (UnreportedFirst m r) (unreported_in s)
 fetch_leaves m n r s step (held step1 m1 n1 r1 s1 is at same) reported =
-    subst (λ (o : Option (Step Read)). Leaves (fault_of step) (unreported_with o (unreported_in r)) (unreported_in s)) (sym is)
-    (subst (λ (x : Reader). Leaves (fault_of step) (unreported_with (Some step) (unreported_in r)) (unreported_in x)) (sym same)
-    (held_leaves step (unreported_in r) (subst (λ (o : Option (Step Read)). IsReportedBut o (unreported_in r)) is reported)))
+    rw (is, same) (held_leaves step (unreported_in r) (subst (λ (o : Option (Step Read)). IsReportedBut o (unreported_in r)) is reported))
 fetch_leaves m n r s step (moved move step1 m1 n1 r1 s1 free moves is none) reported =
     subst (λ (o : Option (Step Read)). Leaves (fault_of step) (unreported_with o (unreported_in r)) (unreported_in s)) (sym free)
     (subst (λ (x : Step Read). Leaves (fault_of x) (unreported_in r).later (unreported_in s)) (sym is)
@@ -159,7 +154,7 @@ before_leaves read (Err fault) errors u h = h
 gather_leaves : (k : ℕ) (last : Location) (m n : Expander) (r s : Reader) (g : Result Gathered Fault) → GathersNext k last m r g n s
     → IsReportedFirst m r → Leaves (fault_in g) (UnreportedFirst m r) (unreported_in s)
 gather_leaves k last m n r s g (closed k1 last1 read m1 n1 r1 s1 g1 next out is) reported =
-    subst (λ (x : Result Gathered Fault). Leaves (fault_in x) (UnreportedFirst m r) (unreported_in s)) (sym is) (next_leaves m n r s (Ok read) next reported)
+    rw is (next_leaves m n r s (Ok read) next reported)
 gather_leaves k last m n r s g (inside k1 l last1 read m1 between n1 r1 s1 t1 rest g1 next in_call more is) reported =
     let c : IsClear (UnreportedFirst m r) between s1 = record {
       free = next_free m between r s1 (Ok read) next;
@@ -167,17 +162,13 @@ gather_leaves k last m n r s g (inside k1 l last1 read m1 between n1 r1 s1 t1 re
     } in
     let h = goes_on (fault_in rest) (UnreportedFirst m r) between s1 s c
     (gather_leaves l read.token.location between n s1 s rest more (clear_reported (UnreportedFirst m r) between s1 c)) in
-    subst (λ (x : Result Gathered Fault). Leaves (fault_in x) (UnreportedFirst m r) (unreported_in s)) (sym is)
-    (before_leaves read rest (UnreportedFirst m r) (unreported_in s) h)
+    rw is (before_leaves read rest (UnreportedFirst m r) (unreported_in s) h)
 gather_leaves k last m n r s g (overfull k1 last1 read m1 n1 r1 s1 g1 next out is) reported =
-    subst (λ (x : Result Gathered Fault). Leaves (fault_in x) (UnreportedFirst m r) (unreported_in s)) (sym is)
-    (own_fault _ (UnreportedFirst m r) (unreported_in s) (next_leaves m n r s (Ok read) next reported))
+    rw is (own_fault _ (UnreportedFirst m r) (unreported_in s) (next_leaves m n r s (Ok read) next reported))
 gather_leaves k last m n r s g (ended k1 last1 m1 n1 r1 s1 g1 next is) reported =
-    subst (λ (x : Result Gathered Fault). Leaves (fault_in x) (UnreportedFirst m r) (unreported_in s)) (sym is)
-    (own_fault _ (UnreportedFirst m r) (unreported_in s) (next_leaves m n r s (Err Finished) next reported))
+    rw is (own_fault _ (UnreportedFirst m r) (unreported_in s) (next_leaves m n r s (Err Finished) next reported))
 gather_leaves k last m n r s g (failed k1 last1 fault m1 n1 r1 s1 g1 next kept is) reported =
-    subst (λ (x : Result Gathered Fault). Leaves (fault_in x) (UnreportedFirst m r) (unreported_in s)) (sym is)
-    (next_leaves m n r s (Err (Error fault)) next reported)
+    rw is (next_leaves m n r s (Err (Error fault)) next reported)
 
 -- what a turn leaves: the same, though an error may be held now, or what a fault leaves
 abbrev TakenLeaves : Step Taken → List ErrorAt → Expander → Reader → Type 0
@@ -187,10 +178,8 @@ TakenLeaves (Err exit) errors n s = (n.held ≡ None) × Leaves (fault_of_exit e
 
 holds_next : (next : Step Read) (errors : List ErrorAt) (u : Unreported) → is_out_of_memory_step next ≡ false → Leaves (fault_of next) errors u
     → IsReportedBut (Some next) u × (unreported_with (Some next) u ≡ errors)
-holds_next (Ok read) errors u reported h = (h.1, h.0)
-holds_next (Err Continue) errors u reported h = (h.1, h.0)
-holds_next (Err Finished) errors u reported h = (h.1, h.0)
 holds_next (Err (Error fault)) errors u reported h = (tt, sym (h reported))
+holds_next _ errors u reported h = (h.1, h.0)
 
 find_leaves : (read : Read) (macro : Macro) (c : Sought) (step : Step Taken) (errors : List ErrorAt)
     (m p q : Expander) (r t : Reader) → Seeks m r c p t → Finds read macro c step p q → IsClear errors m r → TakenLeaves step errors q t
@@ -242,10 +231,8 @@ ErrorsLeft (Err (Error fault)) errors n new = (n.held ≡ None) × (errors ≡ w
 ErrorsLeft _ errors n new = IsReported n new × (errors_of n new ≡ errors)
 
 clear_left : (step : Step Token) (errors : List ErrorAt) (n : Expander) (new : Source) → IsClear errors n (of_source new) → ErrorsLeft step errors n new
-clear_left (Ok token) errors n new c = (clear_reported errors n (of_source new) c, clear_same errors n (of_source new) c)
-clear_left (Err Continue) errors n new c = (clear_reported errors n (of_source new) c, clear_same errors n (of_source new) c)
-clear_left (Err Finished) errors n new c = (clear_reported errors n (of_source new) c, clear_same errors n (of_source new) c)
 clear_left (Err (Error fault)) errors n new c = (c.free, rw c.leaves.1 (sym c.leaves.0))
+clear_left _ errors n new c = (clear_reported errors n (of_source new) c, clear_same errors n (of_source new) c)
 
 exit_left : (exit : StepExit) (errors : List ErrorAt) (n : Expander) (new : Source) → (n.held ≡ None)
     × Leaves (fault_of_exit exit) errors (unreported_of new) → wants_memory {T = Token} (Err exit) ≡ false → ErrorsLeft (Err exit) errors n new

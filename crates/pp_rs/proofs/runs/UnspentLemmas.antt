@@ -10,7 +10,7 @@ use Rattle.pp_macros.specs.Item.{Step, wants_memory}
 use Rattle.pp_macros.specs.inner.Defined.{meaning_of}
 use Rattle.pp_macros.specs.inner.Source.{Source, Ends, DefinesOver, HasEffect, IsRefusedStep, MakesMove, Decides, holds, faulty, Renumbers, numbers, unnumbered}
 use Rattle.pp_macros.specs.declared.blocks.OpenBlock.{OpenBlock}
-use Rattle.pp_model.specs.Moves.{Effect, gives, gives_item, fails, ends, passes, defines, undefines, tests, decides, renumbers}
+use Rattle.pp_model.specs.Moves.{Effect, ends, defines, decides, renumbers}
 use Rattle.pp_macros.specs.inner.OpenBlocks.{last_block, BlockChange, block_change_at}
 use Rattle.pp_macros.specs.inner.SourceMoves.{Note, note_of, move_of}
 use Rattle.pp_macros.specs.declared.step.StepExit.TheVariants.{Finished}
@@ -36,16 +36,11 @@ module _ (old new : Source) (step : Step Token) (unspent : old.spent ≡ false) 
   end_unspent (Some block) h = h.1.spent
 
   effect_unspent : (effect : Effect) (taken : ℕ) (note : Note) (change : BlockChange) → HasEffect effect taken note change old step new → new.spent ≡ false
-  effect_unspent (gives token) taken note change h = h.1.spent
-  effect_unspent (gives_item item word) taken note change h = h.1.spent
-  effect_unspent (fails fault) taken note change h = h.1.spent
   effect_unspent ends taken note change h = end_unspent (last_block old.blocks) h
-  effect_unspent passes taken note change h = h.1.spent
   effect_unspent (defines named) taken note change h = defines_unspent named (meaning_of old.definitions named.name) taken note h
-  effect_unspent (undefines name) taken note change h = h.1.spent
-  effect_unspent (tests asked name) taken note change h = h.1.spent
   effect_unspent (decides word tokens) taken note change h = decides_unspent word tokens _ taken note h
   effect_unspent (renumbers word tokens) taken note change h = renumbers_unspent word tokens taken note h
+  effect_unspent _ taken note change h = h.1.spent
 
   pub steps_unspent : (spent : Bool) → old.spent ≡ spent → wants_memory step ≡ false
       → MatchBool spent ((step ≡ Err Finished) × (new ≡ old)) (IsRefusedStep old step ⊎ MakesMove old step new)
