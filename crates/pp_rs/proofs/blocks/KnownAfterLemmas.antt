@@ -24,7 +24,7 @@ use Rattle.pp_rs.proofs.blocks.LastLemmas.{last_split}
 use Rattle.pp_directives.proofs.LinedLemmas.{lined_after}
 use Rattle.pp_rs.proofs.blocks.LinesBeforeLemmas.{AddsLines, directive_adds}
 use Rattle.pp_macros.proofs.work.QuietLemmas.{is_one_item, quiet_item, quiet_one, begins_bare, is_bare}
-use Rattle.pp_rs.proofs.source.SkippedLemmas.{quiet_after_word}
+use Rattle.pp_rs.proofs.source.SkippedLemmas.{bare_quiet, quiet_after_word}
 
 -- it is known at this reader
 abbrev pub HasRead : SourceReader → Type 0
@@ -49,11 +49,7 @@ module _ (r : SourceReader) (b : HasRead r) where
       → HasRead (advanced_by 2 r)
   bare_keeps shown bare none e =
       let found = begins_bare (drop r.position r.items) shown bare e in
-      let there : AreLined (found.hash ∷ found.name ∷ found.after) = subst AreLined found.front lined_here in
-      two_keeps found.hash found.name found.after found.front (λ later.
-      ap (λ shown. cons_option (line_at r.position shown) (block_lines (r.position + 1) (found.name ∷ later))) (found.seen later)
-      ∙ ap (λ line. cons_option line (block_lines (r.position + 1) (found.name ∷ later))) (none r.position)
-      ∙ quiet_item (r.position + 1) found.name later (there.0 found.goes_on) ∙ ap (λ n. block_lines n later) (omega arith))
+      two_keeps found.hash found.name found.after found.front (bare_quiet r.position found none lined_here)
 
   -- the line of a directive
   module _ (directive : Directive) (word : Location) (e : sight_of (drop r.position r.items) ≡ sight.Directive directive word) where

@@ -260,15 +260,10 @@ module _ (old now new : Preprocessing) (item : Item) (next : IsNextItem now (Som
   dropped_more (each items g) = dropped_by items (is_refusal (Some item)) refl g
   dropped_more (last_refused items by_next fresh spent) = let bad : true ≡ false = sym spent ∙ (ready now new item next).0 in cc
 
--- where memory ran out before, nothing changes
-same_after : (old new : Preprocessing) (spent : Bool) (A : Type 0) → spent ≡ true
-    → MatchBool spent (◌≡◌ {A = Option Item} None None × (new ≡ old)) A → new ≡ old
-same_after old new true A e h = h.1
-same_after old new false A e h = cc
-
 module _ (old now new : Preprocessing) (next : IsNextItem now None new) where
+  -- where memory ran out before, nothing changes
   still_spent : is_spent now ≡ true → is_spent new ≡ true
-  still_spent spent = ap is_spent (same_after now new (is_spent now) (IsRefusedItem None new ⊎ IsGivenItem now None new) spent next.gives) ∙ spent
+  still_spent spent = ap is_spent (rw spent at next.gives).1 ∙ spent
 
   -- the end was given, and the items before it were dropped
   pub drained : Dropped old now → IsDrained old new

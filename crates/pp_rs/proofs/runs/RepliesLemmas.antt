@@ -45,20 +45,16 @@ module _ (old new : Preprocessing) (ready : is_spent old ≡ false) where
       ))
   refused_answered name content fault reported (added tokens has given h) = cc
 
-  unspent : (spent : Bool) (A B : Type 0) → spent ≡ false → MatchBool spent A B → B
-  unspent true A B e h = cc
-  unspent false A B e h = h
-
   -- an item that was given
   pub token_answered : (token : Token) → IsNextItem old (Some (Ok token)) new → IsAnswered old next (reply.Given (outcome.Token token)) new
-  token_answered token h = elim (unspent (is_spent old) _ _ ready h.gives) [
+  token_answered token h = elim (rw ready at h.gives) [
     | inl wants ↦ let e = wants.item in cc
     | inr given ↦ goes_on refl given.spent (λ state stands. let item = given.item state stands in
         (item.after, gives (outcome.Token token) _ _ state item.after item.emits refl refl refl, item.goes_on))
   ]
 
   pub end_answered : IsNextItem old None new → IsAnswered old next (reply.Given outcome.End) new
-  end_answered h = elim (unspent (is_spent old) _ _ ready h.gives) [
+  end_answered h = elim (rw ready at h.gives) [
     | inl wants ↦ let e = wants.item in cc
     | inr given ↦ goes_on refl given.spent (λ state stands. let item = given.item state stands in
         (item.after, gives outcome.End _ _ state item.after item.emits refl refl refl, item.goes_on))
@@ -66,7 +62,7 @@ module _ (old new : Preprocessing) (ready : is_spent old ≡ false) where
 
   pub fault_answered : (fault : Fault) → is_out_of_memory fault.0 ≡ false → IsNextItem old (Some (Err fault)) new
       → IsAnswered old next (reply.Given (outcome.Fault fault)) new
-  fault_answered fault reported h = elim (unspent (is_spent old) _ _ ready h.gives) [
+  fault_answered fault reported h = elim (rw ready at h.gives) [
     | inl wants ↦
         (let e = wants.item in
         let wanted : fault ≡ out_of_memory = cc in

@@ -138,14 +138,8 @@ module _ (levels : ℕ) (m : kept.Expander) (old new : Source) (fit : IsFit m ol
 
   follows_after : (step : Step Token) (n p : kept.Expander) (t : Step Taken) → TurnsTo m (of_source old) t n (of_source new)
       → FollowsTurn levels new.definitions t n step p → wants_memory step ≡ false → IsAfter levels m old step p new
-  follows_after step n p (Ok (taken.Token read)) turns follows reported =
-      less_after step n p follows.1 (turn_last m n (of_source old) (of_source new) (Ok (taken.Token read)) fit.unspent turns)
-      (turn_falls levels m (of_source old) fit.sound (Ok (taken.Token read)) n (of_source new) turns refl)
   follows_after step n p (Ok (taken.Call c)) turns follows reported =
       call_after c n p step (turn_falls levels m (of_source old) fit.sound (Ok (taken.Call c)) n (of_source new) turns refl) follows
-  follows_after step n p (Err Continue) turns follows reported =
-      less_after step n p follows.1 (turn_last m n (of_source old) (of_source new) (Err Continue) fit.unspent turns)
-      (turn_falls levels m (of_source old) fit.sound (Err Continue) n (of_source new) turns refl)
   follows_after step n p (Err (Error fault)) turns follows reported =
       less_after step n p follows.1 (turn_last m n (of_source old) (of_source new) (Err (Error fault)) fit.unspent turns)
       (turn_falls levels m (of_source old) fit.sound (Err (Error fault)) n (of_source new) turns (rw follows.0 at reported))
@@ -156,6 +150,9 @@ module _ (levels : ℕ) (m : kept.Expander) (old new : Source) (fit : IsFit m ol
         sound = sound;
         last = turn_last m n (of_source old) (of_source new) (Err Finished) fit.unspent turns;
       })
+  follows_after step n p t turns follows reported =
+      less_after step n p follows.1 (turn_last m n (of_source old) (of_source new) t fit.unspent turns)
+      (turn_falls levels m (of_source old) fit.sound t n (of_source new) turns refl)
 
   taken_reported : (step : Step Token) (n p : kept.Expander) (t : Step Taken) → FollowsTurn levels new.definitions t n step p → wants_memory step ≡ false
       → wants_taken t ≡ false

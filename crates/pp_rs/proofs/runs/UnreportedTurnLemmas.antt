@@ -33,9 +33,8 @@ unreported_in (of_source source) = unreported_of source
 unreported_in (of_list list) = record { read = None; later = [] }
 
 exit_same : (exit : StepExit) (old new : Unreported) → new ≡ old → ExitReports exit old new
-exit_same Continue old new same = same
-exit_same Finished old new same = same
 exit_same (Error fault) old new same = λ reported. nothing_met fault old new same
+exit_same _ old new same = same
 
 step_same : (step : Step Read) (old new : Unreported) → new ≡ old → StepReports step old new
 step_same (Ok read) old new same = same
@@ -59,8 +58,7 @@ Leaves (Some fault) errors u = is_out_of_memory fault.0 ≡ false → errors ≡
 
 abbrev fault_of_exit : StepExit → Option Fault
 fault_of_exit (Error fault) = Some fault
-fault_of_exit Continue = None
-fault_of_exit Finished = None
+fault_of_exit _ = None
 
 abbrev fault_of : {A : Type 0} → Step A → Option Fault
 fault_of (Ok value) = None
@@ -236,9 +234,8 @@ clear_left _ errors n new c = (clear_reported errors n (of_source new) c, clear_
 
 exit_left : (exit : StepExit) (errors : List ErrorAt) (n : Expander) (new : Source) → (n.held ≡ None)
     × Leaves (fault_of_exit exit) errors (unreported_of new) → wants_memory {T = Token} (Err exit) ≡ false → ErrorsLeft (Err exit) errors n new
-exit_left Continue errors n new h reported = clear_left (Err Continue) errors n new (record { free = h.0; leaves = h.1 })
-exit_left Finished errors n new h reported = clear_left (Err Finished) errors n new (record { free = h.0; leaves = h.1 })
 exit_left (Error fault) errors n new h reported = (h.0, h.1 reported)
+exit_left exit errors n new h reported = clear_left (Err exit) errors n new (record { free = h.0; leaves = h.1 })
 
 call_left : (levels : ℕ) (definitions : List Defined) (c : MacroCall) (errors : List ErrorAt) (k n : Expander) (new : Source) (step : Step Token)
     → FollowsCall levels definitions c k step n → IsClear errors k (of_source new) → ErrorsLeft step errors n new

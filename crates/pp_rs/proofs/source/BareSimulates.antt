@@ -20,19 +20,10 @@ use Rattle.pp_rs.proofs.source.DirectiveBeforeLemmas.{begins_with_hash, AddsDire
 use Rattle.pp_rs.proofs.source.DirectivePlaceLemmas.{one_after, off_line_after_end}
 use Rattle.pp_macros.proofs.work.QuietLemmas.{is_bare, BeginsBare, begins_bare, lone_ends, quiet_item}
 use Rattle.pp_rs.proofs.source.Simulates.{Simulates}
+use Rattle.pp_rs.proofs.source.SkippedLemmas.{bare_quiet}
 use Rattle.pp_rs.proofs.source.StandsAfterLemmas.{lined_here}
 use Rattle.pp_rs.proofs.source.StepHereLemmas.{pauses_here}
 use Rattle.pp_rs.proofs.source.StandsQuietLemmas.{stands_two}
-
--- a number sign and a token after it that is no word add no line of a block
-bare_quiet : (position : ℕ) {rest : List Seen} {shown : Sight} (b : BeginsBare shown rest) → ((k : ℕ) → line_at k shown ≡ None) → AreLined rest
-    → (later : List Seen)
-    → block_lines position (b.hash ∷ b.name ∷ later) ≡ block_lines (position + 2) later
-bare_quiet position b none lined later =
-    let there : AreLined (b.hash ∷ b.name ∷ b.after) = subst AreLined b.front lined in
-    ap (λ found. cons_option (line_at position found) (block_lines (position + 1) (b.name ∷ later))) (b.seen later)
-    ∙ ap (λ line. cons_option line (block_lines (position + 1) (b.name ∷ later))) (none position)
-    ∙ quiet_item (position + 1) b.name later (there.0 b.goes_on) ∙ ap (λ n. block_lines n later) (omega arith)
 
 bare_begins : (shown : Sight) → is_bare shown ≡ true → begins_with_hash shown ≡ true
 bare_begins sight.Lone h = refl
