@@ -1,18 +1,11 @@
 -- Of a block's marks at most one is chosen.
 use Rattle.std.proofs.Common.{◌≡◌, ℕ, zero, suc, ◌≤◌, Bool, true, false, ◌&&◌, ◌||◌, List, [], ◌∷◌, ◌++◌, length, take, refl, ap, arith, Option, Some, None}
 use Rattle.std.specs.List.{list_any}
+use Rattle.std.proofs.lemmas.Bool.{and_parts}
 use Rattle.pp_model.specs.Blocks.{Truths, is_else, truth_at, holds_at, fails_at, is_last_chosen}
 use Rattle.pp_model.specs.inner.Blocks.{is_known_true, is_known_false}
 use Rattle.pp_model.specs.BlockLaws.{ElseIsLast, OneBranch, NoneAfterTaken}
 use Rattle.pp_model.specs.declared.block.BlockLine.{BlockLine}
-
-first_holds : (a b : Bool) → a && b ≡ true → a ≡ true
-first_holds true b h = refl
-first_holds false b h = h
-
-second_holds : (a b : Bool) → a && b ≡ true → b ≡ true
-second_holds true b h = h
-second_holds false b h = cc
 
 -- a condition does not both hold and fail
 not_both_known : (truth : Option Bool) (other : Bool) → other ≡ false → other || is_known_true truth ≡ true → other || is_known_false truth ≡ true → ⊥
@@ -30,12 +23,12 @@ one_mark truths mark marks zero zero last i j h k = refl
 one_mark truths mark [] zero (suc n) last i j h k = absurd (omega (arith, j))
 one_mark truths mark [] (suc m) n last i j h k = absurd (omega (arith, i))
 one_mark truths mark (next ∷ later) zero (suc n) last i j h k =
-    absurd (not_both_at truths mark last.0 h (first_holds (fails_at truths mark) (is_last_chosen truths next (take n later)) k))
+    absurd (not_both_at truths mark last.0 h (and_parts (fails_at truths mark) (is_last_chosen truths next (take n later)) k).0)
 one_mark truths mark (next ∷ later) (suc m) zero last i j h k =
-    absurd (not_both_at truths mark last.0 k (first_holds (fails_at truths mark) (is_last_chosen truths next (take m later)) h))
+    absurd (not_both_at truths mark last.0 k (and_parts (fails_at truths mark) (is_last_chosen truths next (take m later)) h).0)
 one_mark truths mark (next ∷ later) (suc m) (suc n) last i j h k =
-    let first = second_holds (fails_at truths mark) (is_last_chosen truths next (take m later)) h in
-    let second = second_holds (fails_at truths mark) (is_last_chosen truths next (take n later)) k in
+    let first = (and_parts (fails_at truths mark) (is_last_chosen truths next (take m later)) h).1 in
+    let second = (and_parts (fails_at truths mark) (is_last_chosen truths next (take n later)) k).1 in
     ap suc (one_mark truths next later m n last.1 (omega (arith, i)) (omega (arith, j)) first second)
 
 pub one_branch : OneBranch

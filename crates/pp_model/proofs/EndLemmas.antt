@@ -1,6 +1,5 @@
 -- Once an expander over a source gave the end, it gives nothing else, no matter what is added to the definitions.
 use Rattle.std.proofs.Common.{◌≡◌, ◌∙◌, ℕ, Bool, true, false, List, [], ◌∷◌, refl, sym, ap, Option, Some, None}
-use Rattle.std.specs.Prelude.{Result, Ok, Err}
 use Rattle.pp_lexer.specs.declared.token.Location.{Location}
 use Rattle.pp_model.specs.declared.read.Read.{Read}
 use Rattle.pp_model.specs.Names.{Name, is_identifier, line_name}
@@ -9,7 +8,7 @@ use Rattle.pp_model.specs.SpliceList.{after_marks}
 use Rattle.pp_model.specs.Painting.{taken_among}
 use Rattle.pp_model.specs.Reading.{Expander, masked_names, Opening, opening}
 use Rattle.pp_model.specs.Taking.{line_number, shown_token, shown_outcome, Takes, Fetches, held, listed, read}
-use Rattle.pp_model.specs.Calls.{Fault, Answers, Called, no_call, called_by, Calls, alone, broken, whole}
+use Rattle.pp_model.specs.Calls.{Answers, Called, no_call, Calls, alone, broken, whole}
 use Rattle.pp_model.specs.Emitting.{with_macro, Emits, itself, object, name_alone, call_refused, call}
 use Rattle.pp_model.specs.SourceReader.{SourceReader}
 use Rattle.pp_model.specs.Reads.{shown_line, source_reading}
@@ -17,7 +16,7 @@ use Rattle.pp_model.specs.declared.read.Taken.{Taken}
 use Rattle.pp_model.specs.declared.read.Taken.TheVariants as taken
 use Rattle.pp_model.specs.declared.splice.Entry.{Entry}
 use Rattle.pp_model.specs.declared.splice.Entry.TheVariants.{Plain}
-use Rattle.pp_model.proofs.SearchLeadsLemmas.{call_leads}
+use Rattle.pp_model.proofs.SearchLeadsLemmas.{called_is_a_call, call_leads}
 use Rattle.pp_model.proofs.SourceEndLemmas.{IsAtEnd, reading_ends, reading_at_end}
 
 -- nothing is held, listed or left of the source
@@ -55,11 +54,6 @@ read_end shown_line taken.End h = refl
 painted_end : (names : List Name) (x : Taken) → taken_among names x ≡ taken.End → x ≡ taken.End
 painted_end names taken.End h = refl
 painted_end names _ h = cc
-
--- what a call comes to is no missing call
-called_is_a_call : (line : ℕ) (answer : Result (List (List Read)) Fault) (o : Taken) → called_by line answer ≡ no_call o → ⊥
-called_is_a_call line (Ok arguments) o h = cc
-called_is_a_call line (Err fault) o h = cc
 
 -- the end opens no macro
 end_opens_nothing : (A : Answers) (e : Expander SourceReader) (o : Taken) (m : Opening) → o ≡ taken.End → opening (source_reading A) e o ≡ Some m → ⊥

@@ -9,13 +9,14 @@ use Rattle.pp_model.specs.Definitions.{Definition}
 use Rattle.pp_model.specs.Painting.{taken_among}
 use Rattle.pp_model.specs.Reading.{Reading, Expander, masked_names, argument_reading, reading_of}
 use Rattle.pp_model.specs.Taking.{line_number, shown_token, shown_outcome, Takes, Fetches, held, listed, read}
-use Rattle.pp_model.specs.Calls.{Gathered, before, Fault, Gathers, closed, inside, overfull, ended, failed, Answers, Called, no_call, refused, fits, called_by, Calls, alone, broken, whole}
+use Rattle.pp_model.specs.Calls.{Gathered, before, Fault, Gathers, closed, inside, overfull, ended, failed, Answers, Called, no_call, refused, fits, Calls, alone, broken, whole}
 use Rattle.pp_model.specs.Emitting.{with_macro, Emits, itself, object, name_alone, call_refused, call, Collects, done, failed as failing, item, answers_at}
 use Rattle.pp_model.specs.inner.Emitting.{read_before}
 use Rattle.pp_model.specs.NoLineName.{is_line_name, HoldsNoLineName, AreNoLineNames, ShowsNoLineName, AloneShowsNoLineName}
 use Rattle.pp_model.specs.declared.read.Taken.{Taken}
 use Rattle.pp_model.specs.declared.read.Taken.TheVariants as taken
 use Rattle.pp_model.specs.declared.splice.Entry.{Entry}
+use Rattle.pp_model.proofs.SearchLeadsLemmas.{called_is_a_call}
 
 -- a number, or the fault of one that is out of range, is no name
 number_is_no_line : (location : Location) (shown : Option ℕ) → is_line_name (line_number location shown) ≡ false
@@ -48,11 +49,6 @@ one_gathered_more : (token : Read) (rest : Result Gathered Fault) → is_identif
     → IfOk rest (λ g. AreNoLineNames g.tokens) → IfOk (before token rest) (λ g. AreNoLineNames g.tokens)
 one_gathered_more token (Ok gathered) h all = All-cons (λ t. is_identifier line_name t.token.value ≡ false) token gathered.tokens h all
 one_gathered_more token (Err fault) h all = tt
-
--- what a call comes to is no missing call
-called_is_a_call : (line : ℕ) (answer : Result (List (List Read)) Fault) (o : Taken) → called_by line answer ≡ no_call o → is_line_name o ≡ false
-called_is_a_call line (Ok arguments) o h = cc
-called_is_a_call line (Err fault) o h = cc
 
 module _ {R : Type 0} (I : Reading R) where
   fetching_shows_none : (o : Taken) (e f : Expander R) → Fetches I e o f → HoldsNoLineName e → (is_line_name o ≡ false) × HoldsNoLineName f
@@ -87,7 +83,7 @@ module _ {R : Type 0} (I : Reading R) where
       (λ o q. cc, (gathering_shows_none 0 paren (Err fault) g f u taken.1).1)
   call_shows_none A d c e f (whole x paren gathered answer e1 g f1 c1 t h u a p) none =
       let taken = taking_shows_none x e g t none in
-      (λ o q. called_is_a_call gathered.closing.line answer o (sym p ∙ q), (gathering_shows_none 0 paren (Ok gathered) g f u taken.1).1)
+      (λ o q. absurd (called_is_a_call gathered.closing.line answer o (sym p ∙ q)), (gathering_shows_none 0 paren (Ok gathered) g f u taken.1).1)
 
   pub item_shows_none : (A : Answers) (o : Taken) (e f : Expander R) → Emits I A e o f → HoldsNoLineName e → (is_line_name o ≡ false) × HoldsNoLineName f
   item_shows_none A o e f (itself o1 e1 f1 t h) none = taking_shows_none o e f t none

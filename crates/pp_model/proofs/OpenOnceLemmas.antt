@@ -10,12 +10,13 @@ use Rattle.pp_model.specs.Emitting.{with_macro, Emits}
 use Rattle.pp_model.specs.Emitting as emits
 use Rattle.pp_model.specs.SourceReader.{SourceReader}
 use Rattle.pp_model.specs.Reads.{source_reading}
-use Rattle.pp_model.specs.Run.{start, with_added}
+use Rattle.pp_model.specs.Run.{start}
 use Rattle.pp_model.specs.ApartMarks.{AreApart, IsRest}
-use Rattle.pp_model.specs.RunStates.{LeadsTo, nowhere, adding, giving}
+use Rattle.pp_model.specs.RunStates.{LeadsTo}
 use Rattle.pp_model.specs.OpenOnce.{Passes, here, taking, object, name_alone, call, IsOpenOnce, RunOpensOnce, ListOpensOnce}
 use Rattle.pp_model.specs.declared.read.Read.{Read}
 use Rattle.pp_model.specs.declared.read.Taken.{Taken}
+use Rattle.pp_model.proofs.RunLemmas.{each_state}
 use Rattle.pp_model.proofs.SearchLeadsLemmas.{call_leads}
 use Rattle.pp_model.proofs.ApartMarksLemmas.{taking_leaves_rest}
 use Rattle.pp_model.proofs.OpenNamesLemmas.{rest_of_rest, not_in_later, apart_later, open_around, open_spliced, opening_not_masked}
@@ -93,10 +94,8 @@ module _ {R : Type 0} (I : Reading R) where
 
 module _ (A : Answers) where
   leading_once : (e f : Expander SourceReader) → LeadsTo A e f → IsOpenOnce e → IsOpenOnce f
-  leading_once e f (nowhere e1 f1 p) once = subst IsOpenOnce (sym p) once
-  leading_once e f (adding name tokens e1 f1 more) once = leading_once (with_added name tokens e) f more once
-  leading_once e f (giving o e1 g f1 item more) once =
-      leading_once g f more (passes_once (source_reading A) A e g (item_passes (source_reading A) A o e g item) once)
+  leading_once = each_state A IsOpenOnce (λ name tokens e once. once)
+      (λ o e f item. passes_once (source_reading A) A e f (item_passes (source_reading A) A o e f item))
 
   pub run_opens_once : RunOpensOnce A
   run_opens_once source e f reached passes = passes_once (source_reading A) A e f passes (leading_once (start source) e reached tt)

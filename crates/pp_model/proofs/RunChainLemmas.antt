@@ -1,5 +1,5 @@
 -- Calls that follow one another are a run.
-use Rattle.std.proofs.Common.{◌≡◌, ◌∙◌, List, [], ◌∷◌, ◌++◌, refl, ap, sym, subst, append-nil, append_assoc}
+use Rattle.std.proofs.Common.{List, [], ◌∷◌, ◌++◌, refl, append-nil, append_assoc}
 use Rattle.pp_model.specs.Reading.{Expander}
 use Rattle.pp_model.specs.Calls.{Fault, Answers}
 use Rattle.pp_model.specs.SourceReader.{SourceReader}
@@ -11,41 +11,28 @@ use Rattle.pp_model.specs.declared.outcome.Outcome.TheVariants as outcome
 use Rattle.pp_model.specs.declared.read.Taken.TheVariants as taken
 
 module _ (C : Comings) where
-  -- equal calls and replies make the same run
-  run_of : (e : Expander SourceReader) (calls same_calls : List Call) (replies same_replies : List Reply) → calls ≡ same_calls
-      → replies ≡ same_replies → Runs C e same_calls same_replies → Runs C e calls replies
-  run_of e calls same_calls replies same_replies c r run = subst (λ (rs : List Reply). Runs C e calls rs) (sym r)
-      (subst (λ (cs : List Call). Runs C e cs same_replies) (sym c) run)
-
   -- one call before a run
   call_before : (e f : Expander SourceReader) (call : Call) (answer : Reply) (later : List Call) (rest : List Reply) → AnswersIn C e call answer f
       → Runs C f later rest → Runs C e (call ∷ later) (answer ∷ rest)
   call_before e f call answer later rest (adds name content tokens c1 a1 e1 f1 is c a p) run =
-      run_of e (call ∷ later) _ (answer ∷ rest) _ (ap (λ x. x ∷ later) c) (ap (λ x. x ∷ rest) a)
-      (added name content tokens e later rest (reply.Added ∷ rest) is (subst (λ (x : Expander SourceReader). Runs C x later rest) p run) refl)
+      rw (c, a) (added name content tokens e later rest (reply.Added ∷ rest) is (rw p at run) refl)
   call_before e f call answer later rest (refuses name content fault c1 a1 e1 f1 is c a p) run =
-      run_of e (call ∷ later) _ (answer ∷ rest) _ (ap (λ x. x ∷ later) c) (ap (λ x. x ∷ rest) a)
-      (refused name content fault e later rest (reply.Refused fault ∷ rest) is (subst (λ (x : Expander SourceReader). Runs C x later rest) p run) refl)
+      rw (c, a) (refused name content fault e later rest (reply.Refused fault ∷ rest) is (rw p at run) refl)
   call_before e f call answer later rest (gives o c1 a1 e1 f1 item plain c a) run =
-      run_of e (call ∷ later) _ (answer ∷ rest) _ (ap (λ x. x ∷ later) c) (ap (λ x. x ∷ rest) a)
-      (given o e f later rest (reply.Given o ∷ rest) item plain run refl)
+      rw (c, a) (given o e f later rest (reply.Given o ∷ rest) item plain run refl)
 
   -- calls that follow one another before a run
   chain_before : (e f : Expander SourceReader) (calls later : List Call) (replies rest : List Reply) → Chain C e calls replies f
       → Runs C f later rest → Runs C e (calls ++ later) (replies ++ rest)
-  chain_before e f calls later replies rest (none e1 f1 c1 r1 c r p) run =
-      run_of e (calls ++ later) later (replies ++ rest) rest (ap (λ x. x ++ later) c) (ap (λ x. x ++ rest) r)
-      (subst (λ (x : Expander SourceReader). Runs C x later rest) p run)
+  chain_before e f calls later replies rest (none e1 f1 c1 r1 c r p) run = rw (c, r) (rw p at run)
   chain_before e f calls later replies rest (one_more e1 m f1 before c1 call answered r1 answer chain one c r) run =
-      run_of e (calls ++ later) (before ++ call ∷ later) (replies ++ rest) (answered ++ answer ∷ rest)
-      (ap (λ x. x ++ later) c ∙ append_assoc before (call ∷ []) later) (ap (λ x. x ++ rest) r ∙ append_assoc answered (answer ∷ []) rest)
+      rw (c, r, append_assoc before (call ∷ []) later, append_assoc answered (answer ∷ []) rest)
       (chain_before e m before (call ∷ later) answered (answer ∷ rest) chain (call_before m f call answer later rest one run))
 
   -- calls that follow one another are a run,
   pub chain_runs : (e f : Expander SourceReader) (calls : List Call) (replies : List Reply) → Chain C e calls replies f → Runs C e calls replies
   chain_runs e f calls replies chain =
-      run_of e calls (calls ++ []) replies (replies ++ []) (sym (append-nil calls)) (sym (append-nil replies))
-      (chain_before e f calls [] replies [] chain (done f [] refl))
+      rw (append-nil calls, append-nil replies) at (chain_before e f calls [] replies [] chain (done f [] refl))
 
   -- so they are where further calls are left after an error item,
   pub chain_runs_to_error : (e f g : Expander SourceReader) (calls later : List Call) (replies : List Reply) (fault : Fault)

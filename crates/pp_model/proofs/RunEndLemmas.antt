@@ -6,7 +6,7 @@ use Rattle.pp_model.specs.Calls.{Answers}
 use Rattle.pp_model.specs.Reading.{Expander}
 use Rattle.pp_model.specs.SourceReader.{SourceReader}
 use Rattle.pp_model.specs.Run.{by_rules, Call, start, with_added, Runs, done, added, refused, given, failed}
-use Rattle.pp_model.specs.RunStates.{LeadsTo, nowhere, adding, giving, EndStays, gives_item, RunEndsForGood}
+use Rattle.pp_model.specs.RunStates.{LeadsTo, EndStays, gives_item, RunEndsForGood}
 use Rattle.pp_model.specs.declared.call.Reply.{Reply}
 use Rattle.pp_model.specs.declared.call.Reply.TheVariants as reply
 use Rattle.pp_model.specs.declared.outcome.Outcome.{Outcome}
@@ -14,6 +14,7 @@ use Rattle.pp_model.specs.declared.outcome.Outcome.TheVariants as outcome
 use Rattle.pp_model.specs.declared.read.Taken.{Taken}
 use Rattle.pp_model.specs.declared.read.Taken.TheVariants as taken
 use Rattle.pp_model.specs.Painting.{item_of}
+use Rattle.pp_model.proofs.RunLemmas.{each_state}
 use Rattle.pp_model.proofs.EndLemmas.{IsOver, HoldsLastEnd, holds_nothing, item_ends, item_when_over}
 
 abbrev IsNoItem : Reply → Type 0
@@ -49,15 +50,11 @@ module _ (A : Answers) where
 
   -- in each state of a run an end that is held is the last,
   leads_to_last_end : (e f : Expander SourceReader) → LeadsTo A e f → HoldsLastEnd e → HoldsLastEnd f
-  leads_to_last_end e f (nowhere e1 f1 p) last = rw p last
-  leads_to_last_end e f (adding name tokens e1 f1 more) last = leads_to_last_end (with_added name tokens e) f more (last_end_with_added name tokens e last)
-  leads_to_last_end e f (giving o e1 g f1 item more) last = leads_to_last_end g f more (item_ends A o e g item last).0
+  leads_to_last_end = each_state A HoldsLastEnd last_end_with_added (λ o e f item last. (item_ends A o e f item last).0)
 
   -- and from a state where nothing is left only such states are reached
   stays_over : (e f : Expander SourceReader) → LeadsTo A e f → IsOver e → IsOver f
-  stays_over e f (nowhere e1 f1 p) over = rw p over
-  stays_over e f (adding name tokens e1 f1 more) over = stays_over (with_added name tokens e) f more (over_with_added name tokens e over)
-  stays_over e f (giving o e1 g f1 item more) over = stays_over g f more (item_when_over A o e g item over).1
+  stays_over = each_state A IsOver over_with_added (λ o e f item over. (item_when_over A o e f item over).1)
 
   pub end_stays : EndStays A
   end_stays source o e f g h reached end more item =

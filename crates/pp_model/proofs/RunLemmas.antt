@@ -1,16 +1,20 @@
--- Equal sources and calls have equal replies.
+-- Equal sources and calls have equal replies; and what each step keeps holds in each state of a run.
 use Rattle.std.proofs.Common.{◌≡◌, ◌∙◌, ℕ, List, true, false, ap, sym}
+use Rattle.pp_lexer.specs.declared.token.Token.{Token}
+use Rattle.pp_model.specs.Names.{Name}
 use Rattle.pp_model.specs.Calls.{Fault, Answers}
-use Rattle.pp_model.specs.Emitting.{answers_at, expansion_limit}
+use Rattle.pp_model.specs.Emitting.{Emits, answers_at, expansion_limit}
 use Rattle.pp_model.specs.Reading.{Expander}
 use Rattle.pp_model.specs.Reads.{source_reading}
 use Rattle.pp_model.specs.SourceReader.{SourceReader}
 use Rattle.pp_model.specs.Run.{Comings, by_rules, Call, items_of, start, with_added, is_fault, Runs, done, added, refused, given, failed}
 use Rattle.pp_model.specs.ExpansionLaws.{OneAnswer}
 use Rattle.pp_model.specs.RunLaws.{OneReplies, OneRun}
+use Rattle.pp_model.specs.RunStates.{LeadsTo, nowhere, adding, giving}
 use Rattle.pp_model.specs.declared.call.Reply.{Reply}
 use Rattle.pp_model.specs.declared.outcome.Outcome.{Outcome}
 use Rattle.pp_model.specs.declared.outcome.Outcome.TheVariants as outcome
+use Rattle.pp_model.specs.declared.read.Taken.{Taken}
 use Rattle.pp_model.specs.Painting.{item_of}
 use Rattle.pp_model.proofs.EmittingLemmas.{one_item}
 use Rattle.pp_model.proofs.LevelLemmas.{one_answer}
@@ -45,6 +49,15 @@ module _ (C : Comings) (one_next : (o w : Outcome) (e f g : Expander SourceReade
       let same = (one_next (outcome.Fault c) (outcome.Fault d) e f g a b).0 in
       let fault : c ≡ d = cc in
       p ∙ rw fault (sym q)
+
+-- What each item, and each definition that is added, keeps holds in each state to which they lead.
+module _ (A : Answers) (P : Expander SourceReader → Type 0)
+    (by_definition : (name : Name) (tokens : List Token) (e : Expander SourceReader) → P e → P (with_added name tokens e))
+    (by_item : (o : Taken) (e f : Expander SourceReader) → Emits (source_reading A) A e o f → P e → P f) where
+  pub each_state : (e f : Expander SourceReader) → LeadsTo A e f → P e → P f
+  each_state e f (nowhere e1 f1 p) h = rw p h
+  each_state e f (adding name tokens e1 f1 more) h = each_state (with_added name tokens e) f more (by_definition name tokens e h)
+  each_state e f (giving o e1 g f1 item more) h = each_state g f more (by_item o e g item h)
 
 -- by the definitions it has one
 one_replies : (A : Answers) → OneAnswer A → OneReplies A

@@ -9,13 +9,14 @@ use Rattle.pp_model.specs.Reads.{source_reading}
 use Rattle.pp_model.specs.Run.{by_rules, Call, start, with_added, Runs, done, added, refused, given, failed}
 use Rattle.pp_model.specs.ApartMarks.{HasApartMarks}
 use Rattle.pp_model.specs.NoLineName.{is_line_name, HoldsNoLineName}
-use Rattle.pp_model.specs.RunStates.{LeadsTo, nowhere, adding, giving, RunKeepsMarksApart, gives_line_name, RunShowsNoLineName}
+use Rattle.pp_model.specs.RunStates.{RunKeepsMarksApart, gives_line_name, RunShowsNoLineName}
 use Rattle.pp_model.specs.declared.call.Reply.{Reply}
 use Rattle.pp_model.specs.declared.call.Reply.TheVariants as reply
 use Rattle.pp_model.specs.declared.outcome.Outcome.TheVariants as outcome
 use Rattle.pp_model.specs.declared.read.Taken.{Taken}
 use Rattle.pp_model.specs.declared.read.Taken.TheVariants as taken
 use Rattle.pp_model.specs.Painting.{taken_of, item_of}
+use Rattle.pp_model.proofs.RunLemmas.{each_state}
 use Rattle.pp_model.proofs.ApartMarksLemmas.{item_keeps_apart}
 use Rattle.pp_model.proofs.NoLineNameLemmas.{item_shows_none}
 
@@ -28,15 +29,9 @@ same_name (taken.Token token) = refl
 same_name _ = refl
 
 module _ (A : Answers) where
-  keeps_apart : (e f : Expander SourceReader) → LeadsTo A e f → HasApartMarks e.list → HasApartMarks f.list
-  keeps_apart e f (nowhere e1 f1 p) apart =
-      let same : f.list ≡ e.list = ap (λ g. g.list) p in
-      rw same apart
-  keeps_apart e f (adding name tokens e1 f1 more) apart = keeps_apart (with_added name tokens e) f more apart
-  keeps_apart e f (giving o e1 g f1 item more) apart = keeps_apart g f more (item_keeps_apart (source_reading A) A o e g item apart)
-
   pub run_keeps_marks_apart : RunKeepsMarksApart A
-  run_keeps_marks_apart source e reached = keeps_apart (start source) e reached tt
+  run_keeps_marks_apart source e reached =
+      each_state A (λ e. HasApartMarks e.list) (λ name tokens e apart. apart) (item_keeps_apart (source_reading A) A) (start source) e reached tt
 
   replies_show_none : (e : Expander SourceReader) (calls : List Call) (replies : List Reply) → Runs (by_rules A) e calls replies → HoldsNoLineName e
       → All IsNoLineName replies

@@ -1,12 +1,18 @@
 -- What holds of each taking holds of the search for the end of a call, and of a call: a relation that joins.
-use Rattle.std.proofs.Common.{ℕ}
+use Rattle.std.proofs.Common.{◌≡◌, ℕ, List}
 use Rattle.std.specs.Prelude.{Result, Ok, Err}
 use Rattle.pp_lexer.specs.declared.token.Location.{Location}
 use Rattle.pp_model.specs.Definitions.{Definition}
 use Rattle.pp_model.specs.Reading.{Reading, Expander}
 use Rattle.pp_model.specs.Taking.{Takes}
-use Rattle.pp_model.specs.Calls.{Gathered, Fault, Gathers, closed, inside, overfull, ended, failed, Answers, Called, Calls, alone, broken, whole}
+use Rattle.pp_model.specs.Calls.{Gathered, Fault, Gathers, closed, inside, overfull, ended, failed, Answers, Called, no_call, called_by, Calls, alone, broken, whole}
+use Rattle.pp_model.specs.declared.read.Read.{Read}
 use Rattle.pp_model.specs.declared.read.Taken.{Taken}
+
+-- what a call comes to is no missing call
+pub called_is_a_call : (line : ℕ) (answer : Result (List (List Read)) Fault) (o : Taken) → called_by line answer ≡ no_call o → ⊥
+called_is_a_call line (Ok arguments) o h = cc
+called_is_a_call line (Err fault) o h = cc
 
 module _ {R : Type 0} (I : Reading R) (To : Expander R → Expander R → Type 0) (joined : (e f g : Expander R) → To e f → To f g → To e g)
     (taking_leads : (o : Taken) (e f : Expander R) → Takes I e o f → To e f) where

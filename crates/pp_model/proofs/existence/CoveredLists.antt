@@ -1,5 +1,5 @@
--- Lists for which the property is known wherever taking leads; and how far taking may have led: less is left of the
--- reader, or such a list comes before it.
+-- Lists over which an expander goes on wherever taking leads; and how far taking may have led: less is left of the reader, or
+-- such a list comes before it.
 use Rattle.std.proofs.Common.{◌≡◌, ℕ, ◌+◌, ◌<◌, false, List, [], ◌∷◌, ◌++◌, length, refl, ap, Some, None}
 use Rattle.pp_model.specs.Names.{Name, is_in}
 use Rattle.pp_model.specs.SpliceList.{after_marks, open_names, macro_before}
@@ -28,16 +28,16 @@ module _ {R : Type 0} {I : Reading R} {A : Answers} {Fine : R → Type 0} {left 
   abbrev pub over : List Entry → Expander R
   over S = record { held = None; list = S; reader = c.reader; hidden = c.hidden }
 
-  -- the property holds where a macro that is defined and not open opens before these entries
+  -- the expander goes on where a macro that is defined and not open opens before these entries
   abbrev pub Opens : List Entry → Type 0
   Opens S = (m : Opening) (line : ℕ) (arguments : List (List Read)) → I.visible c.reader m.name ≡ Some m.definition
       → is_in m.name (open_names S ++ c.hidden) ≡ false → G (over (macro_before m.name m.definition line arguments S))
 
-  -- the property holds where these entries are left after the marks at the front
+  -- it goes on where these entries are left after the marks at the front
   abbrev pub Goes : List Entry → Type 0
   Goes L = (S : List Entry) → after_marks S ≡ L → G (over S)
 
-  -- it holds wherever taking leads in the list, and where a macro opens after a token of it
+  -- it does so wherever taking leads in the list, and where a macro opens after a token of it
   abbrev pub Covered : List Entry → Type 0
   Covered [] = Goes []
   Covered (End mark ∷ S) = Covered S

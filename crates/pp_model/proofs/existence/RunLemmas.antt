@@ -13,11 +13,12 @@ use Rattle.pp_model.specs.SourceReader.{SourceReader}
 use Rattle.pp_model.specs.Reads.{source_reading}
 use Rattle.pp_model.specs.Run.{Call, add_define, next, items_of, content_tokens, start, with_added, is_fault, Gives, by_rules, Runs, done, added, refused, given, failed}
 use Rattle.pp_model.specs.ExistenceLaws.{AnAnswer, AnItem, RunDefinesFinitelyMany, ARun}
-use Rattle.pp_model.specs.RunStates.{LeadsTo, nowhere, adding, giving}
+use Rattle.pp_model.specs.RunStates.{LeadsTo}
 use Rattle.pp_model.specs.declared.call.Reply.{Reply}
 use Rattle.pp_model.specs.declared.call.Reply.TheVariants as reply
 use Rattle.pp_model.specs.declared.outcome.Outcome.{Outcome}
 use Rattle.pp_model.specs.declared.outcome.Outcome.TheVariants as outcome
+use Rattle.pp_model.proofs.RunLemmas.{each_state}
 use Rattle.pp_model.proofs.LevelLemmas.{one_answer, one_item_at}
 use Rattle.pp_model.proofs.ReadsLemmas.{source_reads_one}
 use Rattle.pp_model.proofs.existence.Turns.{next_item}
@@ -72,14 +73,13 @@ start_finite source = record { names = []; among = λ name definition h. cc }
 
 module _ (level : ℕ) where
   leads_to_finite : (e f : Expander SourceReader) → LeadsTo (answers_at level) e f → HasFinite e.reader → HasFinite f.reader
-  leads_to_finite e f (nowhere e1 f1 p) finite = rw p finite
-  leads_to_finite e f (adding name tokens e1 f1 more) finite =
-      leads_to_finite (with_added name tokens e) f more (with_one e.reader.definitions name finite (object_like tokens))
-  leads_to_finite e f (giving x e1 g f1 item more) finite =
+  leads_to_finite = each_state (answers_at level) (λ e. HasFinite e.reader)
+      (λ name tokens e finite. with_one e.reader.definitions name finite (object_like tokens))
+      (λ x e f item finite.
       let i = next_item e (every_source (answers_at level) (an_answer level) e finite) in
       let one = one_item_at (source_reading (answers_at level)) (source_reads_one (answers_at level) (one_answer level)) level in
-      let same : g ≡ i.after = (one x i.item e g i.after item i.emits).1 in
-      leads_to_finite g f more (rw same i.fine)
+      let same : f ≡ i.after = (one x i.item e f i.after item i.emits).1 in
+      rw same i.fine)
 
   -- In each state of a run finitely many names are defined.
   pub run_defines_finitely_many : RunDefinesFinitelyMany (answers_at level)
