@@ -16,6 +16,7 @@ use Rattle.pp_model.specs.inner.Run.{after_addition as with_definition}
 use Rattle.pp_model.specs.RunStates.{LeadsTo, nowhere, adding, giving, IsReached}
 use Rattle.pp_model.specs.declared.outcome.Outcome.{Outcome}
 use Rattle.pp_model.specs.declared.read.Taken.{Taken}
+use Rattle.pp_model.proofs.RunLemmas.{each_state}
 use Rattle.pp_model.proofs.SearchLeadsLemmas.{call_leads}
 
 -- each step keeps it, and so does a definition that is added
@@ -48,11 +49,7 @@ module _ (A : Answers) (P : SourceReader → Type 0) (kept : IsKept A P) where
   item_keeps o e f (call x o1 arguments line m e1 g g1 f1 t some k c i) h =
       item_keeps o (with_macro m line arguments g1) f i (call_keeps m.definition _ g g1 c (taking_keeps x e g t h))
 
-  leading_keeps : (e f : Expander SourceReader) → LeadsTo A e f → P e.reader → P f.reader
-  leading_keeps e f (nowhere e1 f1 p) h = subst P (sym (ap (λ g. g.reader) p)) h
-  leading_keeps e f (adding name tokens e1 f1 more) h = leading_keeps (with_added name tokens e) f more (kept.by_definition name tokens e.reader h)
-  leading_keeps e f (giving o e1 g f1 item more) h = leading_keeps g f more (item_keeps o e g item h)
-
   -- what holds of the reader at a source's start holds of it in each state of a run
   pub reached_keeps : (source : List Seen) (e : Expander SourceReader) → IsReached A source e → P (reader_at_start source) → P e.reader
-  reached_keeps source e reached h = leading_keeps (start source) e reached h
+  reached_keeps source e reached h =
+      each_state A (λ f. P f.reader) (λ name tokens f. kept.by_definition name tokens f.reader) item_keeps (start source) e reached h
