@@ -50,7 +50,8 @@ module _ (Q : Token → Type 0) where
   tokens_from_hold (Err fault) later h all = tt
   tokens_from_hold (Ok token) later h all = either_ok (Each Q) (is_newline token.value) (Ok []) _ tt (converted_hold token later h all)
 
-  content_from_holds : (item : Lexeme) (later : Result (List Token) Fault) → HoldsOfLexeme item → IfOk later (Each Q) → IfOk (content_from item later) (Each Q)
+  content_from_holds : (item : Lexeme) (later : Result (List Token) Fault) → HoldsOfLexeme item → IfOk later (Each Q)
+      → IfOk (content_from item later) (Each Q)
   content_from_holds (Err fault) later h all = tt
   content_from_holds (Ok token) later h all = either_ok (Each Q) (is_newline token.value) later _ all (converted_hold token later h all)
 

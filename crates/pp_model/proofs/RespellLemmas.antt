@@ -132,7 +132,8 @@ module _ (level : ℕ) where
   keeps = source_keeps IsGood IsLine good_closed good_directives (answers_at level) shown_is_line
 
   added_good : (content : List ℕ) (tokens : List Token) → IsText content → content_tokens (items_of content) ≡ Ok tokens → Each IsGood tokens
-  added_good content tokens t e = subst (λ (r : Result (List Token) Fault). IfOk r (Each IsGood)) e (content_holds IsGood (items_of content) (text_good content t))
+  added_good content tokens t e =
+      subst (λ (r : Result (List Token) Fault). IfOk r (Each IsGood)) e (content_holds IsGood (items_of content) (text_good content t))
 
   -- each token that a run gives is good
   given_are_good : (e : Expander SourceReader) (calls : List Call) (replies : List Reply) → Runs (by_rules (answers_at level)) e calls replies

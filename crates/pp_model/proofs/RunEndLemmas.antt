@@ -1,7 +1,6 @@
 -- After the end a run gives no item, no matter what is added.
 use Rattle.std.proofs.Common.{◌≡◌, ◌∙◌, false, List, [], ◌∷◌, ◌++◌, refl, ap, sym}
 use Rattle.std.specs.Prelude.{All}
-use Rattle.std.proofs.lemmas.List.Elements.{All-nil, All-cons}
 use Rattle.pp_model.specs.Calls.{Answers}
 use Rattle.pp_model.specs.Reading.{Expander}
 use Rattle.pp_model.specs.SourceReader.{SourceReader}
@@ -14,7 +13,7 @@ use Rattle.pp_model.specs.declared.outcome.Outcome.TheVariants as outcome
 use Rattle.pp_model.specs.declared.read.Taken.{Taken}
 use Rattle.pp_model.specs.declared.read.Taken.TheVariants as taken
 use Rattle.pp_model.specs.Painting.{item_of}
-use Rattle.pp_model.proofs.RunLemmas.{each_state}
+use Rattle.pp_model.proofs.RunLemmas.{each_state, each_reply}
 use Rattle.pp_model.proofs.EndLemmas.{IsOver, HoldsLastEnd, holds_nothing, item_ends, item_when_over}
 
 abbrev IsNoItem : Reply → Type 0
@@ -65,17 +64,9 @@ module _ (A : Answers) where
   -- where nothing is left no reply is an item
   no_item_when_over : (e : Expander SourceReader) (calls : List Call) (replies : List Reply) → Runs (by_rules A) e calls replies → IsOver e
       → All IsNoItem replies
-  no_item_when_over e calls replies (done e1 r1 p) over = rw p (All-nil IsNoItem)
-  no_item_when_over e calls replies (added name content tokens e1 later rest r1 h more p) over =
-      rw p (All-cons IsNoItem reply.Added rest refl (no_item_when_over (with_added _ tokens e) later rest more (over_with_added _ tokens e over)))
-  no_item_when_over e calls replies (refused name content fault e1 later rest r1 h more p) over =
-      rw p (All-cons IsNoItem (reply.Refused fault) rest refl (no_item_when_over e later rest more over))
-  no_item_when_over e calls replies (given o e1 f later rest r1 item h more p) over =
-      let there = item_when_over A item.taken e f item.emits over in
-      rw p (All-cons IsNoItem (reply.Given o) rest (end_is_no_item o (item.is ∙ ap item_of there.0)) (no_item_when_over f later rest more there.1))
-  no_item_when_over e calls replies (failed fault e1 f later r1 item p) over =
-      let bad = item.is ∙ ap item_of (item_when_over A item.taken e f item.emits over).0 in
-      cc
+  no_item_when_over =
+      each_reply A IsOver over_with_added (λ o e f item over. (item_when_over A o e f item over).1) IsNoItem refl (λ fault. refl)
+      (λ o e f item over. end_is_no_item o (item.is ∙ ap item_of (item_when_over A item.taken e f item.emits over).0))
 
   -- so after the end none is
   no_item_after : (e : Expander SourceReader) (calls : List Call) (replies former later : List Reply) → Runs (by_rules A) e calls replies

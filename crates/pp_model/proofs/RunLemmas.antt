@@ -1,5 +1,7 @@
 -- Equal sources and calls have equal replies; and what each step keeps holds in each state of a run.
-use Rattle.std.proofs.Common.{◌≡◌, ◌∙◌, ℕ, List, true, false, ap, sym}
+use Rattle.std.proofs.Common.{◌≡◌, ◌∙◌, ℕ, List, [], true, false, ap, sym}
+use Rattle.std.specs.Prelude.{All}
+use Rattle.std.proofs.lemmas.List.Elements.{All-nil, All-cons}
 use Rattle.pp_lexer.specs.declared.token.Token.{Token}
 use Rattle.pp_model.specs.Names.{Name}
 use Rattle.pp_model.specs.Calls.{Fault, Answers}
@@ -7,11 +9,12 @@ use Rattle.pp_model.specs.Emitting.{Emits, answers_at, expansion_limit}
 use Rattle.pp_model.specs.Reading.{Expander}
 use Rattle.pp_model.specs.Reads.{source_reading}
 use Rattle.pp_model.specs.SourceReader.{SourceReader}
-use Rattle.pp_model.specs.Run.{Comings, by_rules, Call, items_of, start, with_added, is_fault, Runs, done, added, refused, given, failed}
+use Rattle.pp_model.specs.Run.{Comings, by_rules, Call, items_of, start, with_added, is_fault, Gives, Runs, done, added, refused, given, failed}
 use Rattle.pp_model.specs.ExpansionLaws.{OneAnswer}
 use Rattle.pp_model.specs.RunLaws.{OneReplies, OneRun}
 use Rattle.pp_model.specs.RunStates.{LeadsTo, nowhere, adding, giving}
 use Rattle.pp_model.specs.declared.call.Reply.{Reply}
+use Rattle.pp_model.specs.declared.call.Reply.TheVariants as reply
 use Rattle.pp_model.specs.declared.outcome.Outcome.{Outcome}
 use Rattle.pp_model.specs.declared.outcome.Outcome.TheVariants as outcome
 use Rattle.pp_model.specs.declared.read.Taken.{Taken}
@@ -58,6 +61,20 @@ module _ (A : Answers) (P : Expander SourceReader → Type 0)
   each_state e f (nowhere e1 f1 p) h = rw p h
   each_state e f (adding name tokens e1 f1 more) h = each_state (with_added name tokens e) f more (by_definition name tokens e h)
   each_state e f (giving o e1 g f1 item more) h = each_state g f more (by_item o e g item h)
+
+  -- so holds of each reply what follows of each item and holds of the replies to definitions
+  module _ (Q : Reply → Type 0) (of_added : Q reply.Added) (of_refused : (fault : Fault) → Q (reply.Refused fault))
+      (of_item : (o : Outcome) (e f : Expander SourceReader) → Gives A e o f → P e → Q (reply.Given o)) where
+    pub each_reply : (e : Expander SourceReader) (calls : List Call) (replies : List Reply) → Runs (by_rules A) e calls replies → P e → All Q replies
+    each_reply e calls replies (done e1 r1 p) h = rw p (All-nil Q)
+    each_reply e calls replies (added name content tokens e1 later rest r1 is more p) h =
+        rw p (All-cons Q reply.Added rest of_added (each_reply (with_added _ tokens e) later rest more (by_definition _ tokens e h)))
+    each_reply e calls replies (refused name content fault e1 later rest r1 is more p) h =
+        rw p (All-cons Q (reply.Refused fault) rest (of_refused fault) (each_reply e later rest more h))
+    each_reply e calls replies (given o e1 f later rest r1 item is more p) h =
+        rw p (All-cons Q (reply.Given o) rest (of_item o e f item h) (each_reply f later rest more (by_item item.taken e f item.emits h)))
+    each_reply e calls replies (failed fault e1 f later r1 item p) h =
+        rw p (All-cons Q (reply.Given (outcome.Fault fault)) [] (of_item (outcome.Fault fault) e f item h) (All-nil Q))
 
 -- by the definitions it has one
 one_replies : (A : Answers) → OneAnswer A → OneReplies A

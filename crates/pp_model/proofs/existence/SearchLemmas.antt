@@ -91,7 +91,8 @@ module _ {R : Type 0} (I : Reading R) (Fine : R → Type 0) (To : Expander R →
             let called = fits arguments gathered.closing.line in
             record { called = called; after = g; calls = whole x paren gathered (Ok arguments) e f g called t p gathers is refl; found = comes }
         by_answer paren p gathered g gathers fine_g comes (Err fault) is =
-            record { called = refused fault; after = g; calls = whole x paren gathered (Err fault) e f g (refused fault) t p gathers is refl; found = fine_g }
+            let called = refused fault in
+            record { called = called; after = g; calls = whole x paren gathered (Err fault) e f g called t p gathers is refl; found = fine_g }
 
         by_result : (paren : Location) → paren_at x ≡ Some paren → (s : Gathering 0 paren f) (g : Result Gathered Fault) → s.result ≡ g → Calling A d e
         by_result paren p s (Ok gathered) q =

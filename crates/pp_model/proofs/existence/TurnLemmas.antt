@@ -26,7 +26,9 @@ module _ {R : Type 0} {I : Reading R} {A : Answers} {Fine : R → Type 0} {left 
 
   -- what an expander gives, one that leads to it gives too
   through : (e f : Expander R) → ((o : Taken) (h : Expander R) → Emits I A f o h → Emits I A e o h) → G f → Next e
-  through e f leads goes = let i = next_item f goes in record { item = i.item; after = i.after; emits = leads i.item i.after i.emits; fine = i.fine; goes = i.goes }
+  through e f leads goes =
+      let i = next_item f goes in
+      record { item = i.item; after = i.after; emits = leads i.item i.after i.emits; fine = i.fine; goes = i.goes }
 
   -- a macro opens right after its name, or after its call
   opened_goes : (e f g : Expander R) (x : Taken) (m : Opening) (line : ℕ) (arguments : List (List Read)) → Takes I e x f → Front c f
