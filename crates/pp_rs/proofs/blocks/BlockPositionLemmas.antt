@@ -80,7 +80,8 @@ module _ (P : BlockLine → Type 0) where
   pub each_mark : (lines : List BlockLine) → Each P lines → Each (λ block. Each P (marks block)) (open_blocks lines)
   each_mark [] all = tt
   each_mark (line ∷ later) all =
-      rw (open_blocks_step line later) (each_block_if (opens line.part && stays_open 0 later) (record { first = line; partings = parting 0 later }) (open_blocks later)
+      rw (open_blocks_step line later)
+      (each_block_if (opens line.part && stays_open 0 later) (record { first = line; partings = parting 0 later }) (open_blocks later)
       (all.0, each_parting 0 later all.1) (each_mark later all.1))
 
 -- all marks of a block stand before a position

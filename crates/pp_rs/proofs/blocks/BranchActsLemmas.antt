@@ -47,7 +47,9 @@ module _ (r : SourceReader) (b : HasRead r) where
         choosing_keeps r b directive word e block here its (ap (λ f. f.has_else) facts ∙ none) (ap skips facts ∙ reads) holds
 
     close_keeps : part_of directive ≡ Some part.Closes → (found : BlockFacts) → facts_here r ≡ Some found → HasRead (after_line r)
-    close_keeps its found is = let (block, here, facts) = mapped_some (facts_of r) (block_here r) found is in closing_keeps r b directive word e block here its
+    close_keeps its found is =
+        let (block, here, facts) = mapped_some (facts_of r) (block_here r) found is in
+        closing_keeps r b directive word e block here its
 
     passing_keeps : (live : Bool) → is_live r.items r.truths r.position ≡ live → Passes live (facts_here r) directive → HasRead (after_line r)
     passing_keeps live alive (plain its) = line_keeps r b directive word e its

@@ -56,10 +56,12 @@ module _ (truths : Truths) (line : BlockLine) where
   pub takes_known : (truth : Option Bool) → truth_at truths line.position ≡ truth → takes truths line ≡ is_known_true truth
   takes_known truth e = ap is_known_true e
 
-  pub holds_known : (truth : Option Bool) → is_else line.part ≡ false → truth_at truths line.position ≡ truth → holds_at truths line ≡ is_known_true truth
+  pub holds_known : (truth : Option Bool) → is_else line.part ≡ false → truth_at truths line.position ≡ truth
+      → holds_at truths line ≡ is_known_true truth
   holds_known truth plain e = ap (λ other. other || is_known_true (truth_at truths line.position)) plain ∙ ap is_known_true e
 
-  pub fails_known : (truth : Option Bool) → is_else line.part ≡ false → truth_at truths line.position ≡ truth → fails_at truths line ≡ is_known_false truth
+  pub fails_known : (truth : Option Bool) → is_else line.part ≡ false → truth_at truths line.position ≡ truth
+      → fails_at truths line ≡ is_known_false truth
   fails_known truth plain e = ap (λ other. other || is_known_false (truth_at truths line.position)) plain ∙ ap is_known_false e
 
   pub holds_else : is_else line.part ≡ true → holds_at truths line ≡ true
@@ -94,7 +96,8 @@ opens_no_else _ h = refl
 -- A block that a line opens in live text: its condition is read.
 module _ (truths : Truths) (line : BlockLine) (holds : Bool) (begins : opens line.part ≡ true) where
   pub opened_live : is_branch_live (with_truth line.position holds truths) (opened line) ≡ holds
-  opened_live = holds_known (with_truth line.position holds truths) line (Some holds) (opens_no_else line.part begins) (truth_here line.position holds truths)
+  opened_live =
+      holds_known (with_truth line.position holds truths) line (Some holds) (opens_no_else line.part begins) (truth_here line.position holds truths)
 
   pub opened_taken : has_taken_branch (with_truth line.position holds truths) (opened line) ≡ holds
   opened_taken = or-false (takes (with_truth line.position holds truths) line)

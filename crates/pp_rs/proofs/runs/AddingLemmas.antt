@@ -39,7 +39,8 @@ module _ (name : Name) (tokens : List Token) (old new : Source) (h : IsSetIn nam
   held_added : (o : Option (Step Read)) (r : SourceReader) → StandsForHeld o old r → StandsForHeld o new (after_addition name tokens r)
   held_added (Some (Err (Error fault))) r s = tt
   held_added (Some (Err Continue)) r s = s
-  held_added _ r s = subst (λ (source : Source). StandsForReader source (after_addition name tokens r)) (sym h.others) (reader_added new.definitions h.definitions r s)
+  held_added _ r s = subst (λ (source : Source). StandsForReader source (after_addition name tokens r)) (sym h.others)
+      (reader_added new.definitions h.definitions r s)
 
   -- each state is now one in which the definition was added
   pub stands_added : (m : kept.Expander) (e : Expander SourceReader) → StandsFor m old e → StandsFor m new (with_added name tokens e)
