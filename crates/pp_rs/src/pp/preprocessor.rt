@@ -269,8 +269,27 @@ impl<'a> Preprocessor<'a> {
         }
     }
 
+    // Goes on where no word of live text comes that is given as it is: in the open macros, or by one step. Returns
+    // nothing if it is a pause, and otherwise what `next` returns. What `step` returns is taken apart, so that no other
+    // item is kept in memory with it.
+    #[inline(always)]
+    fn next_other(&mut self) -> Option<Option<PreprocessorItem>>
+        requires { is_spent self.old ≡ false }
+        ensures { IsNextStep self.old result self.new }
+    {
+        if let Some(item) = self.next_given() {
+            return Some(Some(item));
+        }
+        match self.step() {
+            Some(Some(Ok(token))) => Some(Some(Ok(token))),
+            Some(Some(Err(error))) => Some(Some(Err(error))),
+            Some(None) => Some(None),
+            None => None,
+        }
+    }
+
     // Does what `next` does. Most items are words of plain text, and these are moved less than others if they are asked
-    // for first. What `step` returns is taken apart, so that no other item is kept in memory with it.
+    // for first. The others are a function of their own, so that the room for them is cleared only where they come.
     #[inline(always)]
     fn next_item(&mut self) -> Option<PreprocessorItem>
         ensures { IsNextItem self.old result self.new }
@@ -282,14 +301,8 @@ impl<'a> Preprocessor<'a> {
             if let Some(item) = self.next_text() {
                 return Some(item);
             }
-            if let Some(item) = self.next_given() {
-                return Some(item);
-            }
-            match self.step() {
-                Some(Some(Ok(token))) => return Some(Ok(token)),
-                Some(Some(Err(error))) => return Some(Err(error)),
-                Some(None) => return None,
-                None => {}
+            if let Some(answer) = self.next_other() {
+                return answer;
             }
         }
     }
