@@ -43,10 +43,6 @@ pub length-replaced_of : (source : List ℕ) → IsUtf8 source → length (repla
 length-replaced_of source u =
     omega (arith, length-replaced (length source) (continued_of source), length-continued (lines_of source), length-lines source u)
 
--- each stretch ends within the source
-pub replaced_of-within : (source : List ℕ) → IsUtf8 source → All (λ p. p.end ≤ length source) (replaced_of source)
-replaced_of-within source u = ends_within 1 0 _ _ (rising-replaced 1 0 _ _ (rising-continued 1 0 _ _ (rising-lines source u)))
-
 -- where the last one ends
 
 last_end-placed_from : (line at : ℕ) (ps : List Piece) → last_end at (placed_from line at ps) ≡ at + sum_by (λ p. p.bytes) ps

@@ -18,14 +18,6 @@ module _ (p : ℕ → Bool) (tail : List ℕ → Bool) (ends : tail [] ≡ true)
       let o : one p (many p tail) (c ∷ w) ≡ many p tail w = rw h refl in
       o ∙ sym (many_pass p tail ends apart c w h) ∙ many_is p tail ends apart (c ∷ w)
 
-pub none_is : (p : ℕ → Bool) (tail : List ℕ → Bool) (w : List ℕ) → begins_with p w ≡ false → one p tail w ≡ false
-none_is p tail [] h = refl
-none_is p tail (c ∷ w) h = rw h refl
-
-one_is : (p : ℕ → Bool) (tail : List ℕ → Bool) (w : List ℕ) → begins_with p w ≡ true → one p tail w ≡ tail (drop 1 w)
-one_is p tail [] h = cc
-one_is p tail (c ∷ w) h = rw h refl
-
 pub front_none : (p : ℕ → Bool) (w : List ℕ) → begins_with p w ≡ false → drop (front_len p w) w ≡ w
 front_none p [] h = refl
 front_none p (c ∷ w) h = let n : front_len p (c ∷ w) ≡ 0 = rw h refl in ap (λ k. drop k (c ∷ w)) n

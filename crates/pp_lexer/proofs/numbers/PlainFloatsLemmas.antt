@@ -166,10 +166,6 @@ signed_power n (c ∷ text) l sign le h some =
     ∙ or_right (one is_decimal digits (c ∷ take n text)) (is_sign c && one is_decimal digits (take n text))
     (both (is_sign c) _ sign (digits_some (take n text) h (omega (arith, length-take-le n text le))))
 
-pub no_exponent : (text : List ℕ) → float_exponent (take 0 text) ≡ true
-no_exponent [] = refl
-no_exponent (c ∷ text) = refl
-
 pub exponent_text : (n : ℕ) (text : List ℕ) → 0 < length text → get_or text 0 0 ≡ 101 → float_power (take n (drop 1 text)) ≡ true
     → float_exponent (take (n + 1) text) ≡ true
 exponent_text n [] l e h = absurd (omega arith)

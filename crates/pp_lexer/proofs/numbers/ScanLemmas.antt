@@ -70,10 +70,6 @@ digit_taken p c s s1 f h m =
     ap (λ x. further (front_len p (upcoming x)) x) m ∙ ap (λ t. further (front_len p t) (further 1 s)) (upcoming-further 1 s)
     ∙ further-further 1 (front_len p (drop 1 (upcoming s))) s ∙ ap (λ k. further k s) (sym n)
 
-pub no_digit : (p : ℕ → Bool) (c : ℕ) (s : Scan) → Some c ≡ option_map (λ x. x.c) (first_char s.reading) → p c ≡ false
-    → further (front_len p (upcoming s)) s ≡ s
-no_digit p c s f h = ap (λ k. further k s) (front_stopped p c s.reading f h) ∙ further-zero s
-
 pub no_more : (p : ℕ → Bool) (s : Scan) → None ≡ option_map (λ x. x.c) (first_char s.reading) → further (front_len p (upcoming s)) s ≡ s
 no_more p s f = ap (λ k. further k s) (front_ended p s.reading f) ∙ further-zero s
 

@@ -16,21 +16,12 @@ grows base n (c ∷ cs) h =
     let m : n * 2 ≤ n * base = mul-le-mul_left n h in
     omega (arith, i, m)
 
-pub whole_digit : (base n m c : ℕ) (cs : List ℕ) → is_digit c base ≡ true → m ≡ n * base + digit_value c → whole_after base n (c ∷ cs) ≡ whole_after base m cs
-whole_digit base n m c cs d e = rw d (ap (λ k. whole_after base k cs) (sym e))
-
-pub whole_no_digit : (base n c : ℕ) (cs : List ℕ) → is_digit c base ≡ false → whole_after base n (c ∷ cs) ≡ None
-whole_no_digit base n c cs d = rw d refl
-
 pub whole_over : (base n c : ℕ) (cs : List ℕ) → 2 ≤ base → 2 ^ 64 ≤ n * base + digit_value c → whole_after base n (c ∷ cs) ≡ None
 whole_over base n c cs h over =
     let g : 2 ^ 64 ≤ digits_value_after base (n * base + digit_value c) cs = omega (arith, grows base (n * base + digit_value c) cs h) in
     let b : nat_lt (digits_value_after base n (c ∷ cs)) (2 ^ 64) ≡ false = le-ltb _ _ g in
     ap (λ t. if list_all (λ x. is_digit x base) (c ∷ cs) && t then Some (digits_value_after base n (c ∷ cs)) else None) b
     ∙ ap (λ t. if t then Some (digits_value_after base n (c ∷ cs)) else None) (and_right (list_all (λ x. is_digit x base) (c ∷ cs)) false refl)
-
-pub whole_end : (base n : ℕ) → n < 2 ^ 64 → whole_after base n [] ≡ Some n
-whole_end base n h = ap (λ t. if t then Some n else None) (lt-ltb n (2 ^ 64) h)
 
 -- no value, since the number grows too large at this digit
 pub whole_too_large : (base v c : ℕ) (text word : List ℕ) → 2 ≤ base → Some c ≡ next_of text → whole_after base v text ≡ whole_after base 0 word

@@ -16,10 +16,6 @@ pub longest_same : (P Q : List ℕ → Bool) (c : ℕ) (cs : List ℕ) → ((w :
 unfolding longest
 longest_same P Q c cs same = within_same P Q (c ∷ cs) (c ∷ cs) (λ k. same (take k cs)) (length (c ∷ cs))
 
-pub longest_equal : (P Q : List ℕ → Bool) (cs : List ℕ) → ((w : List ℕ) → P w ≡ Q w) → longest P cs ≡ longest Q cs
-unfolding longest
-longest_equal P Q cs same = within_same P Q cs cs (λ k. same (take (suc k) cs)) (length cs)
-
 within_none : (P : List ℕ → Bool) (c : ℕ) (cs : List ℕ) → ((w : List ℕ) → P (c ∷ w) ≡ false) → (n : ℕ) → longest_within P (c ∷ cs) n ≡ 0
 within_none P c cs none zero = refl
 within_none P c cs none (suc n) = rw (none (take n cs)) (within_none P c cs none n)
