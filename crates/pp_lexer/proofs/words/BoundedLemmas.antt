@@ -20,12 +20,7 @@ has_it c (d ∷ w) cs (suc k) l = and_right (is_other c d) (list_all (is_other c
 
 module _ (P : List ℕ → Bool) (w : List ℕ) (some : 0 < length w) (good : P w ≡ true) where
   no_longer : (cs : List ℕ) → EndsBefore P cs → (k : ℕ) → length w < k → k ≤ length (w ++ cs) → P (take k (w ++ cs)) ≡ false
-  no_longer [] h k l u = let e : length (w ++ []) ≡ length w = ap length (append-nil w) in absurd (omega arith)
-  no_longer (c ∷ cs) h k l u = by (P (take k (w ++ c ∷ cs))) refl
-    where
-      by : (b : Bool) → P (take k (w ++ c ∷ cs)) ≡ b → P (take k (w ++ c ∷ cs)) ≡ false
-      by false e = e
-      by true e = absurd (false≢true (sym (has_it c w cs k l) ∙ h (take k (w ++ c ∷ cs)) e))
+  no_longer cs h k e l = grind (arith, append-nil, false≢true, has_it)
 
   -- the spelling is the longest there
   pub longest_before : (cs : List ℕ) → EndsBefore P cs → longest P (w ++ cs) ≡ length w

@@ -29,12 +29,7 @@ longest_none P c cs none = within_none P c cs none (length (c ∷ cs))
 within_step : (P Q : List ℕ → Bool) (c : ℕ) (cs : List ℕ) → P (c ∷ []) ≡ true → ((w : List ℕ) → P (c ∷ w) ≡ Q w) → (n : ℕ)
     → longest_within P (c ∷ cs) (suc n) ≡ suc (longest_within Q cs n)
 within_step P Q c cs alone next zero = rw alone refl
-within_step P Q c cs alone next (suc n) = by (Q (take (suc n) cs)) refl (within_step P Q c cs alone next n)
-  where
-    by : (b : Bool) → Q (take (suc n) cs) ≡ b → longest_within P (c ∷ cs) (suc n) ≡ suc (longest_within Q cs n)
-        → longest_within P (c ∷ cs) (suc (suc n)) ≡ suc (longest_within Q cs (suc n))
-    by true e h = rw (next (take (suc n) cs), e) refl
-    by false e h = rw (next (take (suc n) cs), e) h
+within_step P Q c cs alone next (suc n) = grind (arith, within_step P Q c cs alone next n)
 
 pub longest_step : (P Q : List ℕ → Bool) (c : ℕ) (cs : List ℕ) → P (c ∷ []) ≡ true → ((w : List ℕ) → P (c ∷ w) ≡ Q w) → longest P (c ∷ cs) ≡ suc (longest Q cs)
 unfolding longest
@@ -44,12 +39,7 @@ longest_step P Q c cs alone next = within_step P Q c cs alone next (length cs)
 within_step_some : (P Q : List ℕ → Bool) (c : ℕ) (cs : List ℕ) → ((w : List ℕ) → P (c ∷ w) ≡ Q w) → (n : ℕ) → 0 < longest_within Q cs n
     → longest_within P (c ∷ cs) (suc n) ≡ suc (longest_within Q cs n)
 within_step_some P Q c cs next zero some = absurd (omega arith)
-within_step_some P Q c cs next (suc n) some = by (Q (take (suc n) cs)) refl (within_step_some P Q c cs next n)
-  where
-    by : (b : Bool) → Q (take (suc n) cs) ≡ b → (0 < longest_within Q cs n → longest_within P (c ∷ cs) (suc n) ≡ suc (longest_within Q cs n))
-        → longest_within P (c ∷ cs) (suc (suc n)) ≡ suc (longest_within Q cs (suc n))
-    by true e h = rw (next (take (suc n) cs), e) refl
-    by false e h = let s : 0 < longest_within Q cs n = rw e at some in rw (next (take (suc n) cs), e) (h s)
+within_step_some P Q c cs next (suc n) some = grind (arith, within_step_some P Q c cs next n)
 
 pub longest_step_some : (P Q : List ℕ → Bool) (c : ℕ) (cs : List ℕ) → 0 < longest Q cs → ((w : List ℕ) → P (c ∷ w) ≡ Q w)
     → longest P (c ∷ cs) ≡ suc (longest Q cs)
@@ -62,11 +52,7 @@ module _ (p : ℕ → Bool) (tail : List ℕ → Bool) (ends : tail [] ≡ true)
   many_pass c w h = rw (apart c w h, h) refl
 
   pub many_stop : (c : ℕ) (w : List ℕ) → p c ≡ false → many p tail (c ∷ w) ≡ tail (c ∷ w)
-  many_stop c w h = rw h (by (tail (c ∷ w)))
-    where
-      by : (b : Bool) → (b || false) ≡ b
-      by true = refl
-      by false = refl
+  many_stop c w h = grind arith
 
   pub longest-many : (cs : List ℕ) → longest (many p tail) cs ≡ front_len p cs + longest tail (drop (front_len p cs) cs)
   unfolding longest
@@ -94,15 +80,7 @@ module _ (p : ℕ → Bool) (tail : List ℕ → Bool) (ends : tail [] ≡ true)
   -- a word of the set: the characters that pass, and then a word of what follows
   pub many_is : (w : List ℕ) → many p tail w ≡ tail (drop (front_len p w) w)
   many_is [] = refl
-  many_is (c ∷ w) = by (p c) refl (many_is w)
-    where
-      by : (b : Bool) → p c ≡ b → many p tail w ≡ tail (drop (front_len p w) w) → many p tail (c ∷ w) ≡ tail (drop (front_len p (c ∷ w)) (c ∷ w))
-      by true e h =
-          let more : front_len p (c ∷ w) ≡ suc (front_len p w) = rw e refl in
-          many_pass c w e ∙ h ∙ ap (λ n. tail (drop n (c ∷ w))) (sym more)
-      by false e h =
-          let none : front_len p (c ∷ w) ≡ 0 = rw e refl in
-          many_stop c w e ∙ ap (λ n. tail (drop n (c ∷ w))) (sym none)
+  many_is (c ∷ w) = grind (arith, many_pass, many_stop, many_is w)
 
 pub longest_nothing : (cs : List ℕ) → longest nothing cs ≡ 0
 unfolding longest
@@ -121,11 +99,7 @@ module _ (p : ℕ → Bool) (tail : List ℕ → Bool) (ends : tail [] ≡ true)
   maybe_pass c w h = rw (apart c w h, h) refl
 
   pub maybe_stop : (c : ℕ) (w : List ℕ) → p c ≡ false → maybe p tail (c ∷ w) ≡ tail (c ∷ w)
-  maybe_stop c w h = rw h (by (tail (c ∷ w)))
-    where
-      by : (b : Bool) → (b || false) ≡ b
-      by true = refl
-      by false = refl
+  maybe_stop c w h = grind arith
 
   pub longest-maybe_pass : (c : ℕ) (cs : List ℕ) → p c ≡ true → longest (maybe p tail) (c ∷ cs) ≡ suc (longest tail cs)
   longest-maybe_pass c cs h = longest_step (maybe p tail) tail c cs (maybe_pass c [] h ∙ ends) (λ w. maybe_pass c w h)
@@ -148,11 +122,7 @@ longest_empty P = refl
 
 within_le : (P : List ℕ → Bool) (cs : List ℕ) (n : ℕ) → longest_within P cs n ≤ n
 within_le P cs zero = omega arith
-within_le P cs (suc n) = by (P (take (suc n) cs)) refl (within_le P cs n)
-  where
-    by : (b : Bool) → P (take (suc n) cs) ≡ b → longest_within P cs n ≤ n → longest_within P cs (suc n) ≤ suc n
-    by true e h = rw e (omega arith)
-    by false e h = rw e (omega arith)
+within_le P cs (suc n) = grind (arith, within_le P cs n)
 
 -- the longest front is a front
 pub longest_le : (P : List ℕ → Bool) (cs : List ℕ) → longest P cs ≤ length cs
@@ -161,12 +131,7 @@ longest_le P cs = within_le P cs (length cs)
 
 within_in : (P : List ℕ → Bool) (cs : List ℕ) (n : ℕ) → 0 < longest_within P cs n → P (take (longest_within P cs n) cs) ≡ true
 within_in P cs zero some = absurd (omega arith)
-within_in P cs (suc n) some = by (P (take (suc n) cs)) refl (within_in P cs n)
-  where
-    by : (b : Bool) → P (take (suc n) cs) ≡ b → (0 < longest_within P cs n → P (take (longest_within P cs n) cs) ≡ true)
-        → P (take (longest_within P cs (suc n)) cs) ≡ true
-    by true e h = rw e e
-    by false e h = let s : 0 < longest_within P cs n = rw e at some in rw e (h s)
+within_in P cs (suc n) some = grind (arith, within_in P cs n)
 
 -- and, where there is one, it is in the set
 pub longest_in : (P : List ℕ → Bool) (cs : List ℕ) → 0 < longest P cs → P (take (longest P cs) cs) ≡ true

@@ -59,45 +59,17 @@ record First (c : ℕ) : Type 0 where
   no_hash : (c == 35) ≡ false
 
 first_of : (c : ℕ) (cs : List ℕ) (p : Punctuator) → punct_of (c ∷ cs) ≡ Some p → First c
-first_of c cs p h =
-    let a = and_parts (nat_lt c 128) _ (and_parts (first_fits c) (passes c cs) (spelling_fits (c ∷ cs) p h)).0 in
-    let b = and_parts (not (is_blank c)) _ a.1 in
-    let d = and_parts (not (c == 10)) _ b.1 in
-    let e = and_parts (not (begins c)) _ d.1 in
-    let f = and_parts (not (is_decimal c)) _ e.1 in
-    record {
-      small = below c 128 a.0;
-      no_blank = negated _ b.0;
-      no_feed = negated _ d.0;
-      no_letter = negated _ e.0;
-      no_decimal = negated _ f.0;
-      no_hash = negated _ f.1;
-    }
+first_of c cs p h = grind (arith, and_parts, spelling_fits, below, negated)
 
 passes_of : (c : ℕ) (cs : List ℕ) (p : Punctuator) → punct_of (c ∷ cs) ≡ Some p → passes c cs ≡ true
 passes_of c cs p h = (and_parts (first_fits c) (passes c cs) (spelling_fits (c ∷ cs) p h)).1
 
 -- no punctuator has such a character after another
 unspelled : (c d : ℕ) (ds : List ℕ) → is_plain d ≡ false → is_some (punct_of (c ∷ d ∷ ds)) ≡ false
-unspelled c d ds n = by (punct_of (c ∷ d ∷ ds)) refl
-  where
-    by : (o : Option Punctuator) → punct_of (c ∷ d ∷ ds) ≡ o → is_some (punct_of (c ∷ d ∷ ds)) ≡ false
-    by None e = ap is_some e
-    by (Some p) e =
-        let a = and_parts (is_plain c || ((c == 47) && (d == 61))) (is_plain d && (not (is_decimal d) && list_all is_plain ds)) (passes_of c (d ∷ ds) p e) in
-        absurd (false≢true (sym n ∙ (and_parts (is_plain d) _ a.1).0))
+unspelled c d ds n = grind (arith, and_parts, passes_of, false≢true)
 
 unspelled_third : (c d e : ℕ) → is_plain e ≡ false → is_some (punct_of (c ∷ d ∷ e ∷ [])) ≡ false
-unspelled_third c d e n = by (punct_of (c ∷ d ∷ e ∷ [])) refl
-  where
-    by : (o : Option Punctuator) → punct_of (c ∷ d ∷ e ∷ []) ≡ o → is_some (punct_of (c ∷ d ∷ e ∷ [])) ≡ false
-    by None k = ap is_some k
-    by (Some p) k =
-        let a = and_parts (is_plain c || ((c == 47) && (d == 61))) (is_plain d && (not (is_decimal d) && list_all is_plain (e ∷ []))) (passes_of c
-        (d ∷ e ∷ []) p k) in
-        let b = and_parts (is_plain d) (not (is_decimal d) && list_all is_plain (e ∷ [])) a.1 in
-        let f = and_parts (not (is_decimal d)) (list_all is_plain (e ∷ [])) b.1 in
-        absurd (false≢true (sym n ∙ (and_parts (is_plain e) true f.1).0))
+unspelled_third c d e n = grind (arith, and_parts, passes_of, false≢true)
 
 nothing_of : (o : Option Punctuator) → is_some o ≡ false → o ≡ None
 nothing_of None h = refl
@@ -109,9 +81,7 @@ either_false false b e f = f
 
 -- a newline or a mark continues nothing
 break_after : (c d : ℕ) → is_plain d ≡ false → is_decimal d ≡ false → ((d == 47) || (d == 42)) ≡ false → continues_punct c d ≡ false
-break_after c d n k m =
-    either_false _ _ (unspelled c d [] n) (either_false (is_point c && is_decimal d) (begins_comment c d) (and_right (is_point c) (is_decimal d) k)
-    (and_right (c == 47) ((d == 47) || (d == 42)) m))
+break_after c d n k m = grind (arith, either_false, unspelled, and_right)
 
 -- what stands there
 
@@ -145,9 +115,7 @@ one_of c d q h = by (punct_of (c ∷ [])) refl (is_punctuator-closed (c ∷ d �
     by (Some p) e t = (p, e)
 
 second_no_decimal : (c d : ℕ) (ds : List ℕ) (q : Punctuator) → punct_of (c ∷ d ∷ ds) ≡ Some q → is_decimal d ≡ false
-second_no_decimal c d ds q h =
-    let a = and_parts (is_plain c || ((c == 47) && (d == 61))) (is_plain d && (not (is_decimal d) && list_all is_plain ds)) (passes_of c (d ∷ ds) q h) in
-    negated _ (and_parts (not (is_decimal d)) (list_all is_plain ds) (and_parts (is_plain d) _ a.1).1).0
+second_no_decimal c d ds q h = grind (arith, and_parts, passes_of, negated)
 
 pair_at : (c d : ℕ) (cs : List ℕ) (q : Punctuator) → punct_of (c ∷ d ∷ []) ≡ Some q → begins_with (continues_pair c d) cs ≡ false
     → word_at (c ∷ d ∷ cs) ≡ record { value = Ok (Punct q); taken = 2 }
@@ -210,9 +178,7 @@ plain_small c h = (plain_parts c h).small
 -- Hash
 
 hash_at : (cs : List ℕ) → word_at (35 ∷ cs) ≡ record { value = Ok Hash; taken = 1 }
-hash_at cs =
-    let start : is_start 35 ≡ false = ap (λ t. t || (35 == 95)) (is_xid_start-ascii 35 (omega arith)) in
-    other_first (35 ∷ cs) refl start refl ∙ at_hash (35 ∷ cs) refl
+hash_at cs = grind (arith, is_xid_start-ascii, other_first, at_hash)
 
 pub hash_word : (text : List ℕ) → IsUtf8 text → 0 < length text → get_or text 0 0 ≡ 35 → IsPlainWord text Hash 1
 hash_word [] u some h = absurd (omega arith)
@@ -257,11 +223,7 @@ record Lone (c : ℕ) : Type 0 where
   alone : (d : ℕ) → continues_punct c d ≡ false
 
 or_this : (c k : ℕ) (more : Bool) → Lone k → (more ≡ true → Lone c) → (if c == k then true else more) ≡ true → Lone c
-or_this c k more this other h = by (c == k) refl h
-  where
-    by : (b : Bool) → (c == k) ≡ b → (if b then true else more) ≡ true → Lone c
-    by true e h = subst Lone (sym (eqb-true c k e)) this
-    by false e h = other h
+or_this c k more this other h = grind (arith, eqb-true)
 
 lone_of : (c : ℕ) → is_lone c ≡ true → Lone c
 unfolding punct_of
@@ -305,10 +267,7 @@ record Pair (c d : ℕ) (ds : List ℕ) : Type 0 where
   others : list_all is_plain ds ≡ true
 
 pair_of : (c d : ℕ) (ds : List ℕ) (p : Punctuator) → punct_of (c ∷ d ∷ ds) ≡ Some p → Pair c d ds
-pair_of c d ds p h =
-    let a = and_parts (is_plain c || ((c == 47) && (d == 61))) (is_plain d && (not (is_decimal d) && list_all is_plain ds)) (passes_of c (d ∷ ds) p h) in
-    let b = and_parts (is_plain d) (not (is_decimal d) && list_all is_plain ds) a.1 in
-    record { first = a.0; second = b.0; others = (and_parts (not (is_decimal d)) (list_all is_plain ds) b.1).1 }
+pair_of c d ds p h = grind (arith, and_parts, passes_of)
 
 long_front : (c d : ℕ) (n : ℕ) (text : List ℕ) → IsUtf8 (c ∷ d ∷ text) → n ≤ length text → (is_plain c || ((c == 47) && (d == 61))) ≡ true
     → is_plain d ≡ true → list_all is_plain (take n text) ≡ true
@@ -366,11 +325,7 @@ triple_word (c ∷ d ∷ e ∷ text) q x u some h k =
 -- What the code's tables hold
 
 swapped : (a b : ℕ) → (a == b) ≡ (b == a)
-swapped a b = by (a == b) refl
-  where
-    by : (t : Bool) → (a == b) ≡ t → (a == b) ≡ (b == a)
-    by true e = e ∙ sym (eq-eqb b a (sym (eqb-true a b e)))
-    by false e = e ∙ sym (ne_eqb b a (λ k. eqb-false a b e (sym k)))
+swapped a b = grind (arith, eq-eqb, eqb-true, ne_eqb, eqb-false)
 
 and_false : (b : Bool) → (b && false) ≡ false
 and_false true = refl
@@ -386,11 +341,7 @@ and_same false = refl
 
 -- no number is two that differ
 apart : (c d k : ℕ) → (d == c) ≡ false → ((k == c) && (k == d)) ≡ false
-apart c d k h = by (k == c) refl
-  where
-    by : (t : Bool) → (k == c) ≡ t → ((k == c) && (k == d)) ≡ false
-    by false e = ap (λ t. t && (k == d)) e
-    by true e = ap (λ t. t && (k == d)) e ∙ ap (λ x. x == d) (eqb-true k c e) ∙ swapped c d ∙ h
+apart c d k h = grind (arith, eqb-true, swapped)
 
 pub single_is : (c : ℕ) → punct_of (c ∷ []) ≡ single c
 unfolding punct_of
@@ -426,36 +377,15 @@ single_is c = simp (
 
 pub before_equals_is : (c : ℕ) → punct_of (c ∷ 61 ∷ []) ≡ before_equals c
 unfolding punct_of
-before_equals_is c = simp (
-  and_false,
-  and_true,
-  map_choice,
-  swapped 43 c,
-  swapped 45 c,
-  swapped 42 c,
-  swapped 47 c,
-  swapped 37 c,
-  swapped 38 c,
-  swapped 94 c,
-  swapped 124 c,
-  swapped 60 c,
-  swapped 62 c,
-  swapped 61 c,
-  swapped 33 c,
-)
+before_equals_is c = grind (arith, and_false, and_true, map_choice, swapped)
 
 pub doubled_is : (c : ℕ) → (c == 61) ≡ false → punct_of (c ∷ c ∷ []) ≡ doubled c
 unfolding punct_of
-doubled_is c h =
-    let e : (61 == c) ≡ false = swapped 61 c ∙ h in
-    simp (e, and_false, and_true, map_choice, and_same, swapped 43 c, swapped 45 c, swapped 38 c, swapped 124 c, swapped 94 c, swapped 60 c, swapped 62 c)
+doubled_is c h = grind (arith, swapped, and_false, and_true, map_choice, and_same)
 
 pub pair_none : (c d : ℕ) → (d == 61) ≡ false → (d == c) ≡ false → punct_of (c ∷ d ∷ []) ≡ None
 unfolding punct_of
-pair_none c d h n =
-    let e : (61 == d) ≡ false = swapped 61 d ∙ h in
-    let f : (k : ℕ) → ((k == c) && (k == d)) ≡ false = λ k. apart c d k n in
-    simp (e, and_false, and_true, f 43, f 45, f 38, f 124, f 94, f 60, f 62)
+pair_none c d h n = grind (arith, swapped, apart, and_false, and_true)
 
 -- two of the three are of one character twice
 triple_none : (c d e : ℕ) → ((60 == c) && ((60 == d) && (61 == e))) ≡ false → ((62 == c) && ((62 == d) && (61 == e))) ≡ false → punct_of (c ∷ d ∷ e ∷ []) ≡ None
@@ -463,20 +393,10 @@ unfolding punct_of
 triple_none c d e h k = simp (and_false, and_true, h, k)
 
 pub no_triple_third : (c d e : ℕ) → (e == 61) ≡ false → punct_of (c ∷ d ∷ e ∷ []) ≡ None
-no_triple_third c d e h =
-    let f : (a b : Bool) → (a && (b && (61 == e))) ≡ false = λ a b. rw (swapped 61 e, h) (and_right a (b && false) (and_false b)) in
-    triple_none c d e (f (60 == c) (60 == d)) (f (62 == c) (62 == d))
+no_triple_third c d e h = grind (arith, swapped, and_right, and_false, triple_none)
 
 pub no_triple_second : (c d e : ℕ) → (d == c) ≡ false → punct_of (c ∷ d ∷ e ∷ []) ≡ None
-no_triple_second c d e h = triple_none c d e (by 60) (by 62)
-  where
-    joined : (a b x : Bool) → (a && b) ≡ false → (a && (b && x)) ≡ false
-    joined true true x e = cc
-    joined true false x e = refl
-    joined false b x e = refl
-
-    by : (k : ℕ) → ((k == c) && ((k == d) && (61 == e))) ≡ false
-    by k = joined (k == c) (k == d) (61 == e) (apart c d k h)
+no_triple_second c d e h = grind (arith, triple_none, apart)
 
 pub no_triple_first : (c d e : ℕ) → (c == 60) ≡ false → (c == 62) ≡ false → punct_of (c ∷ d ∷ e ∷ []) ≡ None
 no_triple_first c d e h k =
@@ -485,21 +405,13 @@ no_triple_first c d e h k =
 pub shift_assigns : (c d e : ℕ) → c ≡ d → e ≡ 61 → (c ≡ 60 → punct_of (c ∷ d ∷ e ∷ []) ≡ Some LeftShiftAssign)
     × (c ≡ 62 → punct_of (c ∷ d ∷ e ∷ []) ≡ Some RightShiftAssign)
 unfolding punct_of
-shift_assigns c d e h k = (
-  λ m. let n : d ≡ 60 = sym h ∙ m in rw (m, n, k) refl,
-  λ m. let n : d ≡ 62 = sym h ∙ m in rw (m, n, k) refl,
-)
+shift_assigns c d e h k = grind arith
 
 -- what follows a single one does not continue it
 pub stops_single : (text : List ℕ) → Stops (λ _. false) text 1 → (1 < length text → punct_of (get_or text 0 0 ∷ get_or text 1 0 ∷ []) ≡ None)
     → (1 < length text → ((is_point (get_or text 0 0) && is_decimal (get_or text 1 0)) || begins_comment (get_or text 0 0)
     (get_or text 1 0)) ≡ false) → Stops (continues_punct (get_or text 0 0)) text 1
-stops_single text s none other = λ l. (
-  (s l).0,
-  (s l).1,
-  either_false (is_some (punct_of (get_or text 0 0 ∷ get_or text 1 0 ∷ []))) _
-      (ap is_some (none l)) (other l),
-)
+stops_single text s none other = grind (arith, either_false)
 
 pub stops_pair : (text : List ℕ) → Stops (λ _. false) text 2 → (2 < length text → punct_of (get_or text 0 0 ∷ get_or text 1 0 ∷ get_or text 2 0 ∷ []) ≡ None)
     → Stops (continues_pair (get_or text 0 0) (get_or text 1 0)) text 2

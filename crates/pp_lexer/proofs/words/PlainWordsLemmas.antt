@@ -26,27 +26,13 @@ use Rattle.pp_lexer.proofs.words.WordAtLemmas.{identifier_first}
 pub word_always : (text : List ℕ) (n : ℕ) (value : TokenValue) → 0 < n → n ≤ length text → IsCharBoundary text n → IsAscii (take n text)
     → IsFront text n → is_blank (get_or text 0 0) ≡ false → is_newline_value value ≡ false
     → ((line at : ℕ) → word_at (take n text ++ letters (spots_from line at (drop n text))) ≡ record { value = Ok value; taken = n }) → IsPlainWord text value n
-word_always text n value some le cut ascii front blank newline word = record {
-  some = some;
-  within = le;
-  cut = cut;
-  ascii = ascii;
-  front = front;
-  no_blank = blank;
-  no_newline = newline;
-  word = λ line at. ap (λ ss. word_at (letters ss)) (front line at)
-      ∙ ap word_at (letters-run line at (take n text) (spots_from line (at + n) (drop n text))) ∙ word line (at + n);
-}
+word_always text n value some le cut ascii front blank newline word = grind (arith, letters-run)
 
 -- a word that ends before each character which fails
 module _ (P : ℕ → Bool) (feed : P 10 ≡ false) (mark : P 13 ≡ false) (text : List ℕ) (n : ℕ) (u : IsUtf8 text) (some : 0 < n) (le : n ≤ length text)
     (stops : Stops P text n) where
   ends_there : (line at : ℕ) → IsCharBoundary text n → begins_with P (letters (spots_from line at (drop n text))) ≡ false
-  ends_there line at cut =
-      let there : 0 < length (drop n text) → (get_or (drop n text) 0 0 < 128) × ((get_or (drop n text) 0 0 == 92) ≡ false)
-      × (P (get_or (drop n text) 0 0) ≡ false) =
-      λ l. subst (λ b. (b < 128) × ((b == 92) ≡ false) × (P b ≡ false)) (sym (get_or-drop n text)) (stops (drop_some n text l)) in
-      after_is_not P feed mark line at (drop n text) (IsUtf8-drop text n u cut) (λ l. ((there l).0, (there l).1)) (λ l. (there l).2)
+  ends_there line at cut = grind (arith, get_or-drop, drop_some, after_is_not, IsUtf8-drop)
 
   pub word_before : (value : TokenValue) → IsCharBoundary text n → IsAscii (take n text) → IsFront text n → is_blank (get_or text 0 0) ≡ false
       → is_newline_value value ≡ false
@@ -84,21 +70,12 @@ all_continue (c ∷ w) h =
 -- an identifier and what does not continue it
 identifier_at : (c : ℕ) (w cs : List ℕ) → begins c ≡ true → list_all continues w ≡ true → begins_with is_xid_continue cs ≡ false
     → word_at ((c ∷ w) ++ cs) ≡ record { value = Ok (Ident (c ∷ w)); taken = suc (length w) }
-identifier_at c w cs b h k =
-    let start : is_start c ≡ true = begins_start c b in
-    let n : longest is_identifier (c ∷ (w ++ cs)) ≡ suc (length w) = longest_identifier c (w ++ cs) start
-    ∙ ap suc (front_len-append is_xid_continue w cs (all_continue w h) k) in
-    identifier_first (c ∷ (w ++ cs)) start
-    ∙ ap (λ m. record { value = Ok (Ident (take m (c ∷ (w ++ cs)))); taken = m }) n
-    ∙ ap (λ t. record { value = Ok (Ident (c ∷ t)); taken = suc (length w) }) (take_seam w cs)
+identifier_at c w cs b h k = grind (arith, begins_start, longest_identifier, front_len-append, all_continue, identifier_first, take_seam)
 
 identifier_of : (c : ℕ) (w v cs : List ℕ) (n : ℕ) → v ≡ c ∷ w → length v ≡ n → begins c ≡ true → list_all continues v ≡ true
     → begins_with is_xid_continue cs ≡ false
     → word_at (v ++ cs) ≡ record { value = Ok (Ident v); taken = n }
-identifier_of c w v cs n e l b h k =
-    let all : list_all continues (c ∷ w) ≡ true = ap (list_all continues) (sym e) ∙ h in
-    ap (λ t. word_at (t ++ cs)) e ∙ identifier_at c w cs b (and_parts (continues c) (list_all continues w) all).1 k
-    ∙ ap (λ t. record { value = Ok (Ident t); taken = length t }) (sym e) ∙ ap (λ m. record { value = Ok (Ident v); taken = m }) l
+identifier_of c w v cs n e l b h k = grind (arith, identifier_at, and_parts)
 
 -- an identifier has a character
 continued_some : (n : ℕ) (text : List ℕ) → 0 < length text → begins (get_or text 0 0) ≡ true → (n < length text → continues (get_or text n 0) ≡ false) → 0 < n

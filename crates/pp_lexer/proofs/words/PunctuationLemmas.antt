@@ -28,20 +28,13 @@ hash_longest cs = longest_is is_punctuation (35 ∷ cs) 1 (omega arith) refl (om
 
 pub at_hash : (cs : List ℕ) → begins_with (λ c. c == 35) cs ≡ true → punctuation_at cs ≡ record { value = Ok Hash; taken = 1 }
 unfolding punctuation_at
-at_hash [] h = absurd (false≢true h)
-at_hash (c ∷ cs) h =
-    let k : c ≡ 35 = eqb-true c 35 h in
-    ap (λ x. punctuation_outcome (longest is_punctuation (x ∷ cs)) (punctuation_value (take (longest is_punctuation (x ∷ cs)) (x ∷ cs)))) k
-    ∙ ap (λ n. punctuation_outcome n (punctuation_value (take n (35 ∷ cs)))) (hash_longest cs)
+at_hash cs h = grind (arith, false≢true, eqb-true, hash_longest)
 
 no_hash : (c : ℕ) (w : List ℕ) → (c == 35) ≡ false → is_hash (c ∷ w) ≡ false
 no_hash c w h = rw (ne_eqb 35 c (λ e. eqb-false c 35 h (sym e))) refl
 
 no_hash_front : (cs : List ℕ) (n : ℕ) → begins_with (λ c. c == 35) cs ≡ false → is_hash (take n cs) ≡ false
-no_hash_front [] zero h = refl
-no_hash_front [] (suc n) h = refl
-no_hash_front (c ∷ cs) zero h = refl
-no_hash_front (c ∷ cs) (suc n) h = no_hash c (take n cs) h
+no_hash_front cs n h = grind (arith, no_hash)
 
 -- elsewhere the longest punctuator decides
 pub punct_longest : (cs : List ℕ) → begins_with (λ c. c == 35) cs ≡ false → longest is_punctuation cs ≡ longest is_punctuator cs
@@ -52,11 +45,7 @@ punct_longest (c ∷ cs) h = longest_same is_punctuation is_punctuator c cs (λ 
 at_found : (cs : List ℕ) (o : Option Punctuator) → begins_with (λ c. c == 35) cs ≡ false → o ≡ punct_of (take (longest is_punctuator cs) cs)
     → punctuation_at cs ≡ punctuation_outcome (longest is_punctuator cs) (option_map Punct o)
 unfolding punctuation_at
-at_found cs o h f =
-    let n : longest is_punctuation cs ≡ longest is_punctuator cs = punct_longest cs h in
-    let v : punctuation_value (take (longest is_punctuator cs) cs) ≡ option_map Punct (punct_of (take (longest is_punctuator cs) cs)) =
-    rw (no_hash_front cs (longest is_punctuator cs) h) refl in
-    ap (λ k. punctuation_outcome k (punctuation_value (take k cs))) n ∙ ap (punctuation_outcome (longest is_punctuator cs)) (v ∙ ap (option_map Punct) (sym f))
+at_found cs o h f = grind (arith, punct_longest, no_hash_front)
 
 pub at_punct : (cs : List ℕ) (p : Punctuator) → begins_with (λ c. c == 35) cs ≡ false → Some p ≡ punct_of (take (longest is_punctuator cs) cs)
     → punctuation_at cs ≡ record { value = Ok (Punct p); taken = longest is_punctuator cs }
@@ -69,10 +58,4 @@ at_nothing cs h f = at_found cs None h f
 -- where no punctuator is found, none is passed
 pub none_passed : (cs : List ℕ) → None ≡ punct_of (take (longest is_punctuator cs) cs) → longest is_punctuator cs ≡ 0
 unfolding is_punctuator
-none_passed cs f = by (longest is_punctuator cs) refl
-  where
-    by : (n : ℕ) → longest is_punctuator cs ≡ n → longest is_punctuator cs ≡ 0
-    by zero e = e
-    by (suc n) e =
-        let t : is_punctuator (take (longest is_punctuator cs) cs) ≡ true = longest_in is_punctuator cs (omega arith) in
-        absurd (false≢true (ap is_some f ∙ t))
+none_passed cs f = grind (arith, longest_in, false≢true)

@@ -95,11 +95,7 @@ unfolding is_punctuator
 is_punctuator-closed w n h = let p = some_found w h in ap (λ v. is_some (punct_of (take (suc n) v))) (sym p.1) ∙ front_of p.0 n
 
 too_long : (w : List ℕ) → 3 < length w → is_punctuator w ≡ false
-too_long w l = by (is_punctuator w) refl
-  where
-    by : (b : Bool) → is_punctuator w ≡ b → is_punctuator w ≡ false
-    by false e = e
-    by true e = let p = some_found w e in let s = short p.0 in let k : length (punctuator p.0) ≡ length w = ap length p.1 in absurd (omega arith)
+too_long w l = grind (arith, some_found, short)
 
 -- what the next characters say of the longest punctuator
 pub record IsLongest (cs : List ℕ) (n : ℕ) (found : Option Punctuator) : Type 0 where

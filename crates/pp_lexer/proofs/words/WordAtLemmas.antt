@@ -71,11 +71,7 @@ unfolding is_newline_word is_identifier is_number punct_of
 no_word cs h = at_len cs 0 h
 
 number_some : (w after : List ℕ) → 0 < length w → 0 < (number_outcome w after).taken
-number_some w after h = by (is_float w) refl
-  where
-    by : (b : Bool) → is_float w ≡ b → 0 < (number_outcome w after).taken
-    by true e = rw e (omega arith)
-    by false e = rw e (omega arith)
+number_some w after h = grind arith
 
 punctuation_some : (cs : List ℕ) (n : ℕ) → 0 < (punctuation_outcome n (punctuation_value (take n cs))).taken
 unfolding punct_of

@@ -41,11 +41,7 @@ pub start_apart : (c d : ℕ) → is_start c ≡ true → d ≤ 64 → c ≢ d
 start_apart c d s h e = false≢true (sym (low_no_start d h) ∙ ap is_start (sym e) ∙ s)
 
 pub start_no_digit : (c : ℕ) → is_start c ≡ true → is_decimal c ≡ false
-start_no_digit c s = by (is_decimal c) refl
-  where
-    by : (b : Bool) → is_decimal c ≡ b → is_decimal c ≡ false
-    by false e = e
-    by true e = let l = digit_low c e in absurd (false≢true (sym (low_no_start c (omega arith)) ∙ s))
+start_no_digit c s = grind (arith, digit_low, false≢true, low_no_start)
 
 -- Punctuators
 
@@ -101,10 +97,7 @@ no_newline_len (c ∷ cs) h = longest_none is_newline_word c cs (λ w. rw h refl
 
 pub no_newline_front : (cs : List ℕ) (n : ℕ) → begins_with is_line_end cs ≡ false → is_newline_word (take n cs) ≡ false
 unfolding is_newline_word
-no_newline_front [] zero h = refl
-no_newline_front [] (suc n) h = refl
-no_newline_front (c ∷ cs) zero h = refl
-no_newline_front (c ∷ cs) (suc n) h = rw h refl
+no_newline_front cs n h = grind arith
 
 pub newline_alone : (cs : List ℕ) → begins_with is_line_end cs ≡ true → is_newline_word (take 1 cs) ≡ true
 unfolding is_newline_word
@@ -120,10 +113,7 @@ no_identifier_len (c ∷ cs) h = longest_none is_identifier c cs (λ w. rw h ref
 
 pub no_identifier_front : (cs : List ℕ) (n : ℕ) → begins_identifier cs ≡ false → is_identifier (take n cs) ≡ false
 unfolding is_identifier
-no_identifier_front [] zero h = refl
-no_identifier_front [] (suc n) h = refl
-no_identifier_front (c ∷ cs) zero h = refl
-no_identifier_front (c ∷ cs) (suc n) h = rw h refl
+no_identifier_front cs n h = grind arith
 
 pub identifier_len : (cs : List ℕ) → begins_identifier cs ≡ true → 0 < longest is_identifier cs
 identifier_len [] h = absurd (false≢true h)
@@ -140,11 +130,7 @@ no_number_here (c ∷ cs) (suc n) h = no_number_front c cs h n
 
 number_of_digit : (c : ℕ) → is_decimal c ≡ true → is_number (c ∷ []) ≡ true
 unfolding is_number
-number_of_digit c d = rw d (by (is_hex_number (c ∷ [])))
-  where
-    by : (b : Bool) → (b || true) ≡ true
-    by true = refl
-    by false = refl
+number_of_digit c d = grind arith
 
 number_of_point : (d : ℕ) → is_decimal d ≡ true → is_number (46 ∷ d ∷ []) ≡ true
 unfolding is_number
@@ -212,10 +198,7 @@ identifier_begins (c ∷ cs) h = record {
 
 newline_begins : (cs : List ℕ) → begins_with is_line_end cs ≡ true → (begins_identifier cs ≡ false) × (begins_number cs ≡ false)
     × (longest is_punctuation cs ≡ 0)
-newline_begins [] h = absurd (false≢true h)
-newline_begins (c ∷ cs) h =
-    let k : c ≡ 10 = eqb-true c 10 h in
-    (ap is_start k ∙ low_no_start 10 (omega arith), ap (λ x. begins_number (x ∷ cs)) k, none_of is_line_end refl punct_no_line_end (c ∷ cs) h)
+newline_begins cs h = grind (arith, false≢true, eqb-true, low_no_start, none_of, punct_no_line_end)
 
 -- The longest word is the longest of the class
 
@@ -228,28 +211,17 @@ word_len cs =
     ∙ ap (max (longest is_identifier cs)) (longest_union is_number is_punctuation cs))
 
 pub longest_newline : (cs : List ℕ) → begins_with is_line_end cs ≡ true → longest is_word cs ≡ 1
-longest_newline cs h =
-    let b = newline_begins cs h in
-    let m = word_len cs in let n = newline_len cs h in let i = no_identifier_len cs b.0 in let d = no_number_len cs b.1 in let p = b.2 in
-    omega arith
+longest_newline cs h = grind (arith, newline_begins, word_len, newline_len, no_identifier_len, no_number_len)
 
 pub longest_identifier_word : (cs : List ℕ) → begins_identifier cs ≡ true → longest is_word cs ≡ longest is_identifier cs
-longest_identifier_word cs h =
-    let b = identifier_begins cs h in
-    let m = word_len cs in let n = no_newline_len cs b.no_newline in let d = no_number_len cs b.no_number in
-    omega arith
+longest_identifier_word cs h = grind (arith, identifier_begins, word_len, no_newline_len, no_number_len)
 
 pub longest_number_word : (cs : List ℕ) → begins_number cs ≡ true → longest is_word cs ≡ longest is_number cs
-longest_number_word cs h =
-    let b = number_begins cs h in
-    let m = word_len cs in let n = no_newline_len cs b.no_newline in let i = no_identifier_len cs b.no_identifier in
-    omega arith
+longest_number_word cs h = grind (arith, number_begins, word_len, no_newline_len, no_identifier_len)
 
 pub longest_other_word : (cs : List ℕ) → begins_with is_line_end cs ≡ false → begins_identifier cs ≡ false → begins_number cs ≡ false
     → longest is_word cs ≡ longest is_punctuation cs
-longest_other_word cs n i d =
-    let m = word_len cs in let a = no_newline_len cs n in let b = no_identifier_len cs i in let e = no_number_len cs d in
-    omega arith
+longest_other_word cs n i d = grind (arith, word_len, no_newline_len, no_identifier_len, no_number_len)
 
 -- No word begins with a blank
 
@@ -262,20 +234,4 @@ blank_at c cs low b n d p =
     longest_other_word (c ∷ cs) n (low_no_start c low) (rw (d, p) refl) ∙ none_of is_blank refl punct_no_blank (c ∷ cs) b
 
 pub longest_blank : (c : ℕ) (cs : List ℕ) → is_blank c ≡ true → longest is_word (c ∷ cs) ≡ 0
-longest_blank c cs h =
-    elim (or_cases (c == 32) ((c == 9) || ((c == 11) || ((c == 12) || (c == 13)))) h) [
-      | inl e ↦ at 32 e (blank_at 32 cs (omega arith) refl refl refl refl)
-      | inr r ↦ elim (or_cases (c == 9) ((c == 11) || ((c == 12) || (c == 13))) r) [
-        | inl e ↦ at 9 e (blank_at 9 cs (omega arith) refl refl refl refl)
-        | inr r ↦ elim (or_cases (c == 11) ((c == 12) || (c == 13)) r) [
-          | inl e ↦ at 11 e (blank_at 11 cs (omega arith) refl refl refl refl)
-          | inr r ↦ elim (or_cases (c == 12) (c == 13) r) [
-            | inl e ↦ at 12 e (blank_at 12 cs (omega arith) refl refl refl refl)
-            | inr e ↦ at 13 e (blank_at 13 cs (omega arith) refl refl refl refl)
-          ]
-        ]
-      ]
-    ]
-  where
-    at : (k : ℕ) → (c == k) ≡ true → longest is_word (k ∷ cs) ≡ 0 → longest is_word (c ∷ cs) ≡ 0
-    at k e z = ap (λ x. longest is_word (x ∷ cs)) (eqb-true c k e) ∙ z
+longest_blank c cs h = grind (arith, or_cases, blank_at, eqb-true)
