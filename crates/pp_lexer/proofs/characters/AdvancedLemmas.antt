@@ -38,26 +38,10 @@ after_first-one r = ap after_first (sym (advanced-zero r)) ∙ after_first-advan
 -- how many characters pass, by the first of them
 pub front_advanced : (p : ℕ → Bool) (c : ℕ) (r : Reading) → Some c ≡ option_map (λ x. x.c) (first_char r) → p c ≡ true
     → front_len p (letters r.rest) ≡ 1 + front_len p (drop 1 (letters r.rest))
-front_advanced p c r f h = by r.rest f
-  where
-    by : (ss : List Spot) → Some c ≡ option_map (λ x. x.c) (first_of ss) → front_len p (letters ss) ≡ 1 + front_len p (drop 1 (letters ss))
-    by [] f = cc
-    by (s ∷ ss) f =
-        let k : c ≡ s.c = cc in
-        let t : p s.c ≡ true = ap p (sym k) ∙ h in
-        let n : front_len p (s.c ∷ letters ss) ≡ suc (front_len p (letters ss)) = rw t refl in
-        n ∙ omega arith
+front_advanced p c r f h = grind arith
 
 pub front_stopped : (p : ℕ → Bool) (c : ℕ) (r : Reading) → Some c ≡ option_map (λ x. x.c) (first_char r) → p c ≡ false → front_len p (letters r.rest) ≡ 0
-front_stopped p c r f h = by r.rest f
-  where
-    by : (ss : List Spot) → Some c ≡ option_map (λ x. x.c) (first_of ss) → front_len p (letters ss) ≡ 0
-    by [] f = cc
-    by (s ∷ ss) f = let k : c ≡ s.c = cc in let t : p s.c ≡ false = ap p (sym k) ∙ h in rw t refl
+front_stopped p c r f h = grind arith
 
 pub front_ended : (p : ℕ → Bool) (r : Reading) → None ≡ option_map (λ x. x.c) (first_char r) → front_len p (letters r.rest) ≡ 0
-front_ended p r f = by r.rest f
-  where
-    by : (ss : List Spot) → None ≡ option_map (λ x. x.c) (first_of ss) → front_len p (letters ss) ≡ 0
-    by [] f = refl
-    by (s ∷ ss) f = cc
+front_ended p r f = grind arith

@@ -16,9 +16,7 @@ replaced-nil total = rw (cut-nil comment_length) refl
 -- a character by itself
 pub replaced-plain : (total : ℕ) (p : Placed) (ps : List Placed) → comment_length (p ∷ ps) ≡ 0 → replaced total (p ∷ ps) ≡ p ∷ replaced total ps
 unfolding replaced
-replaced-plain total p ps e =
-    let n : comment_length (p ∷ ps) - 1 ≡ 0 = rw e refl in
-    ap (map (stand_in total)) (cut-cons comment_length p ps 0 n)
+replaced-plain total p ps e = grind (arith, cut-cons)
 
 -- a comment
 pub replaced-comment : (total n : ℕ) (p q : Placed) (ps : List Placed) → comment_length (p ∷ q ∷ ps) ≡ 2 + n
@@ -35,12 +33,7 @@ no_slash p (q ∷ ps) e = rw e refl
 
 -- nor does a slash without another slash or a star after it
 pub lone_slash : (p : Placed) (ps : List Placed) → begins_with is_slash ps ≡ false → begins_with is_star ps ≡ false → comment_length (p ∷ ps) ≡ 0
-lone_slash p [] e f = refl
-lone_slash p (q ∷ ps) e f = by_slash (is_slash p) refl
-  where
-    by_slash : (b : Bool) → is_slash p ≡ b → comment_length (p ∷ q ∷ ps) ≡ 0
-    by_slash true h = rw (h, e, f) refl
-    by_slash false h = rw h refl
+lone_slash p ps h k = grind arith
 
 pub line_comment : (p q : Placed) (ps : List Placed) → is_slash p ≡ true → is_slash q ≡ true → comment_length (p ∷ q ∷ ps) ≡ 2 + line_length ps
 line_comment p q ps e f = rw (e, f) refl
@@ -55,10 +48,7 @@ pub block_comment : (p q : Placed) (ps : List Placed) → is_slash p ≡ true �
 block_comment p q ps e f = rw (e, star_no_slash q f, f) refl
 
 begins_with-take : {A : Type 0} (t : A → Bool) (n : ℕ) (xs : List A) → begins_with t xs ≡ false → begins_with t (take n xs) ≡ false
-begins_with-take t zero [] e = refl
-begins_with-take t zero (x ∷ xs) e = refl
-begins_with-take t (suc n) [] e = refl
-begins_with-take t (suc n) (x ∷ xs) e = e
+begins_with-take t n xs h = grind arith
 
 and_begins_with-take : (b : Bool) (n : ℕ) (ps : List Placed) → (b && begins_with is_slash ps) ≡ false → (b && begins_with is_slash (take n ps)) ≡ false
 and_begins_with-take true n ps e = begins_with-take is_slash n ps e
@@ -89,25 +79,13 @@ close_in_two p (q ∷ ps) e = has_close_here p (q ∷ []) e
 -- a block comment holds its `*/`, if there is one
 pub has_close-take : (ps : List Placed) → has_close (take (block_length ps) ps) ≡ has_close ps
 has_close-take [] = refl
-has_close-take (p ∷ ps) = by_close (is_star p && begins_with is_slash ps) refl (has_close-take ps)
-  where
-    by_close : (b : Bool) → (is_star p && begins_with is_slash ps) ≡ b → has_close (take (block_length ps) ps) ≡ has_close ps
-        → has_close (take (block_length (p ∷ ps)) (p ∷ ps)) ≡ has_close (p ∷ ps)
-    by_close true h k = ap (λ n. has_close (take n (p ∷ ps))) (block_length_here p ps h) ∙ (close_in_two p ps h ∙ sym (has_close_here p ps h))
-    by_close false h k =
-        ap (λ n. has_close (take n (p ∷ ps))) (block_length_later p ps h)
-        ∙ (has_close_later p (take (block_length ps) ps) (and_begins_with-take (is_star p) (block_length ps) ps h)
-        ∙ (k ∙ sym (has_close_later p ps h)))
+has_close-take (p ∷ ps) =
+    grind (arith, block_length_here, close_in_two, has_close_here, block_length_later, has_close_later, and_begins_with-take, has_close-take ps)
 
 -- without one it takes all
 pub drop-unclosed : (ps : List Placed) → has_close ps ≡ false → drop (block_length ps) ps ≡ []
 drop-unclosed [] e = refl
-drop-unclosed (p ∷ ps) e = by_close (is_star p && begins_with is_slash ps) refl (drop-unclosed ps)
-  where
-    by_close : (b : Bool) → (is_star p && begins_with is_slash ps) ≡ b → (has_close ps ≡ false → drop (block_length ps) ps ≡ [])
-        → drop (block_length (p ∷ ps)) (p ∷ ps) ≡ []
-    by_close true h k = absurd (true≢false (sym (has_close_here p ps h) ∙ e))
-    by_close false h k = ap (λ n. drop n (p ∷ ps)) (block_length_later p ps h) ∙ k (sym (has_close_later p ps h) ∙ e)
+drop-unclosed (p ∷ ps) e = grind (arith, true≢false, has_close_here, block_length_later, has_close_later, drop-unclosed ps)
 
 -- the reader of a block comment's rest, where a star may stand directly before
 abbrev pub past_block_after : Bool → Cursor → Cursor
@@ -117,36 +95,18 @@ past_block_after star c = if star && begins_with is_slash c.rest then passed 1 c
 module _ (total offset : ℕ) (p : Placed) (ps : List Placed) where
   pub block_goes_on : past_block (record { rest = p ∷ ps; offset = offset; total = total }) ≡ past_block_after (is_star p)
       (record { rest = ps; offset = p.end; total = total })
-  block_goes_on = by_close (is_star p && begins_with is_slash ps) refl
-    where
-      by_close : (b : Bool) → (is_star p && begins_with is_slash ps) ≡ b
-          → past_block (record { rest = p ∷ ps; offset = offset; total = total }) ≡ past_block_after (is_star p)
-          (record { rest = ps; offset = p.end; total = total })
-      by_close true h = rw (has_close_here p ps h, block_length_here p ps h, h) refl
-      by_close false h = rw (has_close_later p ps h, block_length_later p ps h, h) refl
+  block_goes_on = grind (arith, has_close_here, block_length_here, has_close_later, block_length_later)
 
 pub block_step : (star : Bool) (ps : List Placed) (offset total : ℕ) (d : Cursor) (ch line : ℕ) → Some (ch, line) ≡ first_of ps
     → d ≡ after_of ps total → (star && (ch == 47)) ≡ false
     → past_block_after (ch == 42) d ≡ past_block_after star (record { rest = ps; offset = offset; total = total })
-block_step star [] offset total d ch line e f h = cc
-block_step star (p ∷ ps) offset total d ch line e f h =
-    let k : p.char ≡ ch = item_char p ch line e in
-    let open_yet : (star && is_slash p) ≡ false = ap (λ n. star && (n == 47)) k ∙ h in
-    ap (λ n. past_block_after (n == 42) d) (sym k) ∙ (ap (past_block_after (is_star p)) f ∙ (sym (block_goes_on total offset p ps) ∙ rw open_yet refl))
+block_step star ps offset total d ch line h k e = grind (arith, item_char, block_goes_on)
 
 -- a block comment and its mark end at the same place
 block_marked : (total : ℕ) (p q : Placed) (ps : List Placed) → is_star q ≡ true
     → uncommented (past_block (record { rest = ps; offset = q.end; total = total }))
     ≡ after_of (mark total (record { first = p; others = q ∷ take (block_length ps) ps }) ∷ replaced total (drop (block_length ps) ps)) total
-block_marked total p q ps star = by_close (has_close ps) refl
-  where
-    unclosed : is_unclosed (q ∷ take (block_length ps) ps) ≡ not (has_close ps)
-    unclosed = ap (λ t. t && not (has_close (take (block_length ps) ps))) star ∙ ap not (has_close-take ps)
-
-    by_close : (b : Bool) → has_close ps ≡ b → uncommented (past_block (record { rest = ps; offset = q.end; total = total }))
-        ≡ after_of (mark total (record { first = p; others = q ∷ take (block_length ps) ps }) ∷ replaced total (drop (block_length ps) ps)) total
-    by_close true h = rw (h, unclosed ∙ ap not h) refl
-    by_close false h = rw (h, unclosed ∙ ap not h, drop-unclosed ps h) refl
+block_marked total p q ps star = grind (arith, has_close-take, drop-unclosed)
 
 module _ (total : ℕ) (d : Cursor) where
   pub uncommented_end : (ps : List Placed) (r : Option (ℕ × ℕ)) → r ≡ None → r ≡ first_of ps → d ≡ after_of ps total
@@ -158,9 +118,7 @@ module _ (total : ℕ) (d : Cursor) where
     -- what begins no comment is the next item
     one_step : (p : Placed) (ps : List Placed) → Some (ch, line) ≡ first_of (p ∷ ps) → d ≡ after_of (p ∷ ps) total → comment_length (p ∷ ps) ≡ 0
         → Steps (replaced total (p ∷ ps)) total (Some (ch, line)) (uncommented d)
-    one_step p ps e f n =
-        let k : replaced total (p ∷ ps) ≡ p ∷ replaced total ps = replaced-plain total p ps n in
-        record { value = rw k e; state = rw (k, f) refl }
+    one_step p ps e f n = grind (arith, replaced-plain)
 
     pub no_slash_step : (ps : List Placed) → Some (ch, line) ≡ first_of ps → d ≡ after_of ps total → ch ≢ 47
         → Steps (replaced total ps) total (Some (ch, line)) (uncommented d)

@@ -38,12 +38,7 @@ pub below : (c n : ℕ) → nat_lt c n ≡ true → c < n
 below c n h = grind (arith, nat_tests)
 
 pub plain_parts : (c : ℕ) → is_plain c ≡ true → Plain c
-plain_parts c h =
-    let a = and_parts (nat_lt c 128) _ h in
-    let b = and_parts (not (c == 10)) _ a.1 in
-    let d = and_parts (not (c == 13)) _ b.1 in
-    let e = and_parts (not (c == 92)) _ d.1 in
-    record { small = below c 128 a.0; no_feed = negated _ b.0; no_return = negated _ d.0; no_backslash = negated _ e.0; no_slash = negated _ e.1 }
+plain_parts c h = grind (arith, and_parts, below, negated, no_slash)
 
 pub pieces_plain : (c : ℕ) (cs : List ℕ) → (c == 10) ≡ false → (c == 13) ≡ false → pieces (c ∷ cs) ≡ record { char = c; bytes = len_utf8 c } ∷ pieces cs
 pieces_plain c [] a b = rw (a, b) refl
@@ -57,23 +52,7 @@ ascii_chars c text h u = chars_past_char (c ∷ text) text c u (rw (encode_ascii
 pub plain_first : (line at c : ℕ) (text : List ℕ) → is_plain c ≡ true → IsUtf8 (c ∷ text)
     → spots_from line at (c ∷ text) ≡ record { c = c; line = line; begin = at; end = at + 1 } ∷ spots_from line (at + 1) text
 unfolding spots_from
-plain_first line at c text h u =
-    let p = plain_parts c h in
-    let one : len_utf8 c ≡ 1 = len_utf8_ascii c p.small in
-    let here : Placed = record { char = c; line = line; end = at + 1 } in
-    let placed : placed_from line at (pieces (chars (c ∷ text))) ≡ here ∷ placed_from line (at + 1) (pieces (chars text)) =
-    ap (λ cs. placed_from line at (pieces cs)) (ascii_chars c text p.small u)
-    ∙ ap (placed_from line at) (pieces_plain c (chars text) p.no_feed p.no_return)
-    ∙ rw (p.no_feed, one) refl in
-    let more = placed_from line (at + 1) (pieces (chars text)) in
-    let total : at + length (c ∷ text) ≡ at + 1 + length text = omega arith in
-    let phases : replaced (at + length (c ∷ text)) (continued (placed_from line at (pieces (chars (c ∷ text))))) ≡ here ∷ replaced
-    (at + 1 + length text) (continued more) =
-    ap (λ ps. replaced (at + length (c ∷ text)) (continued ps)) placed
-    ∙ ap (replaced (at + length (c ∷ text))) (continued-plain here more p.no_backslash)
-    ∙ replaced-plain (at + length (c ∷ text)) here (continued more) (no_slash here (continued more) p.no_slash)
-    ∙ ap (λ n. here ∷ replaced n (continued more)) total in
-    ap (spots at) phases ∙ rw one refl
+plain_first line at c text h u = grind (arith, plain_parts, len_utf8_ascii, ascii_chars, pieces_plain, continued-plain, replaced-plain, no_slash)
 
 pub utf8_after : (c : ℕ) (text : List ℕ) → c < 128 → IsUtf8 (c ∷ text) → IsUtf8 text
 utf8_after c text h u = IsUtf8-past_char (c ∷ text) text c u (rw (encode_ascii c h) refl)
@@ -91,10 +70,7 @@ plain_front line at (c ∷ w) text h u =
 
 pub nothing_left : (line at : ℕ) → spots_from line at [] ≡ []
 unfolding spots_from
-nothing_left line at =
-    ap (λ cs. spots at (replaced (at + 0) (continued (placed_from line at (pieces cs))))) chars-nil
-    ∙ ap (λ ps. spots at (replaced (at + 0) ps)) continued-nil
-    ∙ ap (spots at) (replaced-nil (at + 0))
+nothing_left line at = grind (arith, chars-nil, continued-nil, replaced-nil)
 
 -- the first character of a text that begins with an ASCII byte, where that is no backslash: the byte, a newline or a mark
 module _ (P : ℕ → Bool) (feed : P 10 ≡ false) (mark : P 13 ≡ false) where
@@ -110,30 +86,7 @@ module _ (P : ℕ → Bool) (feed : P 10 ≡ false) (mark : P 13 ≡ false) wher
   pub first_is_not : (line at b : ℕ) (text : List ℕ) → b < 128 → (b == 92) ≡ false → P b ≡ false → IsUtf8 (b ∷ text)
       → begins_with P (letters (spots_from line at (b ∷ text))) ≡ false
   unfolding spots_from
-  first_is_not line at b text small no_backslash h u = rw (ascii_chars b text small u) (by_pieces (chars text))
-    where
-      plain_case : (q : Piece) (ps : List Piece) → (q.char == 92) ≡ false → P q.char ≡ false
-          → begins_with P (letters (spots at (replaced (at + length (b ∷ text)) (continued (placed_from line at (q ∷ ps)))))) ≡ false
-      plain_case q ps e f = after_phases (at + length (b ∷ text)) at (record { char = q.char; line = line; end = at + q.bytes }) _ e f
-
-      piece_case : (ps : List Piece)
-          → begins_with P (letters (spots at (replaced (at + length (b ∷ text)) (continued (placed_from line at (piece b ∷ ps)))))) ≡ false
-      piece_case ps = by_break (is_line_break b) refl
-        where
-          by_break : (t : Bool) → is_line_break b ≡ t → begins_with P
-              (letters (spots at (replaced (at + length (b ∷ text)) (continued (placed_from line at (piece b ∷ ps)))))) ≡ false
-          by_break true e = rw e (plain_case (newline_piece 1) ps refl feed)
-          by_break false e = rw e (plain_case (record { char = b; bytes = len_utf8 b }) ps no_backslash h)
-
-      by_pieces : (cs : List ℕ)
-          → begins_with P (letters (spots at (replaced (at + length (b ∷ text)) (continued (placed_from line at (pieces (b ∷ cs))))))) ≡ false
-      by_pieces [] = piece_case []
-      by_pieces (d ∷ cs) = by_pair (is_pair b d) refl
-        where
-          by_pair : (t : Bool) → is_pair b d ≡ t → begins_with P
-              (letters (spots at (replaced (at + length (b ∷ text)) (continued (placed_from line at (pieces (b ∷ d ∷ cs))))))) ≡ false
-          by_pair true e = rw e (plain_case (newline_piece 2) (pieces cs) refl feed)
-          by_pair false e = rw e (piece_case (pieces (d ∷ cs)))
+  first_is_not line at b text small no_backslash h u = grind (arith, ascii_chars, after_phases)
 
 -- the same before comments are replaced
 module _ (P : ℕ → Bool) (feed : P 10 ≡ false) where
@@ -167,16 +120,7 @@ pub slash_first : (line at : ℕ) (text : List ℕ) → IsUtf8 (47 ∷ text)
     → begins_with (λ q. q.char == 42) (continued (placed_from line (at + 1) (pieces (chars text)))) ≡ false
     → spots_from line at (47 ∷ text) ≡ record { c = 47; line = line; begin = at; end = at + 1 } ∷ spots_from line (at + 1) text
 unfolding spots_from
-slash_first line at text u no_slash no_star =
-    let here : Placed = record { char = 47; line = line; end = at + 1 } in
-    let more = placed_from line (at + 1) (pieces (chars text)) in
-    let small : 47 < 128 = omega arith in
-    let total : at + length (47 ∷ text) ≡ at + 1 + length text = omega arith in
-    ap (λ cs. spots at (replaced (at + length (47 ∷ text)) (continued (placed_from line at (pieces cs))))) (ascii_chars 47 text small u)
-    ∙ ap (λ ps. spots at (replaced (at + length (47 ∷ text)) (continued (placed_from line at ps)))) (pieces_plain 47 (chars text) refl refl)
-    ∙ ap (λ ps. spots at (replaced (at + length (47 ∷ text)) ps)) (continued-plain here more refl)
-    ∙ ap (spots at) (replaced-plain (at + length (47 ∷ text)) here (continued more) (lone_slash here (continued more) no_slash no_star))
-    ∙ ap (λ n. spots at (here ∷ replaced n (continued more))) total
+slash_first line at text u no_slash no_star = grind (arith, ascii_chars, pieces_plain, continued-plain, replaced-plain, lone_slash)
 
 pub nothing_begins : (P : Placed → Bool) (line at : ℕ) → begins_with P (continued (placed_from line at (pieces (chars [])))) ≡ false
 nothing_begins P line at = rw (chars-nil, continued-nil) refl
@@ -193,13 +137,4 @@ length-placed_from line at (p ∷ ps) = ap suc (length-placed_from (if is_newlin
 -- there are no more characters than bytes
 pub length-spots_from : (line at : ℕ) (text : List ℕ) → IsUtf8 text → length (spots_from line at text) ≤ length text
 unfolding spots_from
-length-spots_from line at text u =
-    let ps = placed_from line at (pieces (chars text)) in
-    omega (
-      arith,
-      length-spots at (replaced (at + length text) (continued ps)),
-      length-replaced (at + length text) (continued ps),
-      length-continued ps,
-      length-placed_from line at (pieces (chars text)),
-      length-pieces-source text u,
-    )
+length-spots_from line at text u = grind (arith, length-spots, length-replaced, length-continued, length-placed_from, length-pieces-source)

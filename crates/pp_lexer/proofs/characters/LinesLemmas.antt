@@ -37,12 +37,7 @@ chars_of : (text rest : List ℕ) (c : ℕ) → IsUtf8 text → text ≡ encode 
 chars_of text rest c u e = chars_past_char text rest c u e
 
 pub first_plain : (text rest : List ℕ) (c : ℕ) → IsUtf8 text → text ≡ encode c ++ rest → c ≢ 10 → c ≢ 13 → IsFirstPiece text c rest
-first_plain text rest c u e a b =
-    let n : length text - length rest ≡ len_utf8 c = omega (arith, taken text rest c e) in
-    record {
-      room = omega (arith, taken text rest c e);
-      pieces_are = rw (n, chars_of text rest c u e) (pieces_plain c (chars rest) (tested c 10 a) (tested c 13 b));
-    }
+first_plain text rest c u e a b = grind (arith, taken, chars_of, pieces_plain, tested)
 
 -- a newline alone, or a pair
 module _ (text mid rest : List ℕ) (c d : ℕ) (u : IsUtf8 text) (v : IsUtf8 mid) (e : text ≡ encode c ++ mid)

@@ -54,16 +54,7 @@ drop_none (x ∷ xs) = refl
 -- a line feed with an ASCII character after it that is no carriage return, or with the end
 pub line_feed : (text : List ℕ) → IsUtf8 text → 0 < length text → get_or text 0 0 ≡ 10
     → (1 < length text → (get_or text 1 0 < 128) × ((get_or text 1 0 == 13) ≡ false)) → IsPlainNewline text 1
-line_feed [] u some feed after = absurd (omega arith)
-line_feed (b ∷ text) u some feed after = record {
-  some = omega arith;
-  within = omega arith;
-  cut = IsCharBoundary-after_ascii (b ∷ text) 0 u some (omega (arith, feed));
-  front = λ line at.
-      let none : drop 1 (b ∷ text) ≡ text = drop_none text in
-      ap (λ c. spots_from line at (c ∷ text)) feed ∙ newline_at line at text (subst (λ c. IsUtf8 (c ∷ text)) feed u) (λ l. after (omega arith))
-      ∙ ap (λ t. record { c = 10; line = line; begin = at; end = at + 1 } ∷ spots_from (line + 1) (at + 1) t) (sym none);
-}
+line_feed text h k e l = grind (arith, IsCharBoundary-after_ascii, drop_none, newline_at)
 
 -- the pair, and what stands on the next line
 pair_at : (line at : ℕ) (text : List ℕ) → IsUtf8 (13 ∷ 10 ∷ text)

@@ -55,9 +55,7 @@ last_end-lines source u =
     ap (last_end 0) (lines_are (chars source)) ∙ (last_end-placed_from 1 0 (pieces (chars source)) ∙ omega (arith, bytes_of_source source u))
 
 ends-tail : (p : Placed) (ps : List Placed) → ends_in_continuation (p ∷ ps) ≡ false → ends_in_continuation ps ≡ false
-ends-tail p [] e = refl
-ends-tail p (q ∷ []) e = refl
-ends-tail p (q ∷ r ∷ ps) e = e
+ends-tail p ps h = grind arith
 
 gone_end : (at : ℕ) (p q : Placed) (ps : List Placed) → is_backslash p ≡ true → is_newline q ≡ true → ends_in_continuation (p ∷ q ∷ ps) ≡ false
     → last_end at (continued ps) ≡ last_end at ps → last_end at (continued ps) ≡ last_end q.end ps
@@ -90,9 +88,7 @@ one_line_on false line before = omega arith
 placed_from-counts : (line at n : ℕ) (ps : List Piece) (p : Placed) → slice_get (placed_from line at ps) n ≡ Some p
     → p.line ≡ line + count_by is_newline (take n (placed_from line at ps))
 placed_from-counts line at n [] p e = let within : n < 0 = slice_get_within [] n p e in absurd (omega arith)
-placed_from-counts line at zero (q ∷ ps) p e =
-    let f : record { char = q.char; line = line; end = at + q.bytes } ≡ p = cc in
-    sym (ap (λ t. t.line) f) ∙ sym (add-zero line)
+placed_from-counts line at zero (q ∷ ps) p e = grind (arith, add-zero)
 placed_from-counts line at (suc n) (q ∷ ps) p e =
     let next : ℕ = if is_newline_piece q then line + 1 else line in
     let here : Placed = record { char = q.char; line = line; end = at + q.bytes } in
@@ -118,11 +114,7 @@ newlines-lines : (cs : List ℕ) → count_by is_newline (lines cs) ≡ count_by
 newlines-lines cs = ap (count_by is_newline) (lines_are cs) ∙ newlines-placed_from 1 0 (pieces cs)
 
 no_pair : (a c : ℕ) → is_line_break a ≡ false → is_pair a c ≡ false
-no_pair a c e = by_pair (is_pair a c) refl
-  where
-    by_pair : (b : Bool) → is_pair a c ≡ b → is_pair a c ≡ false
-    by_pair true h = absurd (true≢false (sym (is_pair-breaks a c h).0 ∙ e))
-    by_pair false h = h
+no_pair a c e = grind (arith, true≢false, is_pair-breaks)
 
 ends_after : (a b : ℕ) (front : List ℕ) → ends_in_break (a ∷ b ∷ front) ≡ false → ends_in_break front ≡ false
 ends_after a b [] e = refl
@@ -134,13 +126,7 @@ pieces_around : (front back : List ℕ) (c d : ℕ) → ends_in_break front ≡ 
 pieces_around [] back c d e f = rw f refl
 pieces_around (a ∷ []) back c d e f = rw (no_pair a c e, f) refl
 pieces_around (a ∷ b ∷ front) back c d e f =
-    by_pair (is_pair a b) refl (pieces_around front back c d (ends_after a b front e) f) (pieces_around (b ∷ front) back c d e f)
-  where
-    by_pair : (t : Bool) → is_pair a b ≡ t → pieces (front ++ (c ∷ d ∷ back)) ≡ pieces front ++ (newline_piece 2 ∷ pieces back)
-        → pieces (b ∷ (front ++ (c ∷ d ∷ back))) ≡ pieces (b ∷ front) ++ (newline_piece 2 ∷ pieces back)
-        → pieces (a ∷ b ∷ (front ++ (c ∷ d ∷ back))) ≡ pieces (a ∷ b ∷ front) ++ (newline_piece 2 ∷ pieces back)
-    by_pair true h k l = rw h (ap (λ t. newline_piece 2 ∷ t) k)
-    by_pair false h k l = rw h (ap (λ t. piece a ∷ t) l)
+    grind (arith, ends_after, pieces_around front back c d (ends_after a b front e) f, pieces_around (b ∷ front) back c d e f)
 
 pub pair-counts-once : (front back : List ℕ) (c d : ℕ) → ends_in_break front ≡ false → is_pair c d ≡ true
     → count_by is_newline (lines (front ++ (c ∷ d ∷ back))) ≡ count_by is_newline (lines front) + 1 + count_by is_newline (lines back)

@@ -16,47 +16,23 @@ module _ (P : List ℕ → List Piece → Type 0) (none : P [] []) (one : (c : �
   pub along_pieces : (cs : List ℕ) → P cs (pieces cs)
   along_pieces [] = none
   along_pieces (c ∷ []) = one c [] [] none
-  along_pieces (c ∷ d ∷ cs) = by_pair (is_pair c d) refl (along_pieces cs) (along_pieces (d ∷ cs))
-    where
-      by_pair : (b : Bool) → is_pair c d ≡ b → P cs (pieces cs) → P (d ∷ cs) (pieces (d ∷ cs)) → P (c ∷ d ∷ cs) (pieces (c ∷ d ∷ cs))
-      by_pair true h p q = rw h (two c d cs (pieces cs) h p)
-      by_pair false h p q = rw h (one c (d ∷ cs) (pieces (d ∷ cs)) q)
+  along_pieces (c ∷ d ∷ cs) = grind (arith, along_pieces cs, along_pieces (d ∷ cs))
 
 -- both characters of a pair are line breaks, by the tests of the first (a, b) and of the second (e, f)
 pair_breaks : (a b e f : Bool) → ((a && f) || (b && e)) ≡ true → ((a || b) ≡ true) × ((e || f) ≡ true)
-pair_breaks true b true f h = (refl, refl)
-pair_breaks true b false true h = (refl, refl)
-pair_breaks true true false false h = cc
-pair_breaks true false false false h = cc
-pair_breaks false true true f h = (refl, refl)
-pair_breaks false true false f h = cc
-pair_breaks false false e f h = cc
+pair_breaks a b e f h = grind arith
 
 pub is_pair-breaks : (c d : ℕ) → is_pair c d ≡ true → (is_line_break c ≡ true) × (is_line_break d ≡ true)
 is_pair-breaks c d e = pair_breaks (c == 10) (c == 13) (d == 10) (d == 13) e
 
 len_utf8-break : (c : ℕ) → is_line_break c ≡ true → len_utf8 c ≡ 1
-len_utf8-break c e = by_feed (c == 10) refl
-  where
-    by_feed : (b : Bool) → (c == 10) ≡ b → len_utf8 c ≡ 1
-    by_feed true h = rw (eqb-true c 10 h) refl
-    by_feed false h =
-        let k : (c == 13) ≡ true = ap (λ t. t || (c == 13)) (sym h) ∙ e in
-        rw (eqb-true c 13 k) refl
+len_utf8-break c e = grind (arith, eqb-true)
 
 bytes_of_piece : (c : ℕ) → (piece c).bytes ≡ len_utf8 c
-bytes_of_piece c = by_break (is_line_break c) refl
-  where
-    by_break : (b : Bool) → is_line_break c ≡ b → (piece c).bytes ≡ len_utf8 c
-    by_break true h = rw h (sym (len_utf8-break c h))
-    by_break false h = rw h refl
+bytes_of_piece c = grind (arith, len_utf8-break)
 
 room_of_piece : (c : ℕ) → len_utf8 (piece c).char ≤ (piece c).bytes
-room_of_piece c = by_break (is_line_break c) refl
-  where
-    by_break : (b : Bool) → is_line_break c ≡ b → len_utf8 (piece c).char ≤ (piece c).bytes
-    by_break true h = rw h (omega arith)
-    by_break false h = rw h (omega arith)
+room_of_piece c = grind arith
 
 -- each piece has room for its character
 abbrev pub HaveRoom : List Piece → Type 0

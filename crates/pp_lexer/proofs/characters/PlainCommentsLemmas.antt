@@ -46,36 +46,10 @@ joined_feed line at text u h =
 -- no character stands before a newline
 line_broken : (line at b : ℕ) (text : List ℕ) → is_line_break b ≡ true → IsUtf8 (b ∷ text)
     → line_length (continued (placed_from line at (pieces (chars (b ∷ text))))) ≡ 0
-line_broken line at b text h u = rw (ascii_chars b text small u) (by_pieces (chars text))
-  where
-    small : b < 128
-    small =
-        elim (or_cases (b == 10) (b == 13) h) [
-          | inl e ↦ let k : b ≡ 10 = eqb-true b 10 e in omega arith
-          | inr e ↦ let k : b ≡ 13 = eqb-true b 13 e in omega arith
-        ]
-
-    feed_first : (n : ℕ) (ps : List Piece) → line_length (continued (placed_from line at (record { char = 10; bytes = n } ∷ ps))) ≡ 0
-    feed_first n ps =
-        ap line_length (continued-plain (record { char = 10; line = line; end = at + n }) (placed_from (line + 1) (at + n) ps) refl)
-
-    piece_case : (ps : List Piece) → line_length (continued (placed_from line at (piece b ∷ ps))) ≡ 0
-    piece_case ps = rw h (feed_first 1 ps)
-
-    by_pieces : (cs : List ℕ) → line_length (continued (placed_from line at (pieces (b ∷ cs)))) ≡ 0
-    by_pieces [] = piece_case []
-    by_pieces (d ∷ cs) = by_pair (is_pair b d) refl
-      where
-        by_pair : (t : Bool) → is_pair b d ≡ t → line_length (continued (placed_from line at (pieces (b ∷ d ∷ cs)))) ≡ 0
-        by_pair true e = rw e (feed_first 2 (pieces cs))
-        by_pair false e = rw e (piece_case (pieces (d ∷ cs)))
+line_broken line at b text h u = grind (arith, ascii_chars, or_cases, eqb-true, continued-plain)
 
 passed_none : (c : Cursor) → passed 0 c ≡ c
-passed_none c = by c.rest
-  where
-    by : (ps : List Placed) → passed 0 (reader ps c.offset c.total) ≡ reader ps c.offset c.total
-    by [] = refl
-    by (p ∷ ps) = refl
+passed_none c = grind (arith, reader)
 
 -- a line comment ends before a newline, and at the end of the text
 line_ended : (line at : ℕ) (text : List ℕ) → IsUtf8 text → (0 < length text → is_line_break (get_or text 0 0) ≡ true)
@@ -105,12 +79,7 @@ drop_none [] = refl
 drop_none (x ∷ xs) = refl
 
 block_begun : (body : List ℕ) → IsUtf8 body → IsBlockSoFar body 0 0 false
-block_begun body u = record {
-  within = omega arith;
-  lines = omega arith;
-  utf8 = subst IsUtf8 (sym (drop_none body)) u;
-  state = λ h line at. rw (drop_none body, add-zero line, add-zero at) refl;
-}
+block_begun body u = grind (arith, drop_none, add-zero)
 
 -- what follows a byte that does not close the comment
 goes_on : (star : Bool) (total offset : ℕ) (p : Placed) (ps : List Placed) → (star && is_slash p) ≡ false
@@ -129,9 +98,7 @@ module _ (body : List ℕ) (i newlines : ℕ) (star : Bool) (s : IsBlockSoFar bo
 
   here : get_or body i 0 < 128 → (get_or body i 0 == 13) ≡ false → (line at : ℕ)
       → past_block_after star (joined (left (line + newlines) (at + i) (get_or body i 0 ∷ drop (i + 1) body))) ≡ past_block (joined (left line at body))
-  here small no_return line at =
-      let none : NoReturn (drop i body) = subst NoReturn (sym split) (λ _. (small, no_return)) in
-      ap (λ t. past_block_after star (joined (left (line + newlines) (at + i) t))) (sym split) ∙ s.state none line at
+  here small no_return line at = grind (arith, split, past_block_after)
 
   pub block_more : (star && (get_or body i 0 == 47)) ≡ false → is_straight (get_or body i 0) ≡ true
       → IsBlockSoFar body (i + 1) newlines (get_or body i 0 == 42)
@@ -197,11 +164,7 @@ block_closed body i newlines s l slash line at =
 mark_first : (qs : List Placed) (total at line : ℕ) (s : Cursor)
     → ◌≡◌ {A = Option (ℕ × ℕ)} (Some (13, line)) (first_of qs) → s ≡ after_of qs total
     → spots at qs ≡ record { c = 13; line = line; begin = at; end = at + 1 } ∷ spots s.offset s.rest
-mark_first [] total at line s e f = cc
-mark_first (p ∷ qs) total at line s e f =
-    ap (λ k. record { c = k; line = p.line; begin = at; end = at + len_utf8 k } ∷ spots p.end qs) (item_char p 13 line e)
-    ∙ ap (λ k. record { c = 13; line = k; begin = at; end = at + 1 } ∷ spots p.end qs) (sym (item_line p 13 line e))
-    ∙ ap (λ (x : Cursor). record { c = 13; line = line; begin = at; end = at + 1 } ∷ spots x.offset x.rest) (sym f)
+mark_first qs total at line s h k = grind (arith, item_char, item_line)
 
 module _ (line at : ℕ) (body : List ℕ) where
   more : List Placed
@@ -250,10 +213,7 @@ module _ (line at : ℕ) (body : List ℕ) where
 -- Both kinds, by their bytes
 
 two_first : (text : List ℕ) (d : ℕ) → 1 < length text → get_or text 0 0 ≡ 47 → get_or text 1 0 ≡ d → text ≡ 47 ∷ d ∷ drop 2 text
-two_first [] d l e f = absurd (omega arith)
-two_first (a ∷ []) d l e f = absurd (omega arith)
-two_first (a ∷ b ∷ body) d l e f =
-    ap (λ x. x ∷ b ∷ body) e ∙ ap (λ x. 47 ∷ x ∷ body) f ∙ ap (λ t. 47 ∷ d ∷ t) (sym (drop_none body))
+two_first text d h k e = grind (arith, drop_none)
 
 utf8_body : (text : List ℕ) (d : ℕ) → Straight d → IsUtf8 text → text ≡ 47 ∷ d ∷ drop 2 text → IsUtf8 (drop 2 text)
 utf8_body text d p u two =

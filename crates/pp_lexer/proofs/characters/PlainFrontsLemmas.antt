@@ -36,19 +36,13 @@ plain_ascii (c ∷ w) h = let b = and_parts (is_plain c) (list_all is_plain w) h
 
 -- a text may be cut after a plain front
 pub cut_after_plain : (n : ℕ) (text : List ℕ) → IsUtf8 text → 0 < n → n ≤ length text → list_all is_plain (take n text) ≡ true → IsCharBoundary text n
-cut_after_plain zero text u some le h = absurd (omega arith)
-cut_after_plain (suc n) text u some le h =
-    subst (IsCharBoundary text) (add-one n) (IsCharBoundary-after_ascii text n u (omega arith)
-    (plain_parts (get_or text n 0) (passes_at is_plain n text (omega arith) h)).small)
+cut_after_plain n text h k e l = grind (arith, IsCharBoundary-after_ascii, plain_parts, passes_at)
 
 -- the reader after a run
 pub advanced_run : (line at c : ℕ) (w : List ℕ) (more : List Spot) (last : Spot)
     → advanced_of (length (c ∷ w)) (run line at (c ∷ w) ++ more) last
     ≡ record { rest = more; last = record { c = get_or (c ∷ w) (length w) 0; line = line; begin = at + length w; end = at + length w + 1 } }
-advanced_run line at c [] more last =
-    let n : at ≡ at + 0 = omega arith in
-    advanced_zero more (record { c = c; line = line; begin = at; end = at + 1 })
-    ∙ ap (λ k. record { rest = more; last = record { c = c; line = line; begin = k; end = k + 1 } }) n
+advanced_run line at c [] more last = grind (arith, advanced_zero)
 advanced_run line at c (d ∷ w) more last =
     let n : at + 1 + length w ≡ at + suc (length w) = omega arith in
     advanced_run line (at + 1) d w more (record { c = c; line = line; begin = at; end = at + 1 })
@@ -96,13 +90,7 @@ get_or-drop (suc n) (x ∷ xs) = get_or-drop n xs
 
 -- the first of them
 pub front_of : (n : ℕ) (text : List ℕ) → 0 < n → 0 < length text → take n text ≡ get_or text 0 0 ∷ drop 1 (take n text)
-front_of zero text h l = absurd (omega arith)
-front_of (suc n) [] h l = absurd (omega arith)
-front_of (suc n) (c ∷ text) h l = ap (λ t. c ∷ t) (sym (drop_zero (take n text)))
-  where
-    drop_zero : (xs : List ℕ) → drop 0 xs ≡ xs
-    drop_zero [] = refl
-    drop_zero (x ∷ xs) = refl
+front_of n text h k = grind arith
 
 -- the front of a plain text
 pub front_plain : (n : ℕ) (text : List ℕ) → IsUtf8 text → n ≤ length text → list_all is_plain (take n text) ≡ true → IsFront text n
@@ -136,26 +124,11 @@ after_run n line at (c ∷ text) last l f =
 pub after_front : (n line at : ℕ) (text : List ℕ) (last : Spot) → 0 < n → n ≤ length text → IsFront text n
     → advanced_of n (spots_from line at text) last
     ≡ record { rest = spots_from line (at + n) (drop n text); last = record { c = get_or text (n - 1) 0; line = line; begin = at + n - 1; end = at + n } }
-after_front zero line at text last some le f = absurd (omega arith)
-after_front (suc n) line at text last some le f =
-    let a : suc n - 1 ≡ n = omega arith in
-    let b : at + suc n - 1 ≡ at + n = omega arith in
-    let d : at + suc n ≡ at + n + 1 = omega arith in
-    after_run n line at text last (omega arith) f
-    ∙ rw (a, b) (ap (λ k. record {
-      rest = spots_from line (at + suc n) (drop (suc n) text);
-      last = record { c = get_or text n 0; line = line; begin = at + n; end = k };
-    }) (sym d))
+after_front n line at text last h k e = grind (arith, after_run)
 
 -- a range from the start is a front
 pub range_front : (n : ℕ) (text : List ℕ) → slice_range text 0 n ≡ take n text
-range_front n text =
-    let a : n - 0 ≡ n = omega arith in
-    rw a (ap (take n) (drop_none text))
-  where
-    drop_none : (xs : List ℕ) → drop 0 xs ≡ xs
-    drop_none [] = refl
-    drop_none (x ∷ xs) = refl
+range_front n text = grind arith
 
 -- one plain character
 

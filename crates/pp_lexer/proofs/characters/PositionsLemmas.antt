@@ -23,12 +23,7 @@ after_newline p seen e =
     λ i. (line i, column i)
 
 after_other : (p : Placed) (seen : List Placed) → is_newline p ≡ false → (count_by is_newline seen + 1, line_length seen + 1 + 1) ≡ after (p ∷ seen)
-after_other p seen e =
-    let none : ◌≡◌ {A = ℕ} (cond (is_newline p) 1 0) 0 = ap (λ b. cond b 1 0) e in
-    let line : count_by is_newline seen + 1 ≡ count_by is_newline (p ∷ seen) + 1 =
-    omega (arith, none, sum_by-cons (λ x. cond (is_newline x) 1 0) p seen) in
-    let column : line_length seen + 1 + 1 ≡ line_length (p ∷ seen) + 1 = rw e (omega arith) in
-    λ i. (line i, column i)
+after_other p seen e = grind (arith, count_by, sum_by-cons)
 
 -- one character more, if the characters after it lead to the line and the column of all
 leads_within : (offset : ℕ) (p : Placed) (ps seen : List Placed) (b : Bool) → is_newline p ≡ b

@@ -49,21 +49,7 @@ block_marks total p q ps e f = record {
 
 -- what stands first: the character itself, or a mark
 pub front : (total : ℕ) (p : Placed) (ps : List Placed) → (replaced total (p ∷ ps) ≡ p ∷ replaced total ps) ⊎ Marks total p ps
-front total p [] = inl (replaced-plain total p [] refl)
-front total p (q ∷ ps) = by_slash (is_slash p) refl
-  where
-    by_star : (b : Bool) → is_star q ≡ b → is_slash p ≡ true → is_slash q ≡ false → (replaced total (p ∷ q ∷ ps) ≡ p ∷ replaced total (q ∷ ps))
-        ⊎ Marks total p (q ∷ ps)
-    by_star true s e f = inr (block_marks total p q ps e s)
-    by_star false s e f = inl (replaced-plain total p (q ∷ ps) (lone_slash p (q ∷ ps) f s))
-
-    by_second : (b : Bool) → is_slash q ≡ b → is_slash p ≡ true → (replaced total (p ∷ q ∷ ps) ≡ p ∷ replaced total (q ∷ ps)) ⊎ Marks total p (q ∷ ps)
-    by_second true f e = inr (line_marks total p q ps e f)
-    by_second false f e = by_star (is_star q) refl e f
-
-    by_slash : (b : Bool) → is_slash p ≡ b → (replaced total (p ∷ q ∷ ps) ≡ p ∷ replaced total (q ∷ ps)) ⊎ Marks total p (q ∷ ps)
-    by_slash true e = by_second (is_slash q) refl e
-    by_slash false e = inl (replaced-plain total p (q ∷ ps) (no_slash p (q ∷ ps) e))
+front total p ps = grind (arith, replaced-plain, block_marks, lone_slash, line_marks, no_slash)
 
 length_drop : {A : Type 0} (n : ℕ) (xs : List A) → length (drop n xs) ≤ length xs
 length_drop zero [] = omega arith

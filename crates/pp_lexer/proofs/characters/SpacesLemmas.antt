@@ -31,20 +31,13 @@ abbrev pub spaced : Flags → Flags
 spaced f = record { leading_whitespace = true; start_of_line = f.start_of_line; had_comments = f.had_comments }
 
 blanked_space : (f : Flags) (c : ℕ) → is_space c ≡ true → blanked f c ≡ spaced f
-blanked_space f c h =
-    let k : (f.had_comments || is_mark c) ≡ f.had_comments = ap (λ b. f.had_comments || b) (space_no_mark c h) ∙ or-false f.had_comments in
-    ap (λ b. record { leading_whitespace = true; start_of_line = f.start_of_line; had_comments = b }) k
+blanked_space f c h = grind (arith, space_no_mark, or-false)
 
 -- the items to come, and whether comments will have been passed
 pub spaces_seen : (f : Flags) (line at c : ℕ) (w : List ℕ) (more : List Spot) (last : Spot) → list_all is_space (c ∷ w) ≡ true
     → seen_from f last (segments (run line at (c ∷ w) ++ more)) ≡ seen_from (spaced f)
     (record { c = get_or (c ∷ w) (length w) 0; line = line; begin = at + length w; end = at + length w + 1 }) (segments more)
-spaces_seen f line at c [] more last h =
-    let b = and_parts (is_space c) true h in
-    let n : at ≡ at + 0 = omega arith in
-    blank_seen f last (record { c = c; line = line; begin = at; end = at + 1 }) more (space_blank c b.0)
-    ∙ ap (λ g. seen_from g (record { c = c; line = line; begin = at; end = at + 1 }) (segments more)) (blanked_space f c b.0)
-    ∙ ap (λ k. seen_from (spaced f) (record { c = c; line = line; begin = k; end = k + 1 }) (segments more)) n
+spaces_seen f line at c [] more last h = grind (arith, and_parts, blank_seen, space_blank, blanked_space)
 spaces_seen f line at c (d ∷ w) more last h =
     let b = and_parts (is_space c) (list_all is_space (d ∷ w)) h in
     let n : at + 1 + length w ≡ at + suc (length w) = omega arith in
@@ -57,12 +50,7 @@ spaces_seen f line at c (d ∷ w) more last h =
 pub spaces_places : (f : Flags) (line at c : ℕ) (w : List ℕ) (more : List Spot) (last : Spot) → list_all is_space (c ∷ w) ≡ true
     → places_from f last (segments (run line at (c ∷ w) ++ more)) ≡ places_from (spaced f)
     (record { c = get_or (c ∷ w) (length w) 0; line = line; begin = at + length w; end = at + length w + 1 }) (segments more)
-spaces_places f line at c [] more last h =
-    let b = and_parts (is_space c) true h in
-    let n : at ≡ at + 0 = omega arith in
-    blank_places f last (record { c = c; line = line; begin = at; end = at + 1 }) more (space_blank c b.0)
-    ∙ ap (λ g. places_from g (record { c = c; line = line; begin = at; end = at + 1 }) (segments more)) (blanked_space f c b.0)
-    ∙ ap (λ k. places_from (spaced f) (record { c = c; line = line; begin = k; end = k + 1 }) (segments more)) n
+spaces_places f line at c [] more last h = grind (arith, and_parts, blank_places, space_blank, blanked_space)
 spaces_places f line at c (d ∷ w) more last h =
     let b = and_parts (is_space c) (list_all is_space (d ∷ w)) h in
     let n : at + 1 + length w ≡ at + suc (length w) = omega arith in

@@ -27,11 +27,7 @@ pub record Straight (c : ℕ) : Type 0 where
   pub no_backslash : (c == 92) ≡ false
 
 pub straight_parts : (c : ℕ) → is_straight c ≡ true → Straight c
-straight_parts c h =
-    let a = and_parts (nat_lt c 128) _ h in
-    let b = and_parts (not (c == 10)) _ a.1 in
-    let d = and_parts (not (c == 13)) _ b.1 in
-    record { small = below c 128 a.0; no_feed = negated _ b.0; no_return = negated _ d.0; no_backslash = negated _ d.1 }
+straight_parts c h = grind (arith, and_parts, below, negated)
 
 abbrev pub reader : List Placed → ℕ → ℕ → Cursor
 reader rest offset total = record { rest = rest; offset = offset; total = total }
@@ -47,18 +43,7 @@ joined_char : (line at c : ℕ) (text : List ℕ) → Kept c → IsUtf8 (encode 
     → joined (left line at (encode c ++ text))
     ≡ reader (record { char = c; line = line; end = at + len_utf8 c } ∷ continued (placed_from line (at + len_utf8 c) (pieces (chars text)))) at
     (at + len_utf8 c + length text)
-joined_char line at c text p u =
-    let whole = encode c ++ text in
-    let here : Placed = record { char = c; line = line; end = at + len_utf8 c } in
-    let more = placed_from line (at + len_utf8 c) (pieces (chars text)) in
-    let placed : placed_from line at (pieces (chars whole)) ≡ here ∷ more =
-    ap (λ cs. placed_from line at (pieces cs)) (chars_past_char whole text c u refl)
-    ∙ ap (placed_from line at) (pieces_plain c (chars text) p.no_feed p.no_return)
-    ∙ rw p.no_feed refl in
-    let total : at + length whole ≡ at + len_utf8 c + length text = omega (arith, length-append (encode c) text, length-encode c) in
-    ap (λ ps. reader (continued ps) at (at + length whole)) placed
-    ∙ ap (λ ps. reader ps at (at + length whole)) (continued-plain here more p.no_backslash)
-    ∙ ap (λ n. reader (here ∷ continued more) at n) total
+joined_char line at c text p u = grind (arith, encode, chars_past_char, pieces_plain, length-append, length-encode, continued-plain)
 
 kept : (c : ℕ) → Straight c → Kept c
 kept c p = record { no_feed = p.no_feed; no_return = p.no_return; no_backslash = p.no_backslash }
@@ -82,9 +67,7 @@ module _ (passes : ℕ → Bool) (passes_kept : (c : ℕ) → passes c ≡ true 
     → Before (reader (p ∷ ps) offset total) d) where
   before_run : (line at : ℕ) (cs text : List ℕ) → list_all passes cs ≡ true → IsUtf8 (encodes cs ++ text)
       → Before (joined (left line at (encodes cs ++ text))) (joined (left line (at + length (encodes cs)) text))
-  before_run line at [] text h u =
-      let n : at ≡ at + 0 = omega arith in
-      subst (λ k. Before (joined (left line at text)) (joined (left line k text))) n (same (joined (left line at text)))
+  before_run line at [] text h u = grind arith
   before_run line at (c ∷ cs) text h u =
       let b = and_parts (passes c) (list_all passes cs) h in
       let more = encodes cs ++ text in
@@ -121,10 +104,7 @@ straight_ascii (c ∷ w) h =
     IsAscii-cons c w (straight_parts c b.0).small (straight_ascii w b.1)
 
 pub cut_after_straight : (n : ℕ) (text : List ℕ) → IsUtf8 text → 0 < n → n ≤ length text → list_all is_straight (take n text) ≡ true → IsCharBoundary text n
-cut_after_straight zero text u some le h = absurd (omega arith)
-cut_after_straight (suc n) text u some le h =
-    subst (IsCharBoundary text) (add-one n) (IsCharBoundary-after_ascii text n u (omega arith)
-    (straight_parts (get_or text n 0) (passes_at is_straight n text (omega arith) h)).small)
+cut_after_straight n text h k e l = grind (arith, IsCharBoundary-after_ascii, straight_parts, passes_at)
 
 past_step : (p : Placed) (ps : List Placed) (offset total : ℕ) → is_newline p ≡ false → past_line (reader (p ∷ ps) offset total) ≡ past_line (reader ps p.end total)
 past_step p ps offset total h = rw h refl
@@ -144,11 +124,7 @@ pub record Starless (c : ℕ) : Type 0 where
   pub no_star : (c == 42) ≡ false
 
 pub starless_parts : (c : ℕ) → is_starless c ≡ true → Starless c
-starless_parts c h =
-    let a = and_parts (not (c == 10)) _ h in
-    let b = and_parts (not (c == 13)) _ a.1 in
-    let d = and_parts (not (c == 92)) _ b.1 in
-    record { kept = record { no_feed = negated _ a.0; no_return = negated _ b.0; no_backslash = negated _ d.0 }; no_star = negated _ d.1 }
+starless_parts c h = grind (arith, and_parts, negated)
 
 starless_kept : (c : ℕ) → is_starless c ≡ true → Kept c
 starless_kept c h = (starless_parts c h).kept
@@ -173,18 +149,7 @@ starless_chars (c ∷ cs) h =
 
 -- such bytes end at the end of a character
 pub cut_after_starless : (n : ℕ) (text : List ℕ) → n ≤ length text → (n < length text → is_starless (get_or text n 0) ≡ false) → IsCharBoundary text n
-cut_after_starless n text le stops =
-    elim (cases_lt n (length text)) [
-      | inl more ↦ IsCharBoundary-before_ascii text n more (small (stops more))
-      | inr none ↦ subst (IsCharBoundary text) (omega arith) (IsCharBoundary-end text)
-    ]
-  where
-    small : is_starless (get_or text n 0) ≡ false → get_or text n 0 < 128
-    small k =
-        elim (cases_lt (get_or text n 0) 128) [
-          | inl h ↦ h
-          | inr h ↦ absurd (true≢false (sym (large_starless (get_or text n 0) h) ∙ k))
-        ]
+cut_after_starless n text le stops = grind (arith, cases_lt, IsCharBoundary-before_ascii, IsCharBoundary-end, true≢false, large_starless)
 
 no_star_step : (p : Placed) (ps : List Placed) (offset total : ℕ) → is_star p ≡ false → past_block (reader (p ∷ ps) offset total) ≡ past_block (reader ps p.end total)
 no_star_step p ps offset total h = block_goes_on total offset p ps ∙ rw h refl

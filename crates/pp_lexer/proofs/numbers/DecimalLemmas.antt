@@ -56,39 +56,20 @@ no_marks hex [] h = refl
 no_marks hex (c ∷ w) h = let b = and_parts (is_decimal c) (list_all is_decimal w) h in rw (no_mark hex c b.0) (no_marks hex w b.1)
 
 no_x : (w : List ℕ) → list_all is_decimal w ≡ true → begins_with is_x (after_first w) ≡ false
-no_x [] h = refl
-no_x (c ∷ []) h = refl
-no_x (c ∷ d ∷ w) h =
-    let b = and_parts (is_decimal c) (is_decimal d && list_all is_decimal w) h in
-    either_apart 120 88 10 refl refl d (and_parts (is_decimal d) (list_all is_decimal w) b.1).0
+no_x w h = grind (arith, and_parts, either_apart)
 
 no_hex : (w : List ℕ) → list_all is_decimal w ≡ true → begins_hex w ≡ false
 no_hex w h = and_right (begins_with is_zero w) (begins_with is_x (after_first w)) (no_x w h)
 
 digits_number : (w : List ℕ) → 0 < length w → list_all is_decimal w ≡ true → is_number w ≡ true
-digits_number [] l h = absurd (omega arith)
-digits_number (c ∷ w) l h =
-    let b = and_parts (is_decimal c) (list_all is_decimal w) h in
-    decimal_number (c ∷ w) (both (is_decimal c) (many is_decimal decimal_tail w) b.0 (all_many is_decimal decimal_tail refl w b.1))
+digits_number w h k = grind (arith, and_parts, decimal_number, both, all_many)
 
 module _ (n : ℕ) (w : List ℕ) (t : IsDecimalText n w) where
   digits_whole : whole 10 w ≡ Some n
-  digits_whole = by w t.some t.digits t.value
-    where
-      by : (w : List ℕ) → 0 < length w → list_all is_decimal w ≡ true → digits_value_after 10 0 w ≡ n → whole 10 w ≡ Some n
-      by [] l d v = absurd (omega arith)
-      by (c ∷ w) l d v =
-          let s : nat_lt (digits_value_after 10 0 (c ∷ w)) (2 ^ 64) ≡ true = lt-ltb _ _ (omega (arith, v, t.small)) in
-          ap (λ b. if b then Some (digits_value_after 10 0 (c ∷ w)) else None) (both (list_all is_decimal (c ∷ w)) _ d s) ∙ ap Some v
+  digits_whole = grind (arith, lt-ltb, both)
 
   pub digits_value : (signed : Bool) → integer_value signed w ≡ Ok (Integer (record { value = n; signed = signed; width = pos 32 }))
-  digits_value signed = by (begins_hex w) (begins_octal w) (no_hex w t.digits) t.no_octal
-    where
-      by : (x o : Bool) → x ≡ false → o ≡ false → integer_of signed (whole (if x then 16 else if o then 8 else 10) (if x then drop 2 w else w)) ≡ Ok
-          (Integer (record { value = n; signed = signed; width = pos 32 }))
-      by true o e f = cc
-      by false true e f = cc
-      by false false e f = ap (integer_of signed) digits_whole
+  digits_value signed = grind (arith, no_hex, digits_whole)
 
   pub digits_outcome : (cs : List ℕ) → number_outcome w cs ≡ integer_outcome w cs
   digits_outcome cs = rw (no_marks (begins_hex w) w t.digits) refl
@@ -115,16 +96,4 @@ unsigned_integer n cs h b =
 -- an integer is read back with its mark
 pub spelled_integer : (i : IntegerLiteral) (cs : List ℕ) → i.value < 2 ^ 64 → i.width ≡ pos 32 → IsBreak cs
     → word_at (integer_literal i ++ cs) ≡ record { value = Ok (Integer i); taken = length (integer_literal i) }
-spelled_integer i cs h e b = by i.signed refl
-  where
-    by : (signed : Bool) → i.signed ≡ signed → word_at (integer_literal i ++ cs) ≡ record { value = Ok (Integer i); taken = length (integer_literal i) }
-    by true s =
-        let same : ◌≡◌ {A = IntegerLiteral} (record { value = i.value; signed = true; width = pos 32 }) i =
-        λ k. record { value = i.value; signed = sym s k; width = sym e k } in
-        subst (λ (x : IntegerLiteral). word_at (integer_literal x ++ cs) ≡ record { value = Ok (Integer x); taken = length (integer_literal x) }) same
-        (rw (append-nil (decimal i.value)) (signed_integer i.value cs h b))
-    by false s =
-        let same : ◌≡◌ {A = IntegerLiteral} (record { value = i.value; signed = false; width = pos 32 }) i =
-        λ k. record { value = i.value; signed = sym s k; width = sym e k } in
-        subst (λ (x : IntegerLiteral). word_at (integer_literal x ++ cs) ≡ record { value = Ok (Integer x); taken = length (integer_literal x) }) same
-        (rw (append_assoc (decimal i.value) (117 ∷ []) cs, length-append (decimal i.value) (117 ∷ [])) (unsigned_integer i.value cs h b))
+spelled_integer i cs h e b = grind (arith, append-nil, signed_integer, append_assoc, length-append, unsigned_integer)

@@ -33,11 +33,7 @@ one_many P (c ∷ w) h = or_right (P (c ∷ w)) (is_decimal c && many is_decimal
 
 -- an exponent or a point is no digit
 tail_no_digit : (c : ℕ) (w : List ℕ) → float_tail (c ∷ w) ≡ true → is_decimal c ≡ false
-tail_no_digit c w h = by (is_decimal c) refl
-  where
-    by : (b : Bool) → is_decimal c ≡ b → is_decimal c ≡ false
-    by true d = absurd (false≢true (sym (tail_apart c w d) ∙ h))
-    by false d = d
+tail_no_digit c w h = grind (arith, false≢true, tail_apart)
 
 module _ (cs : List ℕ) (e : NoMore cs) where
   digits_full : (w : List ℕ) → digits w ≡ true → longest digits (w ++ cs) ≡ length w
@@ -77,17 +73,10 @@ module _ (cs : List ℕ) (e : NoMore cs) where
       ]
 
   point_full : (w : List ℕ) → one is_point (many is_decimal float_exponent) w ≡ true → longest decimal_tail (w ++ cs) ≡ length w
-  point_full [] h = absurd (false≢true h)
-  point_full (c ∷ w) h =
-      let b = and_parts (is_point c) (many is_decimal float_exponent w) h in
-      decimal_tail_len (c ∷ (w ++ cs)) b.0 ∙ ap (λ k. 1 + k) (fraction_full w b.1) ∙ omega arith
+  point_full w h = grind (arith, false≢true, and_parts, decimal_tail_len, fraction_full)
 
   tail_full : (w : List ℕ) → float_tail w ≡ true → longest decimal_tail (w ++ cs) ≡ length w
-  tail_full w h =
-      elim (or_cases (float_exponent w) (one is_point (many is_decimal float_exponent) w) h) [
-        | inl x ↦ decimal_tail_none (w ++ cs) (exponent_begins is_point refl w cs x e.point) ∙ exponent_full w x
-        | inr y ↦ point_full w y
-      ]
+  tail_full w h = grind (arith, or_cases, decimal_tail_none, exponent_begins, exponent_full, point_full)
 
   rest_full : (w : List ℕ) → many is_decimal float_tail w ≡ true → longest (many is_decimal decimal_tail) (w ++ cs) ≡ length w
   rest_full [] h = digits_len cs e.decimal [] refl ∙ ap (λ k. 0 + k) (decimal_tail_none cs e.point ∙ exponent_none cs e.mark)
@@ -128,16 +117,4 @@ module _ (cs : List ℕ) (e : NoMore cs) where
           ∙ rest_full (c ∷ w) (or_right (float_tail (c ∷ w)) (is_decimal c && many is_decimal float_tail w) (both (is_decimal c) _ d h))
 
   pub float_full : (w : List ℕ) → is_float_text w ≡ true → longest is_number (w ++ cs) ≡ length w
-  float_full [] h = absurd (false≢true h)
-  float_full (c ∷ w) h =
-      elim (or_cases (is_decimal c && many is_decimal float_tail w) (is_point c && one is_decimal (many is_decimal float_exponent) w) h) [
-        | inl x ↦
-            let b = and_parts (is_decimal c) (many is_decimal float_tail w) x in
-            digit_full c w b.0 b.1
-        | inr y ↦
-            let b = and_parts (is_point c) (one is_decimal (many is_decimal float_exponent) w) y in
-            let begins : begins_number (c ∷ (w ++ cs)) ≡ true =
-            or_right (is_decimal c) (is_point c && begins_with is_decimal (w ++ cs))
-            (both (is_point c) _ b.0 (one_begins (many is_decimal float_exponent) w cs b.1)) in
-            point_number_len (c ∷ (w ++ cs)) begins b.0 ∙ ap (λ k. 1 + k) (fraction_full w (one_many float_exponent w b.1)) ∙ omega arith
-      ]
+  float_full w h = grind (arith, false≢true, or_cases, and_parts, digit_full, or_right, both, one_begins, point_number_len, fraction_full, one_many)

@@ -11,22 +11,10 @@ use Rattle.pp_lexer.proofs.words.LongestLemmas.{within_same, longest_same, longe
 
 -- neither of the two characters is a digit
 pub either_apart : (a b radix : ℕ) → is_digit a radix ≡ false → is_digit b radix ≡ false → (c : ℕ) → is_digit c radix ≡ true → ((c == a) || (c == b)) ≡ false
-either_apart a b radix na nb c h = by ((c == a) || (c == b)) refl
-  where
-    by : (t : Bool) → ((c == a) || (c == b)) ≡ t → ((c == a) || (c == b)) ≡ false
-    by false e = e
-    by true e =
-        elim (or_cases (c == a) (c == b) e) [
-          | inl x ↦ let k : c ≡ a = eqb-true c a x in absurd (false≢true (sym na ∙ ap (λ n. is_digit n radix) (sym k) ∙ h))
-          | inr x ↦ let k : c ≡ b = eqb-true c b x in absurd (false≢true (sym nb ∙ ap (λ n. is_digit n radix) (sym k) ∙ h))
-        ]
+either_apart a b radix na nb c h = grind (arith, or_cases, eqb-true, false≢true)
 
 one_apart : (a radix : ℕ) → is_digit a radix ≡ false → (c : ℕ) → is_digit c radix ≡ true → (c == a) ≡ false
-one_apart a radix na c h = by (c == a) refl
-  where
-    by : (t : Bool) → (c == a) ≡ t → (c == a) ≡ false
-    by false e = e
-    by true e = let k : c ≡ a = eqb-true c a e in absurd (false≢true (sym na ∙ ap (λ n. is_digit n radix) (sym k) ∙ h))
+one_apart a radix na c h = grind (arith, eqb-true, false≢true)
 
 pub small_e_apart : (c : ℕ) → is_decimal c ≡ true → (c == 101) ≡ false
 small_e_apart = one_apart 101 10 refl
@@ -41,11 +29,7 @@ pub hex_point_apart : (c : ℕ) → is_hex c ≡ true → is_point c ≡ false
 hex_point_apart = one_apart 46 16 refl
 
 zero_digit : (c : ℕ) → is_decimal c ≡ false → is_zero c ≡ false
-zero_digit c h = by (c == 48) refl
-  where
-    by : (t : Bool) → (c == 48) ≡ t → (c == 48) ≡ false
-    by false e = e
-    by true e = let k : c ≡ 48 = eqb-true c 48 e in absurd (false≢true (sym h ∙ ap is_decimal k))
+zero_digit c h = grind (arith, eqb-true, false≢true)
 
 pub exponent_apart : (c : ℕ) (w : List ℕ) → is_decimal c ≡ true → exponent (c ∷ w) ≡ false
 exponent_apart c w h = rw (e_apart c h) refl
@@ -57,11 +41,7 @@ pub decimal_tail_apart : (c : ℕ) (w : List ℕ) → is_decimal c ≡ true → 
 decimal_tail_apart c w h = rw (e_apart c h, point_apart c h) refl
 
 pub sign_apart : (c : ℕ) (w : List ℕ) → is_sign c ≡ true → digits (c ∷ w) ≡ false
-sign_apart c w h =
-    elim (or_cases (c == 43) (c == 45) h) [
-      | inl x ↦ rw (eqb-true c 43 x) refl
-      | inr x ↦ rw (eqb-true c 45 x) refl
-    ]
+sign_apart c w h = grind (arith, or_cases, eqb-true)
 
 pub fraction_len : (t : List ℕ) → longest fraction t ≡ front_len is_decimal t + longest exponent (drop (front_len is_decimal t) t)
 fraction_len = longest-many is_decimal exponent refl exponent_apart
@@ -118,12 +98,7 @@ or_false true = refl
 or_false false = refl
 
 pub decimal_tail_len : (t : List ℕ) → begins_with is_point t ≡ true → longest decimal_tail t ≡ 1 + longest fraction (drop 1 t)
-decimal_tail_len [] h = cc
-decimal_tail_len (c ∷ t) h =
-    let k : c ≡ 46 = eqb-true c 46 h in
-    let s : longest decimal_tail (46 ∷ t) ≡ suc (longest fraction t) = longest_step decimal_tail fraction 46 t refl (λ w. refl) in
-    let one : suc (longest fraction t) ≡ 1 + longest fraction (drop 1 (c ∷ t)) = omega arith in
-    ap (λ n. longest decimal_tail (n ∷ t)) k ∙ s ∙ one
+decimal_tail_len t h = grind (arith, eqb-true, longest_step)
 
 pub decimal_tail_none : (t : List ℕ) → begins_with is_point t ≡ false → longest decimal_tail t ≡ longest exponent t
 unfolding longest
@@ -151,9 +126,7 @@ point_number_len (c ∷ d ∷ t) b h =
 
 decimal_digit_number : (c : ℕ) (w : List ℕ) → is_decimal c ≡ true → is_zero c ≡ false → is_number (c ∷ w) ≡ many is_decimal decimal_tail (c ∷ w)
 unfolding longest is_number
-decimal_digit_number c w d z =
-    let left : is_number (c ∷ w) ≡ many is_decimal decimal_tail w = rw (z, d, point_apart c d) (or_false (many is_decimal decimal_tail w)) in
-    left ∙ sym (many_pass is_decimal decimal_tail refl decimal_tail_apart c w d)
+decimal_digit_number c w d z = grind (arith, point_apart, or_false, many_pass, decimal_tail_apart)
 
 -- a digit other than `0`
 pub digit_number_len : (t : List ℕ) → begins_number t ≡ true → begins_with is_point t ≡ false → begins_with is_zero t ≡ false
@@ -197,12 +170,7 @@ hex_front c w x =
     ]
 
 pub after_zero_hex : (t : List ℕ) → begins_with is_x t ≡ true → longest after_zero t ≡ 1 + longest (many is_hex hex_tail) (drop 1 t)
-after_zero_hex [] x = cc
-after_zero_hex (c ∷ t) x =
-    let s : longest after_zero (c ∷ t) ≡ suc (longest (many is_hex hex_tail) t) =
-    longest_step after_zero (many is_hex hex_tail) c t (hex_front c [] x) (λ w. hex_front c w x) in
-    let one : suc (longest (many is_hex hex_tail) t) ≡ 1 + longest (many is_hex hex_tail) (drop 1 (c ∷ t)) = omega arith in
-    s ∙ one
+after_zero_hex t h = grind (arith, longest_step, hex_front)
 
 -- no number begins here
 pub no_number_front : (c : ℕ) (t : List ℕ) → begins_number (c ∷ t) ≡ false → (k : ℕ) → is_number (c ∷ take k t) ≡ false

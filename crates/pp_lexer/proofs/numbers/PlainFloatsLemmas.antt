@@ -30,9 +30,7 @@ use Rattle.pp_lexer.proofs.words.WordsLemmas.{no_number_here}
 -- A float's text, with what stands after it
 
 float_ends : (f : ℕ) (cs : List ℕ) → is_f f ≡ true → NoMore (f ∷ cs)
-float_ends f cs h =
-    either_letter (λ c. NoMore (c ∷ cs)) f 102 70 h (record { decimal = refl; x = refl; point = refl; mark = refl })
-    (record { decimal = refl; x = refl; point = refl; mark = refl })
+float_ends f cs h = grind (arith, either_letter)
 
 float_letter : (f : ℕ) (cs : List ℕ) → is_f f ≡ true → width_refusal is_h (f ∷ cs) ≡ None
 float_letter f cs h = either_letter (λ c. width_refusal is_h (c ∷ cs) ≡ None) f 102 70 h refl refl
@@ -47,9 +45,7 @@ float_begins w cs h = by (begins_number (w ++ cs)) refl
 
 module _ (w : List ℕ) (text : is_float_text w ≡ true) (float : is_float w ≡ true) where
   float_word : (cs : List ℕ) → NoMore cs → word_at (w ++ cs) ≡ float_outcome w cs
-  float_word cs e =
-      let here : number_outcome w cs ≡ float_outcome w cs = rw float refl in
-      number_of w cs (float_begins w cs text) (float_full cs e w text) ∙ here
+  float_word cs e = grind (arith, number_of, float_begins, float_full)
 
   module _ (cs : List ℕ) (h : begins_with continues_number cs ≡ false) where
     float_at : word_at (w ++ cs) ≡ record { value = Ok (Float (record { text = w; width = pos 32 })); taken = length w }
@@ -89,14 +85,10 @@ sign_no_blank : Implies is_sign no_blank
 sign_no_blank c h = either_letter (λ c. no_blank c ≡ true) c 43 45 h refl refl
 
 float_some : (n : ℕ) (text : List ℕ) → is_float_text (take n text) ≡ true → 0 < n
-float_some zero [] h = absurd (false≢true h)
-float_some zero (c ∷ text) h = absurd (false≢true h)
-float_some (suc n) text h = omega arith
+float_some n text h = grind (arith, false≢true)
 
 first_passes : (p : ℕ → Bool) (n : ℕ) (text : List ℕ) → 0 < n → n ≤ length text → list_all p (take n text) ≡ true → p (get_or text 0 0) ≡ true
-first_passes p zero text some le h = absurd (omega arith)
-first_passes p (suc n) [] some le h = absurd (omega arith)
-first_passes p (suc n) (c ∷ text) some le h = (and_parts (p c) (list_all p (take n text)) h).0
+first_passes p n text h k e = grind (arith, and_parts)
 
 without_more : (c : ℕ) (w : List ℕ) → without_suffix (w ++ c ∷ []) ≡ w
 without_more c w =
@@ -145,26 +137,17 @@ module _ (text : List ℕ) (n : ℕ) (u : IsUtf8 text) (le : n ≤ length text) 
 -- Exponents by their bytes
 
 digits_some : (w : List ℕ) → list_all is_decimal w ≡ true → 0 < length w → one is_decimal digits w ≡ true
-digits_some [] h some = absurd (omega arith)
-digits_some (c ∷ w) h some =
-    let b = and_parts (is_decimal c) (list_all is_decimal w) h in
-    both (is_decimal c) (digits w) b.0 (all_many is_decimal nothing refl w b.1)
+digits_some w h k = grind (arith, and_parts, both, all_many)
 
 pub unsigned_power : (n : ℕ) (text : List ℕ) → n ≤ length text → list_all is_decimal (take n text) ≡ true → 0 < n → float_power (take n text) ≡ true
-unsigned_power n text le h some =
-    or_left (one is_decimal digits (take n text)) (one is_sign (one is_decimal digits) (take n text))
-    (digits_some (take n text) h (omega (arith, length-take-le n text le)))
+unsigned_power n text le h some = grind (arith, or_left, digits_some, length-take-le)
 
 take_after : (n c : ℕ) (text : List ℕ) → take (n + 1) (c ∷ text) ≡ c ∷ take n text
 take_after n c text = let k : n + 1 ≡ suc n = omega arith in ap (λ m. take m (c ∷ text)) k
 
 pub signed_power : (n : ℕ) (text : List ℕ) → 0 < length text → is_sign (get_or text 0 0) ≡ true → n ≤ length (drop 1 text)
     → list_all is_decimal (take n (drop 1 text)) ≡ true → 0 < n → float_power (take (n + 1) text) ≡ true
-signed_power n [] l sign le h some = absurd (omega arith)
-signed_power n (c ∷ text) l sign le h some =
-    ap float_power (take_after n c text)
-    ∙ or_right (one is_decimal digits (c ∷ take n text)) (is_sign c && one is_decimal digits (take n text))
-    (both (is_sign c) _ sign (digits_some (take n text) h (omega (arith, length-take-le n text le))))
+signed_power n text h k e l u = grind (arith, take_after, or_right, both, digits_some, length-take-le)
 
 pub exponent_text : (n : ℕ) (text : List ℕ) → 0 < length text → get_or text 0 0 ≡ 101 → float_power (take n (drop 1 text)) ≡ true
     → float_exponent (take (n + 1) text) ≡ true
@@ -210,22 +193,7 @@ pub pointed_front : (text : List ℕ) (n m k : ℕ) → n < length text → get_
     → m ≤ length (drop (n + 1) text) → list_all is_decimal (take m (drop (n + 1) text)) ≡ true → 0 < n + m
     → float_exponent (take k (drop (n + 1 + m) text)) ≡ true → IsFloatFront text (n + 1 + m + k)
 pointed_front text n m k l point whole le fraction some exponent =
-    let v = take n text in
-    let u = take m (drop (n + 1) text) in
-    let x = take k (drop (n + 1 + m) text) in
-    let split : take (n + 1 + m + k) text ≡ v ++ 46 ∷ (u ++ x) =
-    take_parts (n + 1 + m) k text
-    ∙ ap (λ t. t ++ x) (take_parts (n + 1) m text ∙ ap (λ t. t ++ u) (take_more n text l ∙ ap (λ c. v ++ c ∷ []) point) ∙ append_assoc v (46 ∷ []) u)
-    ∙ append_assoc v (46 ∷ u) x in
-    let size_v : length v ≡ n = length-take-le n text (omega arith) in
-    let size_u : length u ≡ m = length-take-le m (drop (n + 1) text) le in
-    record {
-      text_is = ap is_float_text split
-          ∙ pointed_text v (u ++ x) whole (many_append is_decimal float_exponent u x fraction exponent)
-          (λ none. some_first u x fraction (omega arith) exponent);
-      float = ap is_float split
-          ∙ any_there (λ c. is_point c || (not (begins_hex (v ++ 46 ∷ (u ++ x))) && is_e c)) v 46 (u ++ x) refl;
-    }
+    grind (arith, take_parts, take_more, append_assoc, length-take-le, pointed_text, many_append, some_first, any_there)
 
 whole_text : (v x : List ℕ) → list_all is_decimal v ≡ true → 0 < length v → float_exponent x ≡ true → is_float_text (v ++ x) ≡ true
 whole_text [] x d some e = absurd (omega arith)
@@ -251,22 +219,9 @@ no_hex (c ∷ a ∷ v) y d some =
     and_no false = refl
 
 whole_float : (v x : List ℕ) → list_all is_decimal v ≡ true → 0 < length v → float_exponent x ≡ true → 0 < length x → is_float (v ++ x) ≡ true
-whole_float v [] d some e more = absurd (omega arith)
-whole_float v (c ∷ y) d some e more =
-    let k : c ≡ 101 = eqb-true c 101 (and_parts (c == 101) (float_power y) e).0 in
-    ap (λ c. is_float (v ++ c ∷ y)) k
-    ∙ any_there (λ c. is_point c || (not (begins_hex (v ++ 101 ∷ y)) && is_e c)) v 101 y (rw (no_hex v y d some) refl)
+whole_float v x h k e l = grind (arith, eqb-true, and_parts, any_there, no_hex)
 
 -- digits, and an exponent
 pub whole_front : (text : List ℕ) (n k : ℕ) → 0 < n → n ≤ length text → list_all is_decimal (take n text) ≡ true → 0 < k → k ≤ length (drop n text)
     → float_exponent (take k (drop n text)) ≡ true → IsFloatFront text (n + k)
-whole_front text n k some le whole more within exponent =
-    let v = take n text in
-    let x = take k (drop n text) in
-    let split : take (n + k) text ≡ v ++ x = take_parts n k text in
-    let size_v : 0 < length v = omega (arith, length-take-le n text le) in
-    let size_x : 0 < length x = omega (arith, length-take-le k (drop n text) within) in
-    record {
-      text_is = ap is_float_text split ∙ whole_text v x whole size_v exponent;
-      float = ap is_float split ∙ whole_float v x whole size_v exponent size_x;
-    }
+whole_front text n k some le whole more within exponent = grind (arith, take_parts, length-take-le, whole_text, whole_float)

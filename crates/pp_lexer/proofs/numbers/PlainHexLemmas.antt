@@ -71,20 +71,11 @@ marks true x w e l h = either_letter (λ c. list_any (is_float_mark true) (48 �
 
 -- the digits are those of the base
 hex_whole : (n : ℕ) (w : List ℕ) → n < 2 ^ 64 → 0 < length w → list_all is_hex w ≡ true → digits_value_after 16 0 w ≡ n → whole 16 w ≡ Some n
-hex_whole n [] s l d v = absurd (omega arith)
-hex_whole n (c ∷ w) s l d v =
-    let small : nat_lt (digits_value_after 16 0 (c ∷ w)) (2 ^ 64) ≡ true = lt-ltb _ _ (omega (arith, v, s)) in
-    ap (λ b. if b then Some (digits_value_after 16 0 (c ∷ w)) else None) (both (list_all is_hex (c ∷ w)) _ d small) ∙ ap Some v
+hex_whole n w h k e l = grind (arith, lt-ltb, both)
 
 hex_integer : (n : ℕ) (u w : List ℕ) (signed : Bool) → begins_hex u ≡ true → drop 2 u ≡ w → whole 16 w ≡ Some n
     → integer_value signed u ≡ Ok (Integer (record { value = n; signed = signed; width = pos 32 }))
-hex_integer n u w signed h d e = by (begins_hex u) h
-  where
-    by : (b : Bool) → b ≡ true
-        → integer_of signed (whole (if b then 16 else if begins_octal u then 8 else 10) (if b then drop 2 u else u)) ≡ Ok
-        (Integer (record { value = n; signed = signed; width = pos 32 }))
-    by true k = ap (integer_of signed) (ap (whole 16) d ∙ e)
-    by false k = cc
+hex_integer n u w signed h d e = grind arith
 
 -- a spelling that is read as this integer
 record IsHexWord (n : ℕ) (u : List ℕ) : Type 0 where
@@ -113,11 +104,7 @@ module _ (cs : List ℕ) (h : begins_with continues_number cs ≡ false) (n : �
       ap word_at (append_assoc w (u ∷ []) cs) ∙ t.word (u ∷ cs) (hex_unsigned_ends u cs e) ∙ rw (e, no_refusal cs h is_s no_s, t.value false) refl
 
 hex_split : (n : ℕ) (text : List ℕ) → BeginsHex text → take (n + 2) text ≡ 48 ∷ get_or text 1 0 ∷ take n (drop 2 text)
-hex_split n [] b = absurd (omega (arith, b.more))
-hex_split n (c ∷ []) b = absurd (omega (arith, b.more))
-hex_split n (c ∷ d ∷ text) b =
-    let size : n + 2 ≡ suc (suc n) = omega arith in
-    ap (λ k. take k (c ∷ d ∷ text)) size ∙ ap (λ z. z ∷ d ∷ take n text) b.zero
+hex_split n text h = grind arith
 
 hex_no_blank : (text : List ℕ) → BeginsHex text → is_blank (get_or text 0 0) ≡ false
 hex_no_blank text b = ap is_blank b.zero
@@ -132,16 +119,7 @@ module _ (text : List ℕ) (n value : ℕ) (u : IsUtf8 text) (b : BeginsHex text
     (le : n ≤ length (drop 2 text)) (digits : list_all is_hex (take n (drop 2 text)) ≡ true) (small : value < 2 ^ 64)
     (e : digits_value_after 16 0 (take n (drop 2 text)) ≡ value) where
   read : IsHexWord value (take (n + 2) text)
-  read =
-      let w = take n (drop 2 text) in
-      let t : IsHexText value (get_or text 1 0) w = record {
-        small = small;
-        some = omega (arith, length-take-le n (drop 2 text) le);
-        letter = b.letter;
-        digits = digits;
-        value = e;
-      } in
-      rw (hex_split n text b) (hex_read value (get_or text 1 0) w t)
+  read = grind (arith, length-take-le, hex_split, hex_read)
 
   plain : list_all is_plain (take (n + 2) text) ≡ true
   plain = ap (list_all is_plain) (hex_split n text b) ∙ hex_all_plain (get_or text 1 0) (take n (drop 2 text)) b.letter digits

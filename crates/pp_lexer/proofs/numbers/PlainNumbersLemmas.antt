@@ -69,16 +69,10 @@ drop_front n w cs e = drop_at w cs n (sym e)
 
 module _ (cs : List ℕ) (h : begins_with is_decimal cs ≡ false) where
   pub digits_len : (w : List ℕ) → list_all is_decimal w ≡ true → longest (many is_decimal decimal_tail) (w ++ cs) ≡ length w + longest decimal_tail cs
-  digits_len w d =
-      let n : front_len is_decimal (w ++ cs) ≡ length w = front_len-append is_decimal w cs d h in
-      decimal_len (w ++ cs) ∙ ap (λ t. front_len is_decimal (w ++ cs) + longest decimal_tail t) (drop_front (front_len is_decimal (w ++ cs)) w cs n)
-      ∙ ap (λ k. k + longest decimal_tail cs) n
+  digits_len w d = grind (arith, front_len-append, decimal_len, drop_front)
 
   pub fraction_of : (w : List ℕ) → list_all is_decimal w ≡ true → begins_with is_e cs ≡ false → longest fraction (w ++ cs) ≡ length w
-  fraction_of w d e =
-      let n : front_len is_decimal (w ++ cs) ≡ length w = front_len-append is_decimal w cs d h in
-      fraction_len (w ++ cs) ∙ ap (λ t. front_len is_decimal (w ++ cs) + longest exponent t) (drop_front (front_len is_decimal (w ++ cs)) w cs n)
-      ∙ ap (λ k. front_len is_decimal (w ++ cs) + k) (exponent_none cs e) ∙ add-zero (front_len is_decimal (w ++ cs)) ∙ n
+  fraction_of w d e = grind (arith, front_len-append, fraction_len, drop_front, exponent_none, add-zero)
 
   no_x_after : (w : List ℕ) → list_all is_decimal w ≡ true → begins_with is_x cs ≡ false → begins_with is_x (w ++ cs) ≡ false
   no_x_after [] d x = x
@@ -103,9 +97,7 @@ module _ (cs : List ℕ) (h : begins_with is_decimal cs ≡ false) where
 -- a number of that many characters
 pub number_of : (w cs : List ℕ) → begins_number (w ++ cs) ≡ true → longest is_number (w ++ cs) ≡ length w → word_at (w ++ cs) ≡ number_outcome w cs
 unfolding number_at
-number_of w cs b n =
-    number_first (w ++ cs) b ∙ ap (λ k. number_outcome (take k (w ++ cs)) (drop k (w ++ cs))) n
-    ∙ ap (λ t. number_outcome t (drop (length w) (w ++ cs))) (take_seam w cs) ∙ ap (number_outcome w) (drop_front (length w) w cs refl)
+number_of w cs b n = grind (arith, number_first, take_seam, drop_front)
 
 -- Integers
 
@@ -117,35 +109,19 @@ pub record NoMore (cs : List ℕ) : Type 0 where
   pub mark : begins_with is_e cs ≡ false
 
 digits_word : (cs w : List ℕ) → NoMore cs → 0 < length w → list_all is_decimal w ≡ true → word_at (w ++ cs) ≡ number_outcome w cs
-digits_word cs [] e l d = absurd (omega arith)
-digits_word cs (c ∷ w) e l d =
-    let b = and_parts (is_decimal c) (list_all is_decimal w) d in
-    let none : longest decimal_tail cs ≡ 0 = decimal_tail_none cs e.point ∙ exponent_none cs e.mark in
-    number_of (c ∷ w) cs (ap (λ t. t || (is_point c && begins_with is_decimal (w ++ cs))) b.0)
-    (number_len cs e.decimal c w b.0 b.1 e.x ∙ ap (λ k. suc (length w) + k) none ∙ add-zero (suc (length w)))
+digits_word cs w h k e = grind (arith, and_parts, decimal_tail_none, exponent_none, number_of, number_len, add-zero)
 
 -- a suffix letter, each also as a capital
 
 pub either_letter : (P : ℕ → Type 0) (c a b : ℕ) → ((c == a) || (c == b)) ≡ true → P a → P b → P c
-either_letter P c a b h x y =
-    elim (or_cases (c == a) (c == b) h) [
-      | inl e ↦ subst P (sym (eqb-true c a e)) x
-      | inr e ↦ subst P (sym (eqb-true c b e)) y
-    ]
+either_letter P c a b h x y = grind (arith, or_cases, eqb-true)
 
 unsigned_ends : (u : ℕ) (cs : List ℕ) → is_u u ≡ true → NoMore (u ∷ cs)
-unsigned_ends u cs h =
-    either_letter (λ c. NoMore (c ∷ cs)) u 117 85 h (record { decimal = refl; x = refl; point = refl; mark = refl })
-    (record { decimal = refl; x = refl; point = refl; mark = refl })
+unsigned_ends u cs h = grind (arith, either_letter)
 
 module _ (cs : List ℕ) (h : begins_with continues_number cs ≡ false) where
   pub ended : NoMore cs
-  ended = record {
-    decimal = ends_class is_decimal no_decimal cs h;
-    x = ends_class is_x no_x cs h;
-    point = ends_class is_point no_point cs h;
-    mark = ends_class is_e no_e cs h;
-  }
+  ended = grind (arith, ends_class, no_decimal, no_x, no_point, no_e)
 
   pub no_refusal : (is_short : ℕ → Bool) → ((c : ℕ) → continues_number c ≡ false → is_short c ≡ false) → width_refusal is_short cs ≡ None
   no_refusal is_short f = rw (ends_class is_l no_l cs h, ends_class is_short f cs h) refl
@@ -176,10 +152,7 @@ length_whole n xs = take_whole (length xs - n) (drop n xs) (omega (arith, length
 
 -- the value of one digit more
 digit_is : (c : ℕ) → is_decimal c ≡ true → (48 ≤ c) × (digit_value c ≡ c - 48)
-digit_is c h =
-    let r : IsInRange 48 57 c = digit_from_value c (below (digit_value c) 10 h) in
-    let d : digit_value c + 48 ≡ c = digit_value_digit c r in
-    (omega arith, omega arith)
+digit_is c h = grind (arith, digit_from_value, below, digit_value_digit)
 
 pub all_at : (p : ℕ → Bool) (n : ℕ) (xs : List ℕ) → n < length xs → list_all p xs ≡ true → p (get_or xs n 0) ≡ true
 all_at p n [] l h = absurd (omega arith)
@@ -192,9 +165,7 @@ digit_at n xs l h = digit_is (get_or xs n 0) (all_at is_decimal n xs l h)
 pub value_more : (n value more : ℕ) (xs : List ℕ) → n < length xs → list_all is_decimal xs ≡ true → value ≡ digits_value_after 10 0 (take n xs)
     → more ≡ value * 10 + (get_or xs n 0 - 48)
     → more ≡ digits_value_after 10 0 (take (n + 1) xs)
-value_more n value more xs l h e k =
-    let d = digit_at n xs l h in
-    k ∙ ap (λ v. v * 10 + (get_or xs n 0 - 48)) e ∙ ap (λ v. digits_value_after 10 0 (take n xs) * 10 + v) (sym d.1) ∙ sym (digits_value_more 10 xs n l)
+value_more n value more xs l h e k = grind (arith, digit_at, digits_value_more)
 
 pub decimal_plain : (c : ℕ) → is_decimal c ≡ true → is_plain c ≡ true
 decimal_plain c h = grind (arith, nat_tests)
@@ -203,9 +174,7 @@ decimal_no_blank : (c : ℕ) → is_decimal c ≡ true → is_blank c ≡ false
 decimal_no_blank c h = grind (arith, nat_tests)
 
 first_decimal : (n : ℕ) (text : List ℕ) → 0 < n → n ≤ length text → list_all is_decimal (take n text) ≡ true → is_decimal (get_or text 0 0) ≡ true
-first_decimal zero text some le h = absurd (omega arith)
-first_decimal (suc n) [] some le h = absurd (omega arith)
-first_decimal (suc n) (c ∷ text) some le h = (and_parts (is_decimal c) (list_all is_decimal (take n text)) h).0
+first_decimal n text h k e = grind (arith, and_parts)
 
 -- one digit, or no zero first
 no_octal : (n : ℕ) (text : List ℕ) → n ≤ length text → (get_or text 0 0 ≡ 48 → n ≤ 1) → begins_octal (take n text) ≡ false

@@ -16,23 +16,15 @@ pub upcoming-further : (n : ℕ) (s : Scan) → upcoming (further n s) ≡ drop 
 upcoming-further n s = letters-advanced n s.reading.rest s.reading.last
 
 pub further-further : (m n : ℕ) (s : Scan) → further n (further m s) ≡ further (m + n) s
-further-further m n s =
-    let r : advanced n (advanced m s.reading) ≡ advanced (m + n) s.reading = advanced-advanced m n s.reading.rest s.reading.last in
-    let t : (s.taken + m) + n ≡ s.taken + (m + n) = omega arith in
-    λ i. record { reading = r i; taken = t i }
+further-further m n s = grind (arith, advanced-advanced)
 
 pub further-zero : (s : Scan) → further 0 s ≡ s
-further-zero s =
-    let r : advanced 0 s.reading ≡ s.reading = advanced-zero s.reading in
-    let t : s.taken + 0 ≡ s.taken = omega arith in
-    λ i. record { reading = r i; taken = t i }
+further-zero s = grind (arith, advanced-zero)
 
 -- m characters, and then the longest of a set
 pub then_takes : (P R : List ℕ → Bool) (m : ℕ) (s s1 s2 : Scan) → longest P (upcoming s) ≡ m + longest R (drop m (upcoming s)) → s1 ≡ further m s
     → Takes R s1 s2 → Takes P s s2
-then_takes P R m s s1 s2 e a b =
-    b ∙ ap (λ x. further (longest R (upcoming x)) x) a ∙ ap (λ t. further (longest R t) (further m s)) (upcoming-further m s)
-    ∙ further-further m (longest R (drop m (upcoming s))) s ∙ ap (λ n. further n s) (sym e)
+then_takes P R m s s1 s2 e a b = grind (arith, upcoming-further, further-further)
 
 -- a character of the class stood here and was taken
 pub either_then : (P R : List ℕ → Bool) (p : ℕ → Bool) (b : Bool) (s s1 s2 : Scan) → b ≡ begins_with p (upcoming s)
@@ -65,20 +57,10 @@ signed_after b t e = signed_len t ∙ ap (λ x. (if x then 1 else 0) + longest d
 -- a digit is taken: where the digits end stays the same
 pub digit_taken : (p : ℕ → Bool) (c : ℕ) (s s1 : Scan) → Some c ≡ option_map (λ x. x.c) (first_char s.reading) → p c ≡ true → s1 ≡ further 1 s
     → further (front_len p (upcoming s1)) s1 ≡ further (front_len p (upcoming s)) s
-digit_taken p c s s1 f h m =
-    let n : front_len p (upcoming s) ≡ 1 + front_len p (drop 1 (upcoming s)) = front_advanced p c s.reading f h in
-    ap (λ x. further (front_len p (upcoming x)) x) m ∙ ap (λ t. further (front_len p t) (further 1 s)) (upcoming-further 1 s)
-    ∙ further-further 1 (front_len p (drop 1 (upcoming s))) s ∙ ap (λ k. further k s) (sym n)
+digit_taken p c s s1 f h m = grind (arith, front_advanced, upcoming-further, further-further)
 
 pub no_more : (p : ℕ → Bool) (s : Scan) → None ≡ option_map (λ x. x.c) (first_char s.reading) → further (front_len p (upcoming s)) s ≡ s
 no_more p s f = ap (λ k. further k s) (front_ended p s.reading f) ∙ further-zero s
 
 pub fewer_left : (c : ℕ) (s s1 : Scan) → Some c ≡ option_map (λ x. x.c) (first_char s.reading) → s1 ≡ further 1 s → length (upcoming s1) < length (upcoming s)
-fewer_left c s s1 f m =
-    let e : length (upcoming s1) ≡ length (drop 1 (upcoming s)) = ap (λ x. length (upcoming x)) m ∙ ap length (upcoming-further 1 s) in
-    let h : length (drop 1 (upcoming s)) < length (upcoming s) = by s.reading.rest f in
-    omega arith
-  where
-    by : (ss : List Spot) → Some c ≡ option_map (λ x. x.c) (first_of ss) → length (drop 1 (letters ss)) < length (letters ss)
-    by [] f = cc
-    by (x ∷ ss) f = omega arith
+fewer_left c s s1 f m = grind (arith, upcoming-further)

@@ -17,19 +17,10 @@ grows base n (c ∷ cs) h =
     omega (arith, i, m)
 
 pub whole_over : (base n c : ℕ) (cs : List ℕ) → 2 ≤ base → 2 ^ 64 ≤ n * base + digit_value c → whole_after base n (c ∷ cs) ≡ None
-whole_over base n c cs h over =
-    let g : 2 ^ 64 ≤ digits_value_after base (n * base + digit_value c) cs = omega (arith, grows base (n * base + digit_value c) cs h) in
-    let b : nat_lt (digits_value_after base n (c ∷ cs)) (2 ^ 64) ≡ false = le-ltb _ _ g in
-    ap (λ t. if list_all (λ x. is_digit x base) (c ∷ cs) && t then Some (digits_value_after base n (c ∷ cs)) else None) b
-    ∙ ap (λ t. if t then Some (digits_value_after base n (c ∷ cs)) else None) (and_right (list_all (λ x. is_digit x base) (c ∷ cs)) false refl)
+whole_over base n c cs h over = grind (arith, grows, le-ltb, and_right)
 
 -- no value, since the number grows too large at this digit
 pub whole_too_large : (base v c : ℕ) (text word : List ℕ) → 2 ≤ base → Some c ≡ next_of text → whole_after base v text ≡ whole_after base 0 word
     → nothing word ≡ false
     → 2 ^ 64 ≤ v * base + digit_value c → None ≡ whole base word
-whole_too_large base v c [] word h f i l o = cc
-whole_too_large base v c (d ∷ cs) [] h f i l o = cc
-whole_too_large base v c (d ∷ cs) (w ∷ ws) h f i l o =
-    let k : c ≡ d = cc in
-    let n : whole_after base v (d ∷ cs) ≡ None = whole_over base v d cs h (rw (← k) o) in
-    sym n ∙ i
+whole_too_large base v c text word h k e l u = grind (arith, whole_over)
