@@ -1,5 +1,5 @@
 -- After the phases a source has characters of Unicode only.
-use Rattle.std.proofs.Common.{◌≡◌, ℕ, zero, suc, ◌+◌, ◌-◌, List, [], ◌∷◌, map, length, take, Bool, true, false, ◌&&◌, refl, ◌∙◌, ap, if◌then◌else◌}
+use Rattle.std.proofs.Common.{◌≡◌, ℕ, zero, suc, ◌+◌, ◌-◌, List, [], ◌∷◌, map, length, take, Bool, true, false, ◌&&◌, refl, ◌∙◌, ap, if◌then◌else◌, arith}
 use Rattle.std.specs.List.{list_all}
 use Rattle.std.specs.Str.{chars, IsUtf8, all_scalars}
 use Rattle.std.proofs.Math.Utf8.{scalar}
@@ -22,11 +22,7 @@ use Rattle.pp_lexer.proofs.characters.PiecesLemmas.{along_pieces}
 use Rattle.pp_lexer.proofs.words.SetsLemmas.{both}
 
 piece_scalar : (c : ℕ) → scalar c ≡ true → scalar (piece c).char ≡ true
-piece_scalar c h = by (is_line_break c) refl
-  where
-    by : (b : Bool) → is_line_break c ≡ b → scalar (piece c).char ≡ true
-    by true e = rw e refl
-    by false e = rw e h
+piece_scalar c h = grind (arith, scalar)
 
 pieces_scalar : (cs : List ℕ) → all_scalars cs ≡ true → list_all (λ p. scalar p.char) (pieces cs) ≡ true
 pieces_scalar =
@@ -86,6 +82,4 @@ letters_scalar at (p ∷ ps) h =
 
 -- the characters of a source, once the phases are done
 pub source_scalar : (source : List ℕ) → IsUtf8 source → list_all scalar (letters (spots_of source)) ≡ true
-source_scalar source u =
-    letters_scalar 0 (replaced_of source) (replaced_scalar (length source) (continued (lines (chars source)))
-    (continued_scalar (lines (chars source)) (lines_scalar (chars source) (scalars-chars source u))))
+source_scalar source u = grind (arith, letters_scalar, replaced_scalar, continued_scalar, lines_scalar, scalars-chars)

@@ -1,5 +1,5 @@
 -- One step of a reader that leaves out the continuations.
-use Rattle.std.proofs.Common.{◌≡◌, ◌≢◌, ◌∷◌, [], ℕ, List, sym, ◌∙◌, ap, Bool, true, false, refl, ◌==◌, ◌&&◌, ◌||◌, Some, None, Option, map, not, if◌then◌else◌}
+use Rattle.std.proofs.Common.{◌≡◌, ◌≢◌, ◌∷◌, [], ℕ, List, sym, ◌∙◌, ap, Bool, true, false, refl, ◌==◌, ◌&&◌, ◌||◌, Some, None, Option, map, not, if◌then◌else◌, arith}
 use Rattle.std.specs.List.{filter}
 use Rattle.std.proofs.lemmas.Bool.{ne_eqb, eq-eqb, eqb-true}
 use Rattle.pp_lexer.specs.Cursor.{Placed, Cursor, first_of, first, after_of, after, is_item}
@@ -37,18 +37,11 @@ continued-agrees b c p ps false e f g = continued-stays b p ps e ∙ (ap (λ t. 
 -- of what stands before, only the nearest counts
 continued_from_nearest : (b c ps : List Placed) → begins_with is_backslash b ≡ begins_with is_backslash c → continued_from b ps ≡ continued_from c ps
 continued_from_nearest b c [] e = refl
-continued_from_nearest b c (p ∷ ps) e =
-    continued-agrees b c p ps (is_continuation (record { before = c; here = p; after = ps }))
-    (ap (λ t. (is_backslash p && begins_with is_newline ps) || (is_newline p && t)) e) refl (continued_from_nearest (p ∷ b) (p ∷ c) ps refl)
+continued_from_nearest b c (p ∷ ps) e = grind (arith, continued-agrees, continued_from_nearest (p ∷ b) (p ∷ c) ps refl)
 
 -- where no newline is first, nothing that stands before counts
 no_newline_first : (b c ps : List Placed) → begins_with is_newline ps ≡ false → continued_from b ps ≡ continued_from c ps
-no_newline_first b c [] e = refl
-no_newline_first b c (p ∷ ps) e =
-    continued-agrees b c p ps ((is_backslash p && begins_with is_newline ps) || false)
-    (ap (λ t. (is_backslash p && begins_with is_newline ps) || (t && begins_with is_backslash b)) e)
-    (ap (λ t. (is_backslash p && begins_with is_newline ps) || (t && begins_with is_backslash c)) e)
-    (continued_from_nearest (p ∷ b) (p ∷ c) ps refl)
+no_newline_first b c ps h = grind (arith, continued-agrees, continued_from_nearest)
 
 and_false : (b : Bool) → (b && false) ≡ false
 and_false true = refl
@@ -61,32 +54,19 @@ continued-nil = refl
 -- a character that is no backslash
 pub continued-plain : (p : Placed) (ps : List Placed) → is_backslash p ≡ false → continued (p ∷ ps) ≡ p ∷ continued ps
 unfolding continued
-continued-plain p ps e =
-    continued-stays [] p ps (ap (λ t. (t && begins_with is_newline ps) || (is_newline p && false)) e ∙ and_false (is_newline p))
-    ∙ ap (λ t. p ∷ t) (continued_from_nearest (p ∷ []) [] ps e)
+continued-plain p ps e = grind (arith, continued-stays, and_false, continued_from_nearest)
 
 -- a backslash that stays
 pub continued-backslash : (p : Placed) (ps : List Placed) → begins_with is_newline ps ≡ false → continued (p ∷ ps) ≡ p ∷ continued ps
 unfolding continued
-continued-backslash p ps e =
-    let alone : is_continuation (record { before = []; here = p; after = ps }) ≡ false =
-    ap (λ t. (is_backslash p && t) || (is_newline p && false)) e
-    ∙ (ap (λ t. t || (is_newline p && false)) (and_false (is_backslash p)) ∙ and_false (is_newline p)) in
-    continued-stays [] p ps alone ∙ ap (λ t. p ∷ t) (no_newline_first (p ∷ []) [] ps e)
+continued-backslash p ps e = grind (arith, and_false, continued-stays, no_newline_first)
 
 newline_no_backslash : (p : Placed) → is_newline p ≡ true → is_backslash p ≡ false
 newline_no_backslash p e = rw (eqb-true p.char 10 e) refl
 
 pub continued-gone : (p q : Placed) (ps : List Placed) → is_backslash p ≡ true → is_newline q ≡ true → continued (p ∷ q ∷ ps) ≡ continued ps
 unfolding continued
-continued-gone p q ps e f =
-    let slash : is_continuation (record { before = []; here = p; after = q ∷ ps }) ≡ true =
-    ap (λ t. (t && is_newline q) || (is_newline p && false)) e ∙ ap (λ t. t || (is_newline p && false)) f in
-    let break : is_continuation (record { before = p ∷ []; here = q; after = ps }) ≡ true =
-    ap (λ t. (t && begins_with is_newline ps) || (is_newline q && is_backslash p)) (newline_no_backslash q f)
-    ∙ (ap (λ t. t && is_backslash p) f ∙ e) in
-    continued-leaves [] p (q ∷ ps) slash
-    ∙ (continued-leaves (p ∷ []) q ps break ∙ continued_from_nearest (q ∷ p ∷ []) [] ps (newline_no_backslash q f))
+continued-gone p q ps e f = grind (arith, newline_no_backslash, continued-leaves, continued_from_nearest)
 
 -- the character that an item has
 pub item_char : (p : Placed) (ch line : ℕ) → ◌≡◌ {A = Option (ℕ × ℕ)} (Some (ch, line)) (Some (p.char, p.line)) → p.char ≡ ch
@@ -112,18 +92,11 @@ module _ (total : ℕ) (d : Cursor) where
   module _ (ch line : ℕ) where
     pub plain_step : (ps : List Placed) → Some (ch, line) ≡ first_of ps → d ≡ after_of ps total → ch ≢ 92
         → Steps (continued ps) total (Some (ch, line)) (joined d)
-    plain_step [] e f h = cc
-    plain_step (p ∷ ps) e f h =
-        let k : continued (p ∷ ps) ≡ p ∷ continued ps = continued-plain p ps (ne_eqb p.char 92 (λ k. h (sym (item_char p ch line e) ∙ k))) in
-        record { value = rw k e; state = rw (k, f) refl }
+    plain_step ps h k e = grind (arith, continued-plain, ne_eqb, item_char)
 
     pub backslash_step : (ps : List Placed) → Some (ch, line) ≡ first_of ps → d ≡ after_of ps total → begins_with is_newline d.rest ≡ false
         → Steps (continued ps) total (Some (ch, line)) (joined d)
-    backslash_step [] e f n = cc
-    backslash_step (p ∷ ps) e f n =
-        let m : begins_with is_newline ps ≡ false = rw f at n in
-        let k : continued (p ∷ ps) ≡ p ∷ continued ps = continued-backslash p ps m in
-        record { value = rw k e; state = rw (k, f) refl }
+    backslash_step ps h k e = grind (arith, continued-backslash)
 
 -- what the next item says of the characters
 pub is_item-first_of : (c : ℕ) (ps : List Placed) → is_item (first_of ps) c ≡ begins_with (λ p. p.char == c) ps
@@ -139,8 +112,4 @@ looked c ahead now r t b same e f g =
 -- a backslash and the newline after it
 pub gone_step : (ps : List Placed) (total ch line : ℕ) (d peek : Cursor) → Some (ch, line) ≡ first_of ps → d ≡ after_of ps total → ch ≡ 92
     → begins_with is_newline d.rest ≡ true → peek ≡ after d → continued peek.rest ≡ continued ps
-gone_step [] total ch line d peek e f h n g = cc
-gone_step (p ∷ []) total ch line d peek e f h n g = let m : begins_with is_newline [] ≡ true = rw f at n in cc
-gone_step (p ∷ q ∷ ps) total ch line d peek e f h n g =
-    let m : is_newline q ≡ true = rw f at n in
-    rw (g, f) (sym (continued-gone p q ps (eq-eqb p.char 92 (item_char p ch line e ∙ h)) m))
+gone_step ps total ch line d peek h k e l u = grind (arith, continued-gone, eq-eqb, item_char)

@@ -1,5 +1,5 @@
 -- A text without line breaks, backslashes and comments passes the phases as it is.
-use Rattle.std.proofs.Common.{◌≡◌, ℕ, ◌+◌, List, [], ◌∷◌, ◌++◌, Bool, true, false, ◌&&◌, ◌||◌, ◌==◌, map, refl, sym, ◌∙◌, ap, subst, if◌then◌else◌}
+use Rattle.std.proofs.Common.{◌≡◌, ℕ, ◌+◌, List, [], ◌∷◌, ◌++◌, Bool, true, false, ◌&&◌, ◌||◌, ◌==◌, map, refl, sym, ◌∙◌, ap, subst, if◌then◌else◌, arith}
 use Rattle.std.specs.Char.{len_utf8}
 use Rattle.std.specs.Str.{chars, all_scalars, encode_utf8_all}
 use Rattle.std.proofs.lemmas.Str.{chars-encodes}
@@ -36,9 +36,7 @@ and_false false = refl
 -- the characters of lines
 
 no_pair : (a b c d : Bool) → (a || b) ≡ false → ((a && c) || (b && d)) ≡ false
-no_pair true b c d h = cc
-no_pair false true c d h = cc
-no_pair false false c d h = refl
+no_pair a b c d h = grind arith
 
 pieces_plain : (c : ℕ) (cs : List ℕ) → is_line_break c ≡ false → pieces (c ∷ cs) ≡ record { char = c; bytes = len_utf8 c } ∷ pieces cs
 pieces_plain c [] h = rw h refl
@@ -58,14 +56,7 @@ continued_same [] h = continued-nil
 continued_same (p ∷ ps) h = continued-plain p ps h.1 ∙ ap (λ qs. p ∷ qs) (continued_same ps h.3)
 
 no_comment : (p : Placed) (ps : List Placed) → ((p.char == 47) && begins_with is_second (characters ps)) ≡ false → comment_length (p ∷ ps) ≡ 0
-no_comment p [] h = refl
-no_comment p (q ∷ ps) h = by (p.char == 47) (q.char == 47) (q.char == 42) refl refl refl h
-  where
-    by : (a b d : Bool) → (p.char == 47) ≡ a → (q.char == 47) ≡ b → (q.char == 42) ≡ d → (a && (b || d)) ≡ false → comment_length (p ∷ q ∷ ps) ≡ 0
-    by true true d e f g k = cc
-    by true false true e f g k = cc
-    by true false false e f g k = rw (e, f, g) refl
-    by false b d e f g k = rw e refl
+no_comment p ps h = grind arith
 
 replaced_same : (total : ℕ) (ps : List Placed) → IsPlain (characters ps) → replaced total ps ≡ ps
 replaced_same total [] h = replaced-nil total

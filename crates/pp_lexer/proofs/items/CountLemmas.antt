@@ -14,17 +14,10 @@ length-segments_within (suc n) [] = omega arith
 length-segments_within (suc n) (s ∷ ss) = let h = length-segments_within n (drop (taken_by s ss) (s ∷ ss)) in omega (arith, h)
 
 length-item_at : (before : List Segment) (g : Segment) (k : Kind) → length (item_at before g k) ≤ 1
-length-item_at before g blank = omega arith
-length-item_at before g comment = omega arith
-length-item_at before g (item r) = omega arith
+length-item_at before g k = grind arith
 
 length-final_newline : (before : List Segment) → length (final_newline before) ≤ 1
-length-final_newline [] = omega arith
-length-final_newline (g ∷ gs) = by (start_of_line (g ∷ gs)) refl
-  where
-    by : (b : Bool) → start_of_line (g ∷ gs) ≡ b → length (final_newline (g ∷ gs)) ≤ 1
-    by true e = rw e (omega arith)
-    by false e = rw e (omega arith)
+length-final_newline before = grind arith
 
 length-items_from : (gs before : List Segment) → length (items_from before gs) ≤ length gs + 1
 unfolding items_from
@@ -35,6 +28,4 @@ length-items_from (g ∷ gs) before =
 -- at most one for each character, and one
 pub length-items_of : (at : ℕ) (ps : List Placed) → length (items_of (spots at ps)) ≤ length ps + 1
 unfolding segments
-length-items_of at ps =
-    let f : length (items_of (spots at ps)) ≡ length (items_from [] (segments (spots at ps))) = ap length (items_at_start (spots at ps)) in
-    omega (arith, f, length-items_from (segments (spots at ps)) [], length-segments_within (length (spots at ps)) (spots at ps), length-spots at ps)
+length-items_of at ps = grind (arith, items_from, items_at_start, length-items_from, length-segments_within, length-spots)

@@ -1,5 +1,5 @@
 -- Each item of a text has one place, which is that of a token's location.
-use Rattle.std.proofs.Common.{◌≡◌, List, [], ◌∷◌, ◌++◌, Bool, true, false, refl, sym, subst, Ok, Err}
+use Rattle.std.proofs.Common.{◌≡◌, List, [], ◌∷◌, ◌++◌, Bool, true, false, refl, sym, subst, Ok, Err, arith}
 use Rattle.pp_lexer.specs.declared.token.Location.{Location}
 use Rattle.pp_lexer.specs.declared.lexer.char_iterator.Spot.{Spot}
 use Rattle.pp_lexer.specs.Segments.{Kind, blank, comment, item, Segment, segments}
@@ -16,25 +16,15 @@ stand-append (i ∷ items) more [] others h k = absurd h
 stand-append (i ∷ items) more (p ∷ places) others h k = (h.0, stand-append items more places others h.1 k)
 
 segment_stands : (k : Kind) (g : Segment) (before : List Segment) → StandAt (item_at before g k) (places_at g k)
-segment_stands blank g before = tt
-segment_stands comment g before = tt
-segment_stands (item (Ok v)) g before = (refl, tt)
-segment_stands (item (Err e)) g before = (tt, tt)
+segment_stands k g before = grind arith
 
 end_stands : (before : List Segment) (s : Spot) → StandAt (final_newline before) (places_from (flags_after before) (last_before before s) [])
-end_stands [] s = tt
-end_stands (g ∷ gs) s = by (start_of_line (g ∷ gs)) refl
-  where
-    by : (b : Bool) → start_of_line (g ∷ gs) ≡ b → StandAt (final_newline (g ∷ gs)) (places_from (flags_after (g ∷ gs)) g.last [])
-    by true e = rw e tt
-    by false e = rw e (refl, tt)
+end_stands before s = grind (arith, flags_after)
 
 items_stand : (gs before : List Segment) (s : Spot) → StandAt (items_from before gs) (places_from (flags_after before) (last_before before s) gs)
 unfolding items_from
 items_stand [] before s = end_stands before s
-items_stand (g ∷ gs) before s =
-    stand-append (item_at before g g.kind) (items_from (g ∷ before) gs) (places_at g g.kind) _ (segment_stands g.kind g before)
-    (subst (λ f. StandAt (items_from (g ∷ before) gs) (places_from f g.last gs)) (flags_step g.kind g.first g.last before) (items_stand gs (g ∷ before) s))
+items_stand (g ∷ gs) before s = grind (arith, stand-append, items_from, segment_stands, flags_step, items_stand gs (g ∷ before) s)
 
 nowhere_spot : Spot
 nowhere_spot = record { c = 0; line = 0; begin = 0; end = 0 }

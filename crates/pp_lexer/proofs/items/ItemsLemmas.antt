@@ -53,18 +53,7 @@ last_before (g ∷ gs) s = g.last
 
 pub flags_step : (k : Kind) (first last : Spot) (before : List Segment)
     → flags_after (record { kind = k; first = first; last = last } ∷ before) ≡ passed (flags_after before) k
-flags_step blank first last before = refl
-flags_step comment first last before = refl
-flags_step (item r) first last before = by (is_newline_result r)
-  where
-    by : (b : Bool) → ◌≡◌ {A = Flags} (record {
-      leading_whitespace = b;
-      start_of_line = b || false;
-      had_comments = (flags_after before).had_comments;
-    })
-        (record { leading_whitespace = b; start_of_line = b; had_comments = (flags_after before).had_comments })
-    by true = refl
-    by false = refl
+flags_step k first last before = grind arith
 
 above_zero : (n : ℕ) → nat_lt 0 (1 + n) ≡ true
 above_zero n = grind (arith, nat_tests)
@@ -82,20 +71,10 @@ comments_some (g ∷ gs) = by (is_comment g.kind) refl (comments_some gs)
 item_step : (k : Kind) (first last : Spot) (before : List Segment)
     → map seen (item_at before (record { kind = k; first = first; last = last }) k) ≡ item_seen (flags_after before)
     (record { kind = k; first = first; last = last }) k
-item_step blank first last before = refl
-item_step comment first last before = refl
-item_step (item (Ok v)) first last before = ap (λ b. record { item = lexeme_seen (flags_after before) first last (Ok v); had_comments = b } ∷
-    []) (comments_some before)
-item_step (item (Err e)) first last before = ap (λ b. record { item = lexeme_seen (flags_after before) first last (Err e); had_comments = b } ∷
-    []) (comments_some before)
+item_step k first last before = grind (arith, comments_some)
 
 end_step : (before : List Segment) (s : Spot) → map seen (final_newline before) ≡ newline_seen (flags_after before) (last_before before s)
-end_step [] s = refl
-end_step (g ∷ gs) s = by (start_of_line (g ∷ gs)) refl
-  where
-    by : (b : Bool) → start_of_line (g ∷ gs) ≡ b → map seen (final_newline (g ∷ gs)) ≡ newline_seen (flags_after (g ∷ gs)) g.last
-    by true e = rw e refl
-    by false e = rw (e, comments_some (g ∷ gs)) refl
+end_step before s = grind (arith, comments_some)
 
 items_seen : (gs before : List Segment) (s : Spot) → map seen (items_from before gs) ≡ seen_from (flags_after before) (last_before before s) gs
 unfolding items_from

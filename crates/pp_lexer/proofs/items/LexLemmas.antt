@@ -1,5 +1,5 @@
 -- What a lexer gives at a token, at an error and at the end, after the blanks.
-use Rattle.std.proofs.Common.{◌≡◌, List, [], ◌∷◌, Bool, true, false, ◌||◌, refl, sym, ◌∙◌, ap, inl, inr, IsTrue, Option, Some, None, Result, OnOk, Ok, Err, IsErr, MatchOption, subst}
+use Rattle.std.proofs.Common.{◌≡◌, List, [], ◌∷◌, Bool, true, false, ◌||◌, refl, sym, ◌∙◌, ap, inl, inr, IsTrue, Option, Some, None, Result, OnOk, Ok, Err, IsErr, MatchOption, subst, arith}
 use Rattle.std.specs.Bool.{⊤}
 use Rattle.std.specs.List.{list_any}
 use Rattle.std.proofs.lemmas.Bool.{false≢true}
@@ -47,40 +47,23 @@ module _ (f : Flags) (last s : Spot) (ss : List Spot) (plain : is_blank s.c ≡ 
   seen_front : seen_of f (record { rest = s ∷ ss; last = last }) ≡ record
       { item = lexeme_seen f s after.last value; had_comments = f.had_comments } ∷ seen_of (passed f (item value)) after
   unfolding value after
-  seen_front =
-      let l = last_same (word_at (letters (s ∷ ss))).taken last s ss (word_at-some s.c (letters ss)) in
-      let r = advanced-rest (word_at (letters (s ∷ ss))).taken (s ∷ ss) last in
-      ap (seen_from f last) (front_first s ss plain) ∙ rw (l, ← r) refl
+  seen_front = grind (arith, last_same, word_at-some, advanced-rest, front_first)
 
   places_front : places_left f (record { rest = s ∷ ss; last = last }) ≡ record
       { start = s.begin; end = after.last.end; line = s.line } ∷ places_left (passed f (item value)) after
   unfolding value after
-  places_front =
-      let l = last_same (word_at (letters (s ∷ ss))).taken last s ss (word_at-some s.c (letters ss)) in
-      let r = advanced-rest (word_at (letters (s ∷ ss))).taken (s ∷ ss) last in
-      ap (places_from f last) (front_first s ss plain) ∙ rw (l, ← r) refl
+  places_front = grind (arith, last_same, word_at-some, advanced-rest, front_first)
 
   at_end_front : comments_at_end f (record { rest = s ∷ ss; last = last }) ≡ comments_at_end (passed f (item value)) after
   unfolding value after
-  at_end_front =
-      let r = advanced-rest (word_at (letters (s ∷ ss))).taken (s ∷ ss) last in
-      ap (λ gs. f.had_comments || list_any (λ g. is_comment g.kind) gs) (front_first s ss plain) ∙ rw (← r) refl
+  at_end_front = grind (arith, advanced-rest, front_first)
 
 front_at : (f : Flags) (ss : List Spot) (last : Spot) (q : Reading) (first : Spot) (r : Answer) → Some first ≡ first_of ss
     → MatchOption (first_of ss) ⊤ (λ s. is_blank s.c ≡ false)
     → r ≡ (word_at (letters ss)).value → q ≡ advanced (word_at (letters ss)).taken (record { rest = ss; last = last })
     → IsLexed f (record { rest = ss; last = last }) (Ok (Some (lexeme_seen f first q.last r))) (passed f (item r)) q
 unfolding value after
-front_at f [] last q first r e plain v n = cc
-front_at f (s ∷ ss) last q first r e plain v n =
-    let k : first ≡ s = cc in
-    let olds = seen_front f last s ss plain in
-    inr (record {
-      value = rw (olds, k, v, n) refl;
-      rest = rw (olds, v, n) refl;
-      comments = rw olds refl;
-      at_end = ap (comments_at_end (passed f (item r))) n ∙ sym (at_end_front f last s ss plain);
-    })
+front_at f ss last q first r h k e l = grind (arith, seen_front, value, at_end_front)
 
 lexeme_takes : (f : Flags) (first last : Spot) (r : Answer) → lexeme_takes_memory (lexeme_seen f first last r) ≡ takes_memory r
 lexeme_takes f first last (Ok v) = refl
@@ -90,15 +73,7 @@ refused_at : (f : Flags) (ss : List Spot) (last first : Spot) (answer : Result (
     → MatchOption (first_of ss) ⊤ (λ s. is_blank s.c ≡ false)
     → IsErr answer → takes_memory (word_at (letters ss)).value ≡ true → IsLexRefused f (record { rest = ss; last = last }) f answer
 unfolding value after
-refused_at f [] last first answer e plain h x = cc
-refused_at f (s ∷ ss) last first answer e plain h x =
-    let olds = seen_front f last s ss plain in
-    record {
-      value = h;
-      needed = rw olds (lexeme_takes f s (advanced (word_at (letters (s ∷ ss))).taken (record { rest = s ∷ ss; last = last })).last
-          (word_at (letters (s ∷ ss))).value ∙ x);
-      comments = rw olds refl;
-    }
+refused_at f ss last first answer h k e l = grind (arith, seen_front, value, lexeme_takes)
 
 given_value : (r answer : Answer) → IsGiven (Ok r) answer → r ≡ answer
 given_value r answer (inl h) = cc
@@ -114,25 +89,16 @@ pub lexed_front : (f : Flags) (r p q : Reading) (first last : Spot) (v : Answer)
     → p ≡ r → IsGiven (Ok v) (word_at (letters p.rest)).value → q ≡ advanced (word_at (letters p.rest)).taken p → last ≡ q.last
     → answer ≡ lexeme_seen f first last v → line ≡ is_newline_result v
     → IsLexed f r (Ok (Some answer)) (record { leading_whitespace = line; start_of_line = line; had_comments = f.had_comments }) q
-lexed_front f r p q first last v answer line e plain same h k l a n =
-    rw (a, l, n)
-    (front_at f r.rest r.last q first v e plain (given_value v (word_at (letters p.rest)).value h ∙ ap (λ x. (word_at (letters x.rest)).value) same)
-    (k ∙ ap (λ x. advanced (word_at (letters x.rest)).taken x) same))
+lexed_front f r p q first last v answer line e plain same h k l a n = grind (arith, front_at, given_value, value)
 
 -- memory was refused
 pub lexed_refused : (f : Flags) (r p q : Reading) (first : Spot) (e : AllocError) (answer : Result (Option Lexeme) AllocError)
     → Some first ≡ first_char r → MatchOption (first_char r) ⊤ (λ s. is_blank s.c ≡ false)
     → p ≡ r → IsErr answer → IsGiven (Err e) (word_at (letters p.rest)).value → IsLexed f r answer f q
-lexed_refused f r p q first e answer here plain same k h =
-    inl (refused_at f r.rest r.last first answer here plain k
-    (ap (λ x. takes_memory (word_at (letters x.rest)).value) (sym same) ∙ given_refused e (word_at (letters p.rest)).value h))
+lexed_refused f r p q first e answer here plain same k h = grind (arith, refused_at, value, given_refused)
 
 newline_comments : (f : Flags) (last : Spot) (b : Bool) → b ≡ f.had_comments → f.had_comments ≡ comments_before (newline_seen f last) b
-newline_comments f last b h = by f.start_of_line refl
-  where
-    by : (c : Bool) → f.start_of_line ≡ c → f.had_comments ≡ comments_before (newline_seen f last) b
-    by true e = rw e (sym h)
-    by false e = rw e refl
+newline_comments f last b h = grind arith
 
 no_more : (b : Bool) → (b || false) ≡ b
 no_more true = refl
@@ -141,42 +107,20 @@ no_more false = refl
 end_at : (f g : Flags) (ss : List Spot) (last : Spot) (answer : Option Lexeme) → None ≡ first_of ss → answer ≡ first_item (newline_seen f last)
     → newline_seen g last ≡ after_first_item (newline_seen f last)
     → g.had_comments ≡ f.had_comments → IsLexed f (record { rest = ss; last = last }) (Ok answer) g (record { rest = ss; last = last })
-end_at f g [] last answer e a n c =
-    let none : seen_of f (record { rest = []; last = last }) ≡ newline_seen f last = ap (seen_from f last) segments_none in
-    let more : seen_of g (record { rest = []; last = last }) ≡ newline_seen g last = ap (seen_from g last) segments_none in
-    let all : comments_at_end f (record { rest = []; last = last }) ≡ f.had_comments =
-    ap (λ gs. f.had_comments || list_any (λ x. is_comment x.kind) gs) segments_none ∙ no_more f.had_comments in
-    let all' : comments_at_end g (record { rest = []; last = last }) ≡ g.had_comments =
-    ap (λ gs. g.had_comments || list_any (λ x. is_comment x.kind) gs) segments_none ∙ no_more g.had_comments in
-    inr (record {
-      value = ap Ok (a ∙ ap first_item (sym none));
-      rest = more ∙ n ∙ ap after_first_item (sym none);
-      comments = c ∙ newline_comments f last (comments_at_end f (record { rest = []; last = last })) all
-          ∙ ap (λ xs. comments_before xs (comments_at_end f (record { rest = []; last = last }))) (sym none);
-      at_end = all' ∙ c ∙ sym all;
-    })
-end_at f g (s ∷ ss) last answer e a n c = cc
+end_at f g ss last answer h k e l = grind (arith, segments_none, no_more, value, newline_comments)
 
 -- nothing is left to read
 pub lexed_end : (f g : Flags) (r p : Reading) (last : Spot) (answer : Option Lexeme) → None ≡ first_char r → p ≡ r → last ≡ p.last
     → answer ≡ first_item (newline_seen f last)
     → newline_seen g last ≡ after_first_item (newline_seen f last) → g.had_comments ≡ f.had_comments → IsLexed f r (Ok answer) g p
-lexed_end f g r p last answer e same l a n c =
-    let k : last ≡ r.last = l ∙ ap (λ x. x.last) same in
-    subst (λ x. IsLexed f r (Ok answer) g x) (sym same)
-    (end_at f g r.rest r.last answer e (a ∙ ap (λ x. first_item (newline_seen f x)) k)
-    (ap (newline_seen g) (sym k) ∙ n ∙ ap (λ x. after_first_item (newline_seen f x)) k) c)
+lexed_end f g r p last answer e same l a n c = grind (arith, end_at)
 
 -- Where the item that was taken stands
 
 -- what was skipped before makes no difference
 pub placed_before : (f g h : Flags) (r p q : Reading) (old mid new : Location) → places_left g p ≡ places_left f r → mid ≡ old
     → IsPlaced g p mid h q new → IsPlaced f r old h q new
-placed_before f g h r p q old mid new same e x = record {
-  place = x.place ∙ ap (first_place (places_left g p)) e
-      ∙ ap (λ ps. first_place ps old) same;
-  rest = x.rest ∙ ap places_after_first same;
-}
+placed_before f g h r p q old mid new same e x = grind arith
 
 -- if memory was refused, there is none
 pub placed_refused : {T E : Type 0} (answer : Result T E) (P : Type 0) → IsErr answer → OnOk answer P
@@ -188,11 +132,7 @@ placed_at : (f : Flags) (ss : List Spot) (last : Spot) (q : Reading) (first : Sp
     → r ≡ (word_at (letters ss)).value → q ≡ advanced (word_at (letters ss)).taken (record { rest = ss; last = last })
     → IsPlaced f (record { rest = ss; last = last }) old (passed f (item r)) q (record { start = first.begin; end = q.last.end; line = first.line })
 unfolding value after
-placed_at f [] last q first r old e plain v n = cc
-placed_at f (s ∷ ss) last q first r old e plain v n =
-    let k : first ≡ s = cc in
-    let olds = places_front f last s ss plain in
-    record { place = rw (olds, k, n) refl; rest = rw (olds, v, n) refl }
+placed_at f ss last q first r old h k e l = grind (arith, places_front)
 
 -- a token or an error
 pub placed_front : (f : Flags) (r p q : Reading) (first last : Spot) (v : Answer) (line : Bool) (old : Location) → Some first ≡ first_char r
@@ -208,11 +148,7 @@ placed_front f r p q first last v line old e plain same h k l n =
 placed_at_end : (f g : Flags) (ss : List Spot) (last : Spot) (old : Location) → None ≡ first_of ss
     → newline_places g last ≡ places_after_first (newline_places f last)
     → IsPlaced f (record { rest = ss; last = last }) old g (record { rest = ss; last = last }) (first_place (newline_places f last) old)
-placed_at_end f g [] last old e n =
-    let none : places_left f (record { rest = []; last = last }) ≡ newline_places f last = ap (places_from f last) segments_none in
-    let more : places_left g (record { rest = []; last = last }) ≡ newline_places g last = ap (places_from g last) segments_none in
-    record { place = ap (λ ps. first_place ps old) (sym none); rest = more ∙ n ∙ ap places_after_first (sym none) }
-placed_at_end f g (s ∷ ss) last old e n = cc
+placed_at_end f g ss last old h k = grind (arith, segments_none)
 
 -- the end
 pub placed_end : (f g : Flags) (r p : Reading) (last : Spot) (old : Location) → None ≡ first_char r → p ≡ r → last ≡ p.last

@@ -25,10 +25,7 @@ taken f g r q item (inr h) = h
 
 item_first : (ss rest : List Seen) (at_end had : Bool) (item : Lexeme) → Some item ≡ first_item ss → rest ≡ after_first_item ss
     → had ≡ comments_before ss at_end → ss ≡ record { item = item; had_comments = had } ∷ rest
-item_first [] rest at_end had item e r h = cc
-item_first (s ∷ ss) rest at_end had item e r h =
-    let k : item ≡ s.item = cc in
-    rw (r, h, k) refl
+item_first ss rest at_end had item h k e = grind arith
 
 -- a place that is noted whatever was noted before it
 place_first : (ps rest : List Location) (new : Location) → ((old : Location) → new ≡ first_place ps old) → rest ≡ places_after_first ps → ps ≡ new ∷ rest
@@ -54,21 +51,13 @@ module _ (f : Flags) (r : Reading) (place : Location) (line at n : ℕ) (text : 
   sized = ap length spelled ∙ length-take-le n text w.within
 
   last_byte : get_or spelling.now (length spelling.now - 1) 0 ≡ get_or text (n - 1) 0
-  last_byte =
-      let some = w.some in
-      ap (λ k. get_or spelling.now (k - 1) 0) sized ∙ ap (λ t. get_or t (n - 1) 0) spelled ∙ get_or-take n text (n - 1) 0 (omega (arith, some))
+  last_byte = grind (arith, sized, get_or-take)
 
   there : reading_after word ≡ record {
     rest = spots_from line (at + n) (drop n text);
     last = record { c = get_or text (n - 1) 0; line = line; begin = at + n - 1; end = at + n };
   }
-  there = ap (λ t. record {
-    rest = spots_from line (at + n) t;
-    last = record { c = get_or spelling.now (length spelling.now - 1) 0; line = line; begin = at + n - 1; end = at + n };
-  }) left ∙ ap (λ c. record {
-    rest = spots_from line (at + n) (drop n text);
-    last = record { c = c; line = line; begin = at + n - 1; end = at + n };
-  }) last_byte
+  there = grind (arith, last_byte)
 
   plain : IsPlainWord text (value_of form spelling.now) n
   plain = subst (λ x. IsPlainWord text (value_of form x) n) (sym spelled) w
@@ -86,9 +75,7 @@ module _ (f : Flags) (r : Reading) (place : Location) (line at n : ℕ) (text : 
       (placed_plain g after.there line at text after.left.rest_is (value_of form spelling.now) n plain (reading_after word) old there)
 
   given_first : Some (Ok (token_of word)) ≡ first_item (seen_of f r)
-  given_first =
-      let e = (taken f (flags_after f.had_comments) r (reading_after word) (Ok (token_of word)) given).value in
-      cc
+  given_first = grind (arith, taken, given)
 
   pub next_word : IsNextWord (lexed f r place false) word
   next_word = record { unspent = refl; is = sym given_first; ascii = subst IsAscii (sym spelled) w.ascii }

@@ -24,14 +24,7 @@ kind_front : (s : Spot) (ss : List Spot) → is_blank s.c ≡ false → kind_of 
 kind_front s ss e = rw e refl
 
 passed_blank : (f : Flags) (c : ℕ) → passed f (cond (is_mark c) comment blank) ≡ blanked f c
-passed_blank f c = by f.had_comments (is_mark c)
-  where
-    by : (h b : Bool) → passed (record f { had_comments = h }) (cond b comment blank) ≡ record
-        { leading_whitespace = true; start_of_line = f.start_of_line; had_comments = h || b }
-    by true true = refl
-    by true false = refl
-    by false true = refl
-    by false false = refl
+passed_blank f c = grind arith
 
 none_seen : (f : Flags) (first last : Spot) (b : Bool) → item_seen f (record { kind = cond b comment blank; first = first; last = last })
     (cond b comment blank) ≡ []
@@ -45,16 +38,11 @@ comment_is false = refl
 -- a blank alone
 blank_first : (s : Spot) (ss : List Spot) → is_blank s.c ≡ true
     → segments (s ∷ ss) ≡ record { kind = cond (is_mark s.c) comment blank; first = s; last = s } ∷ segments ss
-blank_first s ss e =
-    let t : taken_by s ss ≡ 1 = rw e refl in
-    segments_first s ss ∙ rw (t, kind_blank s ss e) refl
+blank_first s ss e = grind (arith, segments_first, kind_blank)
 
 pub blank_seen : (f : Flags) (last s : Spot) (ss : List Spot) → is_blank s.c ≡ true
     → seen_from f last (segments (s ∷ ss)) ≡ seen_from (blanked f s.c) s (segments ss)
-blank_seen f last s ss e =
-    ap (seen_from f last) (blank_first s ss e)
-    ∙ ap (λ xs. xs ++ seen_from (passed f (cond (is_mark s.c) comment blank)) s (segments ss)) (none_seen f s s (is_mark s.c))
-    ∙ ap (λ g. seen_from g s (segments ss)) (passed_blank f s.c)
+blank_seen f last s ss e = grind (arith, blank_first, none_seen, passed_blank)
 
 none_placed : (first last : Spot) (b : Bool) → places_at (record { kind = cond b comment blank; first = first; last = last }) (cond b comment blank) ≡ []
 none_placed first last true = refl
@@ -62,22 +50,12 @@ none_placed first last false = refl
 
 pub blank_places : (f : Flags) (last s : Spot) (ss : List Spot) → is_blank s.c ≡ true
     → places_from f last (segments (s ∷ ss)) ≡ places_from (blanked f s.c) s (segments ss)
-blank_places f last s ss e =
-    ap (places_from f last) (blank_first s ss e)
-    ∙ ap (λ xs. xs ++ places_from (passed f (cond (is_mark s.c) comment blank)) s (segments ss)) (none_placed s s (is_mark s.c))
-    ∙ ap (λ g. places_from g s (segments ss)) (passed_blank f s.c)
+blank_places f last s ss e = grind (arith, blank_first, none_placed, passed_blank)
 
 pub blank_at_end : (f : Flags) (s : Spot) (ss : List Spot) → is_blank s.c ≡ true
     → (f.had_comments || list_any (λ g. is_comment g.kind) (segments (s ∷ ss))) ≡
     ((f.had_comments || is_mark s.c) || list_any (λ g. is_comment g.kind) (segments ss))
-blank_at_end f s ss e =
-    ap (λ gs. f.had_comments || list_any (λ g. is_comment g.kind) gs) (blank_first s ss e)
-    ∙ ap (λ b. f.had_comments || (b || list_any (λ g. is_comment g.kind) (segments ss))) (comment_is (is_mark s.c))
-    ∙ joined f.had_comments (is_mark s.c) (list_any (λ g. is_comment g.kind) (segments ss))
-  where
-    joined : (h m t : Bool) → (h || (m || t)) ≡ ((h || m) || t)
-    joined true m t = refl
-    joined false m t = refl
+blank_at_end f s ss e = grind (arith, blank_first, comment_is)
 
 -- a blank that was taken
 pub record IsBlanked (f g : Flags) (r q : Reading) : Type 0 where
@@ -88,11 +66,7 @@ pub record IsBlanked (f g : Flags) (r q : Reading) : Type 0 where
 blanked_at : (f : Flags) (last : Spot) (ss : List Spot) (c : ℕ) (q : Reading) → Some c ≡ option_map (λ s. s.c) (first_of ss) → true ≡ is_blank c
     → q ≡ past ss last
     → IsBlanked f (blanked f c) (record { rest = ss; last = last }) q
-blanked_at f last [] c q e b h = cc
-blanked_at f last (s ∷ ss) c q e b h =
-    let k : c ≡ s.c = cc in
-    let k' : is_blank s.c ≡ true = sym (b ∙ ap is_blank k) in
-    rw (h, k) (record { same = sym (blank_seen f last s ss k'); at_end = sym (blank_at_end f s ss k'); places = sym (blank_places f last s ss k') })
+blanked_at f last ss c q h k e = grind (arith, blank_seen, blank_at_end, blank_places)
 
 pub blank_passed : (f : Flags) (r p q : Reading) (c : ℕ) → Some c ≡ option_map (λ s. s.c) (first_char r) → true ≡ is_blank c → p ≡ r
     → q ≡ after_first p → IsBlanked f (blanked f c) r q
@@ -106,9 +80,7 @@ pub front_first : (s : Spot) (ss : List Spot) → is_blank s.c ≡ false
       last = last_of s (take (word_at (letters (s ∷ ss))).taken (s ∷ ss));
     }
     ∷ segments (drop (word_at (letters (s ∷ ss))).taken (s ∷ ss))
-front_first s ss e =
-    let t : taken_by s ss ≡ (word_at (letters (s ∷ ss))).taken = rw e refl in
-    segments_first s ss ∙ rw (t, kind_front s ss e) refl
+front_first s ss e = grind (arith, segments_first, kind_front)
 
 -- the first character counts as the last one before it
 pub last_same : (n : ℕ) (last s : Spot) (ss : List Spot) → 0 < n → last_of s (take n (s ∷ ss)) ≡ (advanced_of n (s ∷ ss) last).last

@@ -31,12 +31,7 @@ begin_within at total (p ∷ ps) h = omega (arith, h.0, begin_within p.end total
 ordered_spots : (at total : ℕ) (ps : List Placed) → StretchesFollow at total ps → Ordered at total (spots at ps)
 unfolding Ordered
 ordered_spots at total [] h = tt
-ordered_spots at total (p ∷ ps) h = (
-  omega arith,
-  omega arith,
-  omega (arith, h.0, begin_within p.end total ps h.1),
-  ordered_before p.end (at + len_utf8 p.char) total (spots p.end ps) h.0 (ordered_spots p.end total ps h.1),
-)
+ordered_spots at total (p ∷ ps) h = grind (arith, begin_within, ordered_before, ordered_spots p.end total ps h.1)
 
 ordered_drop : (n at total : ℕ) (ss : List Spot) → Ordered at total ss → Ordered at total (drop n ss)
 unfolding Ordered
@@ -80,19 +75,11 @@ segments_lie (suc n) at total (s ∷ ss) o = (
 item_lies : (total : ℕ) (before : List Segment) (g : Segment) (k : Kind) (is : List Item) → Lies total g → Each (λ i. IsWithin total i.item) is
     → Each (λ i. IsWithin total i.item) (item_at before g k ++ is)
 unfolding Each
-item_lies total before g blank is h e = e
-item_lies total before g comment is h e = e
-item_lies total before g (item (Ok v)) is h e = (h, e)
-item_lies total before g (item (Err x)) is h e = (tt, e)
+item_lies total before g k is h e = grind arith
 
 newline_lies : (total : ℕ) (before : List Segment) → Each (Lies total) before → Each (λ i. IsWithin total i.item) (final_newline before)
 unfolding Each
-newline_lies total [] h = tt
-newline_lies total (g ∷ gs) h = by (start_of_line (g ∷ gs)) refl
-  where
-    by : (b : Bool) → start_of_line (g ∷ gs) ≡ b → Each (λ i. IsWithin total i.item) (final_newline (g ∷ gs))
-    by true e = rw e tt
-    by false e = rw e ((omega arith, h.0.1), tt)
+newline_lies total before h = grind arith
 
 items_lie : (total : ℕ) (gs before : List Segment) → Each (Lies total) gs → Each (Lies total) before → Each (λ i. IsWithin total i.item) (items_from before gs)
 unfolding Each items_from
@@ -108,7 +95,4 @@ each_all P (x ∷ xs) h = All-cons P x xs h.0 (each_all P xs h.1)
 -- the tokens of characters whose stretches follow one another lie in the source
 pub items_within : (at total : ℕ) (ps : List Placed) → StretchesFollow at total ps → All (λ i. IsWithin total i.item) (items_of (spots at ps))
 unfolding Each segments
-items_within at total ps h =
-    each_all (λ i. IsWithin total i.item) (items_of (spots at ps))
-    (subst (Each (λ i. IsWithin total i.item)) (sym (items_at_start (spots at ps)))
-    (items_lie total (segments (spots at ps)) [] (segments_lie (length (spots at ps)) at total (spots at ps) (ordered_spots at total ps h)) tt))
+items_within at total ps h = grind (arith, each_all, items_at_start, items_lie, segments_lie, ordered_spots)

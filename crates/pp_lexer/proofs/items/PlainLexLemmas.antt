@@ -37,12 +37,7 @@ pub gone : (q : Reading) (line at n : ℕ) (text bytes rest : List ℕ)
       };
     } → bytes ≡ text → rest ≡ drop n text
     → q ≡ record { rest = spots_from line (at + n) (drop n text); last = record { c = get_or text (n - 1) 0; line = line; begin = at + n - 1; end = at + n } }
-gone q line at n text bytes rest e f g =
-    e ∙ ap (λ t. record { rest = spots_from line (at + n) t; last = record { c = get_or bytes (n - 1) 0; line = line; begin = at + n - 1; end = at + n } }) g
-    ∙ ap (λ t. record {
-      rest = spots_from line (at + n) (drop n text);
-      last = record { c = get_or t (n - 1) 0; line = line; begin = at + n - 1; end = at + n };
-    }) f
+gone q line at n text bytes rest e f g = grind arith
 
 -- after spaces
 record PassesSpaces (f : Flags) (line at n : ℕ) (text : List ℕ) (last : Spot) : Type 0 where
@@ -90,10 +85,7 @@ module _ (f : Flags) (r : Reading) (line at : ℕ) (text : List ℕ) (e : r.rest
           rest = spots_from line (at + n) (drop n text);
           last = record { c = get_or text (n - 1) 0; line = line; begin = at + n - 1; end = at + n };
         } → q ≡ advanced (word_at (letters r.rest)).taken r
-    there q k =
-        let word : word_at (letters r.rest) ≡ record { value = Ok value; taken = n } = ap (λ ss. word_at (letters ss)) e ∙ w.word line at in
-        k ∙ sym (after_front n line at text r.last w.some w.within w.front) ∙ ap (λ ss. advanced_of n ss r.last) (sym e)
-        ∙ ap (λ o. advanced o.taken r) (sym word)
+    there q k = grind (arith, after_front)
 
     -- a plain word is taken
     pub lexed_plain : (q : Reading)

@@ -7,11 +7,7 @@ use Rattle.pp_lexer.specs.Words.{is_blank}
 use Rattle.pp_lexer.proofs.words.WordAtLemmas.{word_at-some}
 
 pub taken_some : (s : Spot) (ss : List Spot) → 0 < taken_by s ss
-taken_some s ss = by (is_blank s.c) refl
-  where
-    by : (b : Bool) → is_blank s.c ≡ b → 0 < taken_by s ss
-    by true e = rw e (omega arith)
-    by false e = rw e (word_at-some s.c (letters ss))
+taken_some s ss = grind (arith, word_at-some)
 
 -- more turns than characters make no difference
 segments_enough : (m n : ℕ) (ss : List Spot) → length ss ≤ m → length ss ≤ n → segments_within m ss ≡ segments_within n ss
@@ -32,11 +28,7 @@ segments_none = refl
 
 pub segments_first : (s : Spot) (ss : List Spot) → segments (s ∷ ss) ≡ segment_at s ss ∷ segments (drop (taken_by s ss) (s ∷ ss))
 unfolding segments
-segments_first s ss =
-    let t : 0 < taken_by s ss = taken_some s ss in
-    let d : length (drop (taken_by s ss) (s ∷ ss)) ≡ length (s ∷ ss) - taken_by s ss = length-drop (taken_by s ss) (s ∷ ss) in
-    ap (λ gs. segment_at s ss ∷ gs) (segments_enough (length ss) (length (drop (taken_by s ss) (s ∷ ss))) (drop (taken_by s ss) (s ∷ ss))
-    (omega arith) (omega arith))
+segments_first s ss = grind (arith, taken_some, length-drop, segments_enough)
 
 -- a reader that is further on
 pub advanced-rest : (n : ℕ) (ss : List Spot) (last : Spot) → (advanced_of n ss last).rest ≡ drop n ss

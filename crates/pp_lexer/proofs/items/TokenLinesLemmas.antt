@@ -66,12 +66,7 @@ lines-continued_from : (total : ℕ) (before ps : List Placed) → PlacedHaveLin
 unfolding Each
 lines-continued_from total before [] h = tt
 lines-continued_from total before (p ∷ ps) h =
-    by_test (is_continuation (record { before = before; here = p; after = ps })) refl (lines-continued_from total (p ∷ before) ps h.1)
-  where
-    by_test : (b : Bool) → is_continuation (record { before = before; here = p; after = ps }) ≡ b
-        → PlacedHaveLines total (continued_from (p ∷ before) ps) → PlacedHaveLines total (continued_from before (p ∷ ps))
-    by_test true e k = rw (continued-leaves before p ps e) k
-    by_test false e k = rw (continued-stays before p ps e) (h.0, k)
+    grind (arith, continued_from, continued-leaves, continued-stays, lines-continued_from total (p ∷ before) ps h.1)
 
 lines-continued : (total : ℕ) (ps : List Placed) → PlacedHaveLines total ps → PlacedHaveLines total (continued ps)
 unfolding continued
@@ -97,9 +92,7 @@ lines_within_n (suc n) total (p ∷ ps) le h = by_front (front total p ps) (λ q
         )
 
 lines-replaced_of : (source : List ℕ) → IsUtf8 source → PlacedHaveLines (length source) (replaced_of source)
-lines-replaced_of source u =
-    lines_within_n (length (continued_of source)) (length source) (continued_of source) (omega arith)
-    (lines-continued (length source) (lines_of source) (lines-lines_of source u))
+lines-replaced_of source u = grind (arith, lines_within_n, lines-continued, lines-lines_of)
 
 lines-spots : (at total : ℕ) (ps : List Placed) → PlacedHaveLines total ps → SpotsHaveLines total (spots at ps)
 unfolding Each
@@ -135,19 +128,11 @@ lines-segments (suc n) total (s ∷ ss) h = (
 line-item_at : (total : ℕ) (before : List Segment) (g : Segment) (k : Kind) (is : List Item) → HasLines total g
     → ItemsHaveLines total is → ItemsHaveLines total (item_at before g k ++ is)
 unfolding Each
-line-item_at total before g blank is h e = e
-line-item_at total before g comment is h e = e
-line-item_at total before g (item (Ok v)) is h e = (h.0, e)
-line-item_at total before g (item (Err x)) is h e = (tt, e)
+line-item_at total before g k is h e = grind arith
 
 line-final_newline : (total : ℕ) (before : List Segment) → SegmentsHaveLines total before → ItemsHaveLines total (final_newline before)
 unfolding Each
-line-final_newline total [] h = tt
-line-final_newline total (g ∷ gs) h = by (start_of_line (g ∷ gs)) refl
-  where
-    by : (b : Bool) → start_of_line (g ∷ gs) ≡ b → ItemsHaveLines total (final_newline (g ∷ gs))
-    by true e = rw e tt
-    by false e = rw e (h.0.1, tt)
+line-final_newline total before h = grind arith
 
 lines-items_from : (total : ℕ) (before gs : List Segment) → SegmentsHaveLines total before → SegmentsHaveLines total gs
     → ItemsHaveLines total (items_from before gs)

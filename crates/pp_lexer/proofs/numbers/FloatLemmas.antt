@@ -1,5 +1,5 @@
 -- What a float's text is, read from its front.
-use Rattle.std.proofs.Common.{◌≡◌, ℕ, List, [], ◌∷◌, drop, Bool, true, false, ◌&&◌, ◌||◌, ◌==◌, refl, sym, ◌∙◌, ap, inl, inr, if◌then◌else◌}
+use Rattle.std.proofs.Common.{◌≡◌, ℕ, List, [], ◌∷◌, drop, Bool, true, false, ◌&&◌, ◌||◌, ◌==◌, refl, sym, ◌∙◌, ap, inl, inr, if◌then◌else◌, arith}
 use Rattle.std.proofs.lemmas.Bool.{eqb-true, or_cases}
 use Rattle.pp_lexer.specs.Longest.{front_len}
 use Rattle.pp_lexer.specs.Numbers.{is_point, is_sign, is_decimal, digits}
@@ -13,21 +13,14 @@ use Rattle.pp_lexer.proofs.numbers.NumbersLemmas.{point_apart, small_e_apart, or
 -- one digit or more, and what follows
 module _ (p : ℕ → Bool) (tail : List ℕ → Bool) (ends : tail [] ≡ true) (apart : (c : ℕ) (w : List ℕ) → p c ≡ true → tail (c ∷ w) ≡ false) where
   pub some_is : (w : List ℕ) → begins_with p w ≡ true → one p (many p tail) w ≡ tail (drop (front_len p w) w)
-  some_is [] h = cc
-  some_is (c ∷ w) h =
-      let o : one p (many p tail) (c ∷ w) ≡ many p tail w = rw h refl in
-      o ∙ sym (many_pass p tail ends apart c w h) ∙ many_is p tail ends apart (c ∷ w)
+  some_is w h = grind (arith, many_pass, many_is)
 
 pub front_none : (p : ℕ → Bool) (w : List ℕ) → begins_with p w ≡ false → drop (front_len p w) w ≡ w
 front_none p [] h = refl
 front_none p (c ∷ w) h = let n : front_len p (c ∷ w) ≡ 0 = rw h refl in ap (λ k. drop k (c ∷ w)) n
 
 sign_power : (c : ℕ) (w : List ℕ) → is_sign c ≡ true → one is_decimal digits (c ∷ w) ≡ false
-sign_power c w h =
-    elim (or_cases (c == 43) (c == 45) h) [
-      | inl x ↦ rw (eqb-true c 43 x) refl
-      | inr x ↦ rw (eqb-true c 45 x) refl
-    ]
+sign_power c w h = grind (arith, or_cases, eqb-true)
 
 exponent_apart : (c : ℕ) (w : List ℕ) → is_decimal c ≡ true → float_exponent (c ∷ w) ≡ false
 exponent_apart c w h = rw (small_e_apart c h) refl
@@ -37,17 +30,7 @@ tail_apart c w h = rw (small_e_apart c h, point_apart c h) refl
 
 -- the set `one is_decimal digits` lacks the empty spelling, so `maybe` is opened here
 power_is : (t : List ℕ) → float_power t ≡ one is_decimal digits (drop (if begins_with is_sign t then 1 else 0) t)
-power_is [] = refl
-power_is (c ∷ t) = by (is_sign c) refl
-  where
-    by : (b : Bool) → is_sign c ≡ b → float_power (c ∷ t) ≡ one is_decimal digits (drop (if is_sign c then 1 else 0) (c ∷ t))
-    by true e =
-        let o : float_power (c ∷ t) ≡ (false || (true && one is_decimal digits t)) =
-        ap (λ b. b || (is_sign c && one is_decimal digits t)) (sign_power c t e) ∙ ap (λ b. false || (b && one is_decimal digits t)) e in
-        o ∙ ap (λ b. one is_decimal digits (drop (if b then 1 else 0) (c ∷ t))) (sym e)
-    by false e =
-        let o : float_power (c ∷ t) ≡ (one is_decimal digits (c ∷ t) || false) = ap (λ b. one is_decimal digits (c ∷ t) || (b && one is_decimal digits t)) e in
-        o ∙ or_false (one is_decimal digits (c ∷ t)) ∙ ap (λ b. one is_decimal digits (drop (if b then 1 else 0) (c ∷ t))) (sym e)
+power_is t = grind (arith, sign_power, or_false)
 
 mark_is : (t : List ℕ) → begins_with is_small_e t ≡ true → float_exponent t ≡ float_power (drop 1 t)
 mark_is [] h = cc
@@ -91,11 +74,7 @@ digits_first (c ∷ t) h =
 -- digits, a point and digits
 pub pointed_is : (t t1 t2 t3 : List ℕ) (d p : Bool) → d ≡ begins_with is_decimal t → d ≡ true → t1 ≡ drop (front_len is_decimal t) t
     → p ≡ begins_with is_point t1 → p ≡ true → t2 ≡ drop (if p then 1 else 0) t1 → t3 ≡ drop (front_len is_decimal t2) t2 → float_exponent t3 ≡ is_float_text t
-pointed_is t t1 t2 t3 d p a b e f g h i =
-    let after : float_exponent t3 ≡ many is_decimal float_exponent t2 = ap float_exponent i ∙ sym (many_is is_decimal float_exponent refl exponent_apart t2) in
-    let point : many is_decimal float_exponent t2 ≡ float_tail t1 = ap (many is_decimal float_exponent) (moved_true p t1 t2 g h)
-    ∙ sym (pointed_tail t1 (sym f ∙ g)) in
-    after ∙ point ∙ ap float_tail e ∙ sym (digits_first t (sym a ∙ b))
+pointed_is t t1 t2 t3 d p a b e f g h i = grind (arith, many_is, exponent_apart, moved_true, pointed_tail, digits_first)
 
 -- digits alone
 pub plain_is : (t t1 t2 : List ℕ) (d p : Bool) → d ≡ begins_with is_decimal t → d ≡ true → t1 ≡ drop (front_len is_decimal t) t

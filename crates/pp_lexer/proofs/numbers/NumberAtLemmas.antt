@@ -1,5 +1,5 @@
 -- The longest number of a text, and the reader after it.
-use Rattle.std.proofs.Common.{◌≡◌, ℕ, ◌+◌, List, length, take, drop, true, false, sym, ◌∙◌, ap, if◌then◌else◌}
+use Rattle.std.proofs.Common.{◌≡◌, ℕ, ◌+◌, List, length, take, drop, true, false, sym, ◌∙◌, ap, if◌then◌else◌, arith}
 use Rattle.std.proofs.lemmas.List.{length-take-le}
 use Rattle.pp_lexer.specs.Longest.{longest}
 use Rattle.pp_lexer.specs.Numbers.{is_number}
@@ -27,8 +27,4 @@ letters_after r r1 e = ap (λ x. letters x.rest) e ∙ letters-advanced (longest
 pub after_suffix : (suffix : List ℕ → ℕ) (word : List ℕ) (r r1 r2 : Reading) → word ≡ take (longest is_number (letters r.rest)) (letters r.rest)
     → r1 ≡ advanced (longest is_number (letters r.rest)) r → r2 ≡ advanced (suffix (letters r1.rest)) r1
     → r2 ≡ advanced (length word + suffix (letters r1.rest)) r
-after_suffix suffix word r r1 r2 s e f =
-    let n : length word ≡ longest is_number (letters r.rest) = ap length s
-    ∙ length-take-le (longest is_number (letters r.rest)) (letters r.rest) (longest_le is_number (letters r.rest)) in
-    f ∙ ap (advanced (suffix (letters r1.rest))) e ∙ advanced-advanced (longest is_number (letters r.rest)) (suffix (letters r1.rest)) r.rest r.last
-    ∙ ap (λ k. advanced (k + suffix (letters r1.rest)) r) (sym n)
+after_suffix suffix word r r1 r2 s e f = grind (arith, length-take-le, longest_le, advanced-advanced)

@@ -1,5 +1,5 @@
 -- The characters of numbers, and that a float's text is a number.
-use Rattle.std.proofs.Common.{◌≡◌, ℕ, Bool, false, ◌||◌, ◌==◌, [], ◌∷◌}
+use Rattle.std.proofs.Common.{◌≡◌, ℕ, Bool, false, ◌||◌, ◌==◌, [], ◌∷◌, arith}
 use Rattle.std.proofs.lemmas.Bool.{or_left, false≢true}
 use Rattle.pp_lexer.specs.Spellings.{nothing, one, many}
 use Rattle.pp_lexer.specs.Numbers.{is_zero, is_x, is_point, is_e, is_sign, is_decimal, is_hex, digits, exponent, fraction, decimal_tail, is_hex_number, is_number}
@@ -114,9 +114,7 @@ tail_part =
     (one_part is_point is_point (many is_decimal float_exponent) fraction (same is_point) fraction_part))
 
 digits_part : IsPart (one is_decimal (many is_decimal float_tail)) is_decimal_number
-digits_part =
-    one_part is_decimal is_decimal (many is_decimal float_tail) (many is_decimal decimal_tail) (same is_decimal)
-    (many_part is_decimal is_decimal float_tail decimal_tail (same is_decimal) tail_part)
+digits_part = grind (arith, one_part, same, many_part, tail_part)
 
 point_part : IsPart (one is_point (one is_decimal (many is_decimal float_exponent))) is_point_number
 point_part =

@@ -1,5 +1,5 @@
 -- A float's text is read as itself.
-use Rattle.std.proofs.Common.{◌≡◌, ℕ, List, [], ◌∷◌, ◌++◌, length, Bool, true, not, ◌&&◌, ◌==◌, add-zero, refl, sym, ◌∙◌, ap, inl, inr, map, filter, Ok, Err, None, pos, if◌then◌else◌}
+use Rattle.std.proofs.Common.{◌≡◌, ℕ, List, [], ◌∷◌, ◌++◌, length, Bool, true, not, ◌&&◌, ◌==◌, add-zero, refl, sym, ◌∙◌, ap, inl, inr, map, filter, Ok, Err, None, pos, if◌then◌else◌, arith}
 use Rattle.std.specs.List.{list_all}
 use Rattle.std.proofs.lemmas.Bool.{and_parts, or_cases, eqb-true, eq-eqb}
 use Rattle.pp_lexer.specs.declared.token.Float.{Float as FloatLiteral}
@@ -30,11 +30,7 @@ mark_kept : Implies is_small_e is_kept
 mark_kept c e = ap is_kept (eqb-true c 101 e)
 
 sign_kept : Implies is_sign is_kept
-sign_kept c e =
-    elim (or_cases (c == 43) (c == 45) e) [
-      | inl x ↦ ap is_kept (eqb-true c 43 x)
-      | inr x ↦ ap is_kept (eqb-true c 45 x)
-    ]
+sign_kept c e = grind (arith, or_cases, eqb-true)
 
 all_kept : (w : List ℕ) → list_all is_kept w ≡ true → float_text w ≡ w
 all_kept [] h = refl
@@ -49,23 +45,16 @@ pub float_text_same : (w : List ℕ) → is_float_text w ≡ true → float_text
 float_text_same w h = all_kept w (made_float_text is_kept decimal_kept point_kept mark_kept sign_kept w h)
 
 pub value_same : (w : List ℕ) → is_float_text w ≡ true → float_value w ≡ Ok (Float (record { text = w; width = pos 32 }))
-value_same w h =
-    ap (λ x. if is_float_text x then Ok (Float (record { text = x; width = pos 32 })) else Err FloatParsingError) (float_text_same w h)
-    ∙ ap (λ b. if b then Ok (Float (record { text = w; width = pos 32 })) else Err FloatParsingError) h
+value_same w h = grind (arith, float_text_same)
 
 no_refusal : (cs : List ℕ) → IsBreak cs → width_refusal is_h cs ≡ None
 no_refusal cs b = rw (break_begins is_l refl cs b, break_begins is_h refl cs b) refl
 
 float_word : (w cs : List ℕ) → is_float_text w ≡ true → is_float w ≡ true → IsBreak cs
     → word_at (w ++ cs) ≡ record { value = Ok (Float (record { text = w; width = pos 32 })); taken = length w }
-float_word w cs h f b =
-    let here : number_outcome w cs ≡ float_outcome w cs = rw f refl in
-    spelled_number w cs (float_text_number w h) (number_ends cs b) ∙ here
-    ∙ rw (no_refusal cs b, value_same w h, break_begins is_f refl cs b, add-zero (length w)) refl
+float_word w cs h f b = grind (arith, spelled_number, float_text_number, number_ends, no_refusal, value_same, break_begins, add-zero)
 
 -- a float is read as itself
 pub spelled_float : (f : FloatLiteral) (cs : List ℕ) → is_float_text f.text ≡ true → is_float f.text ≡ true → f.width ≡ pos 32 → IsBreak cs
     → word_at (f.text ++ cs) ≡ record { value = Ok (Float f); taken = length f.text }
-spelled_float f cs h k e b =
-    let same : ◌≡◌ {A = FloatLiteral} (record { text = f.text; width = pos 32 }) f = λ k. record { text = f.text; width = sym e k } in
-    float_word f.text cs h k b ∙ (λ i. record { value = Ok (Float (same i)); taken = length f.text })
+spelled_float f cs h k e b = grind (arith, float_word)

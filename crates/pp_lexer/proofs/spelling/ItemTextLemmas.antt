@@ -1,5 +1,5 @@
 -- The text of an item, as it is written piece by piece.
-use Rattle.std.proofs.Common.{◌≡◌, ℕ, ◌^◌, ◌<◌, true, false, List, [], ◌∷◌, ◌++◌, filter, codes, get_or, length, take, ◌+◌, refl, sym, ap, ◌∙◌, lit<}
+use Rattle.std.proofs.Common.{◌≡◌, ℕ, ◌^◌, ◌<◌, true, false, List, [], ◌∷◌, ◌++◌, filter, codes, get_or, length, take, ◌+◌, refl, sym, ap, ◌∙◌, lit<, arith}
 use Rattle.std.specs.Fmt.{decimal}
 use Rattle.std.specs.List.{flat_map}
 use Rattle.std.specs.Str.{chars, encode_utf8_all, IsUtf8}
@@ -39,13 +39,7 @@ module _ (i : IntegerLiteral) (fits : i.value < 2 ^ 64) where
 
 -- the entry of a token is spelled as the token is
 pub leaf_spelled : (value : TokenValue) → leaf_spelling (leaf_of value) ≡ spelling value
-leaf_spelled (Ident _) = refl
-leaf_spelled (Integer _) = refl
-leaf_spelled (Float _) = refl
-leaf_spelled (Punct _) = refl
-leaf_spelled (Version _) = refl
-leaf_spelled (Extension _) = refl
-leaf_spelled (Pragma _) = refl
+leaf_spelled value = grind arith
 
 abbrev pub entry_word : Entry → List ℕ
 entry_word e = 32 ∷ leaf_spelling e.leaf
@@ -69,17 +63,12 @@ spaced text = ap (λ space. space ++ encode_utf8_all text) (encode_ascii 32 (lit
 
 bytes_of_words : (ts : List Token) → encode_utf8_all (flat_map token_word ts) ≡ flat_map token_bytes ts
 bytes_of_words [] = refl
-bytes_of_words (t ∷ ts) =
-    encodes-append (32 ∷ spelling t.value) (flat_map token_word ts) ∙ ap (λ word. word ++ encode_utf8_all (flat_map token_word ts)) (spaced (spelling t.value))
-    ∙ ap (λ rest. token_bytes t ++ rest) (bytes_of_words ts)
+bytes_of_words (t ∷ ts) = grind (arith, encodes-append, spaced, bytes_of_words ts)
 
 -- a directive's word, and each of its tokens after a space
 pub directive_bytes : (word : List ℕ) (ts : List Token) (entries : List Entry) → IsUtf8 word → preorder ts ≡ entries
     → word ++ flat_map token_bytes ts ≡ encode_utf8_all (with_tokens (chars word) entries)
-directive_bytes word ts entries u e =
-    sym (ap (λ es. encode_utf8_all (with_tokens (chars word) es)) (sym e) ∙ encodes-append (chars word) (flat_map entry_word (filter is_outermost (preorder ts)))
-    ∙ ap (λ start. start ++ encode_utf8_all (flat_map entry_word (filter is_outermost (preorder ts)))) (encodes-chars word u)
-    ∙ ap (λ rest. word ++ rest) (ap encode_utf8_all (words_of_entries ts) ∙ bytes_of_words ts))
+directive_bytes word ts entries u e = grind (arith, encodes-append, filter, encodes-chars, words_of_entries, bytes_of_words)
 
 -- one more of the tokens after a space
 pub one_more : (word : List ℕ) (ts : List Token) (i : ℕ) (t : Token) → i < length ts → t ≡ get_or ts i t

@@ -18,16 +18,7 @@ use Rattle.pp_lexer.proofs.words.SetsLemmas.{not_true}
 
 -- a number that is read is below 2^64
 whole_small : (base : ℕ) (ds : List ℕ) (n : ℕ) → whole base ds ≡ Some n → n < 2 ^ 64
-whole_small base [] n h = cc
-whole_small base (c ∷ cs) n h = by (list_all (λ x. is_digit x base) (c ∷ cs)) (nat_lt value (2 ^ 64)) refl h
-  where
-    value : ℕ
-    value = digits_value_after base 0 (c ∷ cs)
-
-    by : (a b : Bool) → nat_lt value (2 ^ 64) ≡ b → (if a && b then Some value else None) ≡ Some n → n < 2 ^ 64
-    by true true e k = let same : value ≡ n = cc in omega (arith, same, ltb-true value (2 ^ 64) e)
-    by true false e k = cc
-    by false b e k = cc
+whole_small base ds n h = grind (arith, ltb-true)
 
 integer_spelled : (signed : Bool) (o : Option ℕ) → ((n : ℕ) → o ≡ Some n → n < 2 ^ 64) → IsSpelled (integer_of signed o)
 integer_spelled signed None h = tt
@@ -41,32 +32,13 @@ refused_spelled (Some fault) a h = tt
 
 no_x_kept : (w : List ℕ) → list_all (λ c. not (is_x c)) (float_text w) ≡ true
 no_x_kept [] = refl
-no_x_kept (c ∷ w) = by (is_x c) (is_e c) refl refl (no_x_kept w)
-  where
-    by : (a b : Bool) → is_x c ≡ a → is_e c ≡ b → list_all (λ c. not (is_x c)) (float_text w) ≡ true → list_all (λ c. not (is_x c)) (float_text (c ∷ w)) ≡ true
-    by true b e f h = rw e h
-    by false true e f h = rw (e, f) h
-    by false false e f h = rw (e, f, e) h
+no_x_kept (c ∷ w) = grind (arith, no_x_kept w)
 
 no_hex : (w : List ℕ) → list_all (λ c. not (is_x c)) w ≡ true → begins_hex w ≡ false
-no_hex w h = and_right (begins_with is_zero w) (begins_with is_x (after_first w)) (second w h)
-  where
-    second : (w : List ℕ) → list_all (λ c. not (is_x c)) w ≡ true → begins_with is_x (after_first w) ≡ false
-    second [] h = refl
-    second (c ∷ []) h = refl
-    second (c ∷ d ∷ w) h =
-        let b = and_parts (not (is_x c)) (not (is_x d) && list_all (λ c. not (is_x c)) w) h in
-        not_true (is_x d) (and_parts (not (is_x d)) (list_all (λ c. not (is_x c)) w) b.1).0
+no_hex w h = grind (arith, and_right, and_parts, not_true)
 
 marked : (hex : Bool) (c : ℕ) (w : List ℕ) → is_float_mark hex c ≡ true → list_any (is_float_mark false) (float_text (c ∷ w)) ≡ true
-marked hex c w h =
-    elim (or_cases (is_point c) (not hex && is_e c) h) [
-      | inl p ↦ ap (λ k. list_any (is_float_mark false) (float_text (k ∷ w))) (eqb-true c 46 p)
-      | inr q ↦ elim (or_cases (c == 101) (c == 69) (and_parts (not hex) (is_e c) q).1) [
-        | inl e ↦ ap (λ k. list_any (is_float_mark false) (float_text (k ∷ w))) (eqb-true c 101 e)
-        | inr e ↦ ap (λ k. list_any (is_float_mark false) (float_text (k ∷ w))) (eqb-true c 69 e)
-      ]
-    ]
+marked hex c w h = grind (arith, or_cases, eqb-true, and_parts)
 
 mark_kept : (hex : Bool) (w : List ℕ) → list_any (is_float_mark hex) w ≡ true → list_any (is_float_mark false) (float_text w) ≡ true
 mark_kept hex [] h = cc
@@ -84,12 +56,7 @@ still_float : (w : List ℕ) → is_float w ≡ true → is_float (float_text w)
 still_float w h = ap (λ b. list_any (is_float_mark b) (float_text w)) (no_hex (float_text w) (no_x_kept w)) ∙ mark_kept (begins_hex w) w h
 
 float_spelled : (w : List ℕ) → is_float w ≡ true → IsSpelled (float_value w)
-float_spelled w h = by (is_float_text (float_text w)) refl
-  where
-    by : (b : Bool) → is_float_text (float_text w) ≡ b → IsSpelled (if b then Ok
-        (Float (record { text = float_text w; width = pos 32 })) else Err FloatParsingError)
-    by true e = (e, still_float w h, refl)
-    by false e = tt
+float_spelled w h = grind (arith, still_float)
 
 -- an error, or a value that can be spelled
 pub number_spelled : (w after : List ℕ) → IsSpelled (number_outcome w after).value

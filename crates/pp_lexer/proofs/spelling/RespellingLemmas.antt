@@ -1,5 +1,5 @@
 -- The spellings of values, with spaces between them, are read back as these values.
-use Rattle.std.proofs.Common.{◌≡◌, ℕ, zero, suc, List, [], ◌∷◌, ◌++◌, map, length, drop, Bool, true, false, ◌&&◌, ◌||◌, append-nil, refl, sym, ◌∙◌, ap, Ok, Err, Result, if◌then◌else◌}
+use Rattle.std.proofs.Common.{◌≡◌, ℕ, zero, suc, List, [], ◌∷◌, ◌++◌, map, length, drop, Bool, true, false, ◌&&◌, ◌||◌, append-nil, refl, sym, ◌∙◌, ap, Ok, Err, Result, if◌then◌else◌, arith}
 use Rattle.std.specs.Prelude.{All}
 use Rattle.std.specs.Str.{encode_utf8_all}
 use Rattle.std.proofs.lemmas.List.{drop_at}
@@ -40,13 +40,7 @@ outcome_of v = record { value = Ok (lexer_value v); taken = length (spelling v) 
 
 -- a spelling with a space or the end after it is read as its value
 pub spelled_word : (v : TokenValue) (cs : List ℕ) → IsSpellable v → IsBreak cs → word_at (spelling v ++ cs) ≡ outcome_of v
-spelled_word (Ident name) cs h b = spelled_identifier name cs h.0 b
-spelled_word (Integer i) cs h b = spelled_integer i cs h.0 h.1 b
-spelled_word (Float f) cs h b = spelled_float f cs h.0 h.1 h.2 b
-spelled_word (Punct p) cs h b = spelled_punctuator p cs b
-spelled_word (Version v) cs h b = absurd h
-spelled_word (Extension e) cs h b = absurd h
-spelled_word (Pragma p) cs h b = absurd h
+spelled_word v cs h k = grind (arith, spelled_identifier, spelled_integer, spelled_float, spelled_punctuator)
 
 -- the characters of what is left
 pub letters-drop : (n : ℕ) (ss : List Spot) → letters (drop n ss) ≡ drop n (letters ss)
@@ -64,31 +58,10 @@ record IsFirst (s : Spot) (ss : List Spot) (v : TokenValue) (cs : List ℕ) : Ty
   after : letters (drop (taken_by s ss) (s ∷ ss)) ≡ cs
 
 first_value : (s : Spot) (ss : List Spot) (v : TokenValue) (cs : List ℕ) → IsSpellable v → IsBreak cs → letters (s ∷ ss) ≡ spelling v ++ cs → IsFirst s ss v cs
-first_value s ss v cs h b e = by (is_blank s.c) refl
-  where
-    read : word_at (letters (s ∷ ss)) ≡ outcome_of v
-    read = ap word_at e ∙ spelled_word v cs h b
-
-    by : (t : Bool) → is_blank s.c ≡ t → IsFirst s ss v cs
-    by true f =
-        let none : word_at (letters (s ∷ ss)) ≡ record { value = Err UnexpectedCharacter; taken = 3 } =
-        no_word (letters (s ∷ ss)) (longest_blank s.c (letters ss) f) in
-        let fault : ◌≡◌ {A = Result LexerTokenValue PreprocessorError} (Ok (lexer_value v)) (Err UnexpectedCharacter) = ap (λ o. o.value) (sym read ∙ none) in
-        cc
-    by false f =
-        let taken : taken_by s ss ≡ length (spelling v) = ap (λ t. if t then 1 else (word_at (letters (s ∷ ss))).taken) f ∙ ap (λ o. o.taken) read in
-        record {
-          kind = ap (λ t. if t then (if is_mark s.c then comment else blank) else item (word_at (letters (s ∷ ss))).value) f ∙ ap (λ o. item o.value) read;
-          after = ap (λ n. letters (drop n (s ∷ ss))) taken ∙ letters-drop (length (spelling v)) (s ∷ ss) ∙ ap (drop (length (spelling v))) e
-              ∙ drop_at (spelling v) cs (length (spelling v)) refl;
-        }
+first_value s ss v cs h b e = grind (arith, spelled_word, no_word, longest_blank, letters-drop, drop_at)
 
 nothing_read : (v : TokenValue) (cs : List ℕ) → IsSpellable v → IsBreak cs → [] ≡ spelling v ++ cs → ⊥
-nothing_read v cs h b e =
-    let none : word_at [] ≡ record { value = Err UnexpectedCharacter; taken = 3 } = no_word [] (longest_empty is_word) in
-    let fault : ◌≡◌ {A = Result LexerTokenValue PreprocessorError} (Ok (lexer_value v)) (Err UnexpectedCharacter) =
-    ap (λ o. o.value) (sym (ap word_at e ∙ spelled_word v cs h b) ∙ none) in
-    cc
+nothing_read v cs h b e = grind (arith, no_word, longest_empty, spelled_word)
 
 -- the values of items
 abbrev pub values_in : List Item → List (Result LexerTokenValue PreprocessorError)
@@ -99,16 +72,12 @@ module _ (before : List Segment) (s : Spot) (ss : List Spot) where
   items_first : (k : Kind) → kind_of s ss ≡ k → items_from before (segments (s ∷ ss)) ≡ item_at before (segment_at s ss) k ++ items_from
       (segment_at s ss ∷ before) (segments (drop (taken_by s ss) (s ∷ ss)))
   unfolding items_from
-  items_first k e =
-      ap (items_from before) (segments_first s ss)
-      ∙ ap (λ x. item_at before (segment_at s ss) x ++ items_from (segment_at s ss ∷ before) (segments (drop (taken_by s ss) (s ∷ ss)))) e
+  items_first k e = grind (arith, items_from, segments_first)
 
 last_newline : (g : Segment) (before : List Segment) (v : LexerTokenValue) → g.kind ≡ item (Ok v) → is_newline_value v ≡ false
     → values_in (items_from (g ∷ before) (segments [])) ≡ Ok NewLine ∷ []
 unfolding items_from
-last_newline g before v e n =
-    let inside : start_of_line (g ∷ before) ≡ false = ap (λ k. is_newline k || (is_blank_or_comment k && start_of_line before)) e ∙ ap (λ b. b || false) n in
-    ap (λ gs. values_in (items_from (g ∷ before) gs)) segments_none ∙ rw inside refl
+last_newline g before v e n = grind (arith, items_from, segments_none)
 
 no_newline : (v : TokenValue) → is_newline_value (lexer_value v) ≡ false
 no_newline (Ident name) = refl

@@ -35,17 +35,10 @@ abbrev is_calm : ℕ → Bool
 is_calm c = is_other 10 c && (is_other 13 c && (is_other 92 c && is_other 47 c))
 
 calm_class : (p : ℕ → Bool) → p 10 ≡ false → p 13 ≡ false → p 92 ≡ false → p 47 ≡ false → Implies p is_calm
-calm_class p a b d e c h =
-    both (is_other 10 c) (is_other 13 c && (is_other 92 c && is_other 47 c)) (missing p 10 a c h)
-    (both (is_other 13 c) (is_other 92 c && is_other 47 c) (missing p 13 b c h)
-    (both (is_other 92 c) (is_other 47 c) (missing p 92 d c h) (missing p 47 e c h)))
+calm_class p a b d e c h = grind (arith, both, is_other, missing)
 
 calm_char : (a b d e other : Bool) → (not a && (not b && (not d && not e))) ≡ true → ((a || b) ≡ false) × (d ≡ false) × ((e && other) ≡ false)
-calm_char true b d e other h = cc
-calm_char false true d e other h = cc
-calm_char false false true e other h = cc
-calm_char false false false true other h = cc
-calm_char false false false false other h = (refl, refl, refl)
+calm_char a b d e other h = grind arith
 
 calm_plain : (w : List ℕ) → list_all is_calm w ≡ true → IsPlain w
 calm_plain [] h = tt
@@ -99,11 +92,7 @@ mark_safe : Implies is_small_e is_safe
 mark_safe c e = ap is_safe (eqb-true c 101 e)
 
 sign_safe : Implies is_sign is_safe
-sign_safe c e =
-    elim (or_cases (c == 43) (c == 45) e) [
-      | inl x ↦ ap is_safe (eqb-true c 43 x)
-      | inr x ↦ ap is_safe (eqb-true c 45 x)
-    ]
+sign_safe c e = grind (arith, or_cases, eqb-true)
 
 float_safe : IsMadeOf is_safe is_float_text
 float_safe = made_float_text is_safe decimal_safe point_safe mark_safe sign_safe
@@ -148,10 +137,7 @@ pub record IsClean (w : List ℕ) : Type 0 where
   pub scalars : all_scalars w ≡ true
 
 safe_clean : (w : List ℕ) → list_all is_safe w ≡ true → IsClean w
-safe_clean w h = record {
-  plain = calm_plain w (all_implied is_safe is_calm (λ c e. (and_parts (is_calm c) (scalar c) e).0) w h);
-  scalars = scalars_all w (all_implied is_safe scalar (λ c e. (and_parts (is_calm c) (scalar c) e).1) w h);
-}
+safe_clean w h = grind (arith, calm_plain, all_implied, and_parts, scalar, scalars_all)
 
 spelling_clean : (v : TokenValue) → IsSpellable v → IsClean (spelling v)
 spelling_clean (Ident name) h = record { plain = calm_plain name (identifier_calm name h.0); scalars = h.1 }

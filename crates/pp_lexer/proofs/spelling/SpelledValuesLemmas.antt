@@ -1,5 +1,5 @@
 -- What the lexer gives of a source can be spelled.
-use Rattle.std.proofs.Common.{◌≡◌, ℕ, zero, suc, List, [], ◌∷◌, ◌++◌, length, take, drop, Bool, true, false, refl, sym, ◌∙◌, ap, subst, Ok, Err, Option, Some, None, option_map, if◌then◌else◌}
+use Rattle.std.proofs.Common.{◌≡◌, ℕ, zero, suc, List, [], ◌∷◌, ◌++◌, length, take, drop, Bool, true, false, refl, sym, ◌∙◌, ap, subst, Ok, Err, Option, Some, None, option_map, if◌then◌else◌, arith}
 use Rattle.std.specs.Prelude.{All, ⊤}
 use Rattle.std.specs.List.{list_all}
 use Rattle.std.specs.Str.{IsUtf8, all_scalars}
@@ -30,23 +30,10 @@ use Rattle.pp_lexer.proofs.words.SetsLemmas.{both}
 use Rattle.pp_lexer.proofs.spelling.SpelledTextLemmas.{scalars_all}
 
 punctuation_spelled : (n : ℕ) (w : List ℕ) → IsSpelled (punctuation_outcome n (punctuation_value w)).value
-punctuation_spelled n w = by (is_hash w) (punct_of w)
-  where
-    by : (b : Bool) (o : Option _) → IsSpelled (punctuation_outcome n (if b then Some Hash else option_map Punct o)).value
-    by true o = tt
-    by false None = tt
-    by false (Some p) = tt
+punctuation_spelled n w = grind arith
 
 word_spelled : (w after : List ℕ) → all_scalars w ≡ true → IsSpelled (word_outcome w after).value
-word_spelled w after h = by (is_newline_word w) (is_identifier w) (is_number w) refl
-  where
-    by : (a b d : Bool) → is_identifier w ≡ b
-        → IsSpelled (if a then record { value = Ok NewLine; taken = 1 } else if b then record
-        { value = Ok (Ident w); taken = length w } else if d then number_outcome w after else punctuation_outcome (length w) (punctuation_value w)).value
-    by true b d e = tt
-    by false true d e = (e, h)
-    by false false true e = number_spelled w after
-    by false false false e = punctuation_spelled (length w) w
+word_spelled w after h = grind (arith, number_spelled, punctuation_spelled)
 
 take_scalar : (n : ℕ) (w : List ℕ) → list_all scalar w ≡ true → list_all scalar (take n w) ≡ true
 take_scalar zero w h = refl
@@ -61,9 +48,7 @@ drop_scalar (suc n) (c ∷ w) h = drop_scalar n w (and_parts (scalar c) (list_al
 -- what stands at a place of such characters
 place_spelled : (cs : List ℕ) → list_all scalar cs ≡ true → IsSpelled (word_at cs).value
 unfolding word_at
-place_spelled cs h =
-    let n : ℕ = longest is_word cs in
-    word_spelled (take n cs) (drop n cs) (scalars_all (take n cs) (take_scalar n cs h))
+place_spelled cs h = grind (arith, word_spelled, scalars_all, take_scalar)
 
 -- Items
 
@@ -73,27 +58,14 @@ KindIsSpelled comment = ⊤
 KindIsSpelled (item r) = IsSpelled r
 
 kind_spelled : (s : Spot) (ss : List Spot) → list_all scalar (letters (s ∷ ss)) ≡ true → KindIsSpelled (kind_of s ss)
-kind_spelled s ss h = by (is_blank s.c) (is_mark s.c)
-  where
-    by : (a b : Bool) → KindIsSpelled (if a then (if b then comment else blank) else item (word_at (letters (s ∷ ss))).value)
-    by true true = tt
-    by true false = tt
-    by false b = place_spelled (letters (s ∷ ss)) h
+kind_spelled s ss h = grind (arith, place_spelled)
 
 item_spelled : (before : List Segment) (g : Segment) (k : Kind) (is : List Item) → KindIsSpelled k → All IsSpelled (values_in is)
     → All IsSpelled (values_in (item_at before g k ++ is))
-item_spelled before g blank is k h = h
-item_spelled before g comment is k h = h
-item_spelled before g (item (Ok v)) is k h = All-cons IsSpelled (Ok v) (values_in is) k h
-item_spelled before g (item (Err e)) is k h = All-cons IsSpelled (Err e) (values_in is) tt h
+item_spelled before g k is h e = grind (arith, All-cons, values_in)
 
 newline_spelled : (before : List Segment) → All IsSpelled (values_in (final_newline before))
-newline_spelled [] = All-nil IsSpelled
-newline_spelled (g ∷ gs) = by (start_of_line (g ∷ gs)) refl
-  where
-    by : (b : Bool) → start_of_line (g ∷ gs) ≡ b → All IsSpelled (values_in (final_newline (g ∷ gs)))
-    by true e = rw e (All-nil IsSpelled)
-    by false e = rw e (All-cons IsSpelled (Ok NewLine) [] tt (All-nil IsSpelled))
+newline_spelled before = grind (arith, All-nil, values_in, All-cons)
 
 segments_spelled : (n : ℕ) (before : List Segment) (ss : List Spot) → list_all scalar (letters ss) ≡ true
     → All IsSpelled (values_in (items_from before (segments_within n ss)))

@@ -50,9 +50,7 @@ some_of P (c ∷ w) h e = omega arith
 -- no identifier has a character that neither begins nor continues one
 pub identifier_lacks : (k : ℕ) → is_start k ≡ false → is_xid_continue k ≡ false → Lacks k is_identifier
 unfolding is_identifier
-identifier_lacks k s c =
-    made_one (is_other k) is_start (many is_xid_continue nothing) (missing is_start k s)
-    (made_many (is_other k) is_xid_continue nothing (missing is_xid_continue k c) (made_nothing (is_other k)))
+identifier_lacks k s c = grind (arith, made_one, is_other, missing, made_many, made_nothing)
 
 identifier_some : (w : List ℕ) → is_identifier w ≡ true → 0 < length w
 unfolding is_identifier
@@ -81,14 +79,7 @@ number_some w e = some_of is_number w refl e
 -- a number that ends here is read by its spelling and what stands after it
 pub spelled_number : (w cs : List ℕ) → is_number w ≡ true → EndsBefore is_number cs → word_at (w ++ cs) ≡ number_outcome w cs
 unfolding number_at
-spelled_number w cs e ends = by (begins_number (w ++ cs)) refl
-  where
-    by : (t : Bool) → begins_number (w ++ cs) ≡ t → word_at (w ++ cs) ≡ number_outcome w cs
-    by false f = absurd (false≢true (sym (no_number_here (w ++ cs) (length w) f) ∙ ap is_number (take-append_seam w cs) ∙ e))
-    by true f =
-        let text : take (longest is_number (w ++ cs)) (w ++ cs) ≡ w = taken_before is_number w (number_some w e) e cs ends in
-        let after : drop (longest is_number (w ++ cs)) (w ++ cs) ≡ cs = after_before is_number w (number_some w e) e cs ends in
-        number_first (w ++ cs) f ∙ (λ i. number_outcome (text i) (after i))
+spelled_number w cs e ends = grind (arith, false≢true, no_number_here, take-append_seam, taken_before, number_some, after_before, number_first)
 
 -- a number ends before a space
 pub number_ends : (cs : List ℕ) → IsBreak cs → EndsBefore is_number cs
@@ -140,9 +131,7 @@ no_line_end AddAssign cs = refl
 no_line_end _ cs = refl
 
 no_number : (p : Punctuator) (cs : List ℕ) → begins_with is_decimal cs ≡ false → begins_number (punctuator p ++ cs) ≡ false
-no_number Dot cs h = h
-no_number AddAssign cs h = refl
-no_number _ cs h = refl
+no_number p cs h = grind arith
 
 -- a punctuator is read as itself
 pub spelled_punctuator : (p : Punctuator) (cs : List ℕ) → IsBreak cs

@@ -1,5 +1,5 @@
 -- `==` of tokens and of errors decides whether they are equal.
-use Rattle.std.proofs.Common.{◌≡◌, ap, rules}
+use Rattle.std.proofs.Common.{◌≡◌, ap, rules, arith}
 use Rattle.std.specs.Bool.{Decides}
 use Rattle.std.specs.Cmp.Lexicographic.{bytes_decides}
 use Rattle.std.proofs.lemmas.Bool.Decides.{Decides-and, Decides-like}
@@ -66,11 +66,7 @@ value_decides =
     )
 
 pub token_decides : (a b : Token) → Decides (token_eq.it a b) (a ≡ b)
-token_decides a b =
-    Decides-like _
-    (λ p i. record { value = p.0 i; location = p.1 i })
-    (λ e. (ap (λ x. x.value) e, ap (λ x. x.location) e))
-    (Decides-and _ _ (value_decides a.value b.value) (location_decides a.location b.location))
+token_decides a b = grind (arith, Decides-like, Decides-and, value_decides)
 
 unexpected_decides : (x y : TokenValue × Unit {0}) → Decides (value_eq.it x.0 y.0) (x ≡ y)
 unexpected_decides = one_decides _ value_decides
@@ -92,9 +88,4 @@ lexer_value_decides =
     )
 
 pub lexer_token_decides : (a b : LexerToken) → Decides (lexer_token_eq.it a b) (a ≡ b)
-lexer_token_decides a b =
-    Decides-like _
-    (λ p i. record { value = p.0 i; location = p.1.0 i; leading_whitespace = p.1.1.0 i; start_of_line = p.1.1.1 i })
-    (λ e. (ap (λ x. x.value) e, (ap (λ x. x.location) e, (ap (λ x. x.leading_whitespace) e, ap (λ x. x.start_of_line) e))))
-    (Decides-and _ _ (lexer_value_decides a.value b.value) (Decides-and _ _ (location_decides a.location b.location)
-    (Decides-and _ _ (beq_decides a.leading_whitespace b.leading_whitespace) (beq_decides a.start_of_line b.start_of_line))))
+lexer_token_decides a b = grind (arith, Decides-like, Decides-and, lexer_value_decides)

@@ -53,22 +53,7 @@ siblings-inner (e ∷ es) ts = rw (deeper-is_outermost e) (siblings-inner es ts)
 
 -- a value is known by its leaf and the entries inside it
 value_same : (v w : TokenValue) → leaf_of v ≡ leaf_of w → inner v ≡ inner w → v ≡ w
-value_same (Ident s) (Ident t) e f = cc
-value_same (Integer s) (Integer t) e f = cc
-value_same (Float s) (Float t) e f =
-    let a : s.text ≡ t.text = cc in
-    let b : s.width ≡ t.width = cc in
-    λ i. Float (record { text = a i; width = b i })
-value_same (Punct s) (Punct t) e f = cc
-value_same (Version s) (Version t) e f =
-    let a : s.is_first_directive ≡ t.is_first_directive = cc in
-    let b : s.has_comments_before ≡ t.has_comments_before = cc in
-    λ i. Version (record { tokens = f i; is_first_directive = a i; has_comments_before = b i })
-value_same (Extension s) (Extension t) e f =
-    let a : s.has_non_directive_before ≡ t.has_non_directive_before = cc in
-    λ i. Extension (record { tokens = f i; has_non_directive_before = a i })
-value_same (Pragma s) (Pragma t) e f = λ i. Pragma (record { tokens = f i })
-value_same _ _ e f = cc
+value_same v w h k = grind arith
 
 -- the entry of a token itself
 abbrev head_of : Token → Entry
@@ -101,9 +86,7 @@ none_kept [] ts = refl
 none_kept (e ∷ es) ts = rw (deeper-is_outermost e) (none_kept es ts)
 
 count_by-deeper : (e : Entry) (es : List Entry) → count_by is_outermost (deeper e ∷ es) ≡ count_by is_outermost es
-count_by-deeper e es =
-    let none : ◌≡◌ {A = ℕ} (cond (is_outermost (deeper e)) 1 0) 0 = ap (λ b. cond b 1 0) (deeper-is_outermost e) in
-    omega (arith, none, sum_by-cons (λ x. cond (is_outermost x) 1 0) (deeper e) es)
+count_by-deeper e es = grind (arith, deeper-is_outermost, sum_by-cons)
 
 none_outermost : (es : List Entry) (ts : List Token) → count_by is_outermost (map deeper es ++ preorder ts) ≡ count_by is_outermost (preorder ts)
 none_outermost [] ts = refl

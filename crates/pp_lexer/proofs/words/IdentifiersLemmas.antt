@@ -1,5 +1,5 @@
 -- The longest identifier is a first character and all that may continue it.
-use Rattle.std.proofs.Common.{◌≡◌, ℕ, suc, List, [], ◌∷◌, take, true, refl, sym, ◌∙◌, ap, Some, option_map}
+use Rattle.std.proofs.Common.{◌≡◌, ℕ, suc, List, [], ◌∷◌, take, true, refl, sym, ◌∙◌, ap, Some, option_map, arith}
 use Rattle.unicode_ident.specs.Ident.{is_xid_continue}
 use Rattle.pp_lexer.specs.declared.lexer.char_iterator.Spot.{Spot}
 use Rattle.pp_lexer.specs.Identifiers.{is_start, is_identifier, begins_identifier}
@@ -21,15 +21,4 @@ pub record IsRead (ss : List Spot) (last : Spot) (t : List ℕ) (r : Reading) : 
 pub identifier_read : (ss : List Spot) (last : Spot) (c : ℕ) (t : List ℕ) (q r : Reading) → begins_identifier (letters ss) ≡ true
     → Some c ≡ option_map (λ s. s.c) (first_of ss) → q ≡ past ss last → t ≡ c ∷ take (front_len is_xid_continue (letters q.rest)) (letters q.rest)
     → r ≡ advanced (front_len is_xid_continue (letters q.rest)) q → IsRead ss last t r
-identifier_read [] last c t q r b e f g h = cc
-identifier_read (s ∷ ss) last c t q r b e f g h =
-    let li : longest is_identifier (s.c ∷ letters ss) ≡ suc (front_len is_xid_continue (letters ss)) = longest_identifier s.c (letters ss) b in
-    let k : c ≡ s.c = cc in
-    let g' : t ≡ s.c ∷ take (front_len is_xid_continue (letters ss)) (letters ss) =
-    g ∙ ap (λ x. x ∷ take (front_len is_xid_continue (letters q.rest)) (letters q.rest)) k
-    ∙ ap (λ x. s.c ∷ take (front_len is_xid_continue (letters x.rest)) (letters x.rest)) f in
-    let h' : r ≡ advanced_of (front_len is_xid_continue (letters ss)) ss s = h ∙ ap (λ x. advanced (front_len is_xid_continue (letters x.rest)) x) f in
-    record {
-      text = g' ∙ sym (ap (λ n. take n (s.c ∷ letters ss)) li);
-      state = h' ∙ sym (ap (λ n. advanced_of n (s ∷ ss) last) li);
-    }
+identifier_read ss last c t q r h k e l u = grind (arith, longest_identifier)

@@ -1,5 +1,5 @@
 -- Sets of spellings that lie in others, segment by segment.
-use Rattle.std.proofs.Common.{◌≡◌, ℕ, List, [], ◌∷◌, Bool, true, false, ◌&&◌, ◌||◌, ◌==◌, not, refl, sym, ◌∙◌, ap, inl, inr}
+use Rattle.std.proofs.Common.{◌≡◌, ℕ, List, [], ◌∷◌, Bool, true, false, ◌&&◌, ◌||◌, ◌==◌, not, refl, sym, ◌∙◌, ap, inl, inr, arith}
 use Rattle.std.specs.List.{list_all}
 use Rattle.std.proofs.lemmas.Bool.{or_cases, or_left, or_right, and_parts, ne_eqb, false≢true}
 use Rattle.pp_lexer.specs.Spellings.{nothing, one, many, maybe, optional}
@@ -35,11 +35,7 @@ both false b e f = e
 
 -- a union lies where both sets lie
 pub union_part : (P Q R : List ℕ → Bool) → IsPart P R → IsPart Q R → IsPart (λ w. P w || Q w) R
-union_part P Q R h k w e =
-    elim (or_cases (P w) (Q w) e) [
-      | inl x ↦ h w x
-      | inr y ↦ k w y
-    ]
+union_part P Q R h k w e = grind (arith, or_cases)
 
 -- what lies in a set lies in its union with another
 pub left_part : (P Q R : List ℕ → Bool) → IsPart P Q → IsPart P (λ w. Q w || R w)
@@ -74,19 +70,11 @@ module _ (p q : ℕ → Bool) (P Q : List ℕ → Bool) (chars : Implies p q) (t
 
   -- one character or none, and what follows
   pub maybe_part : IsPart (maybe p P) (maybe q Q)
-  maybe_part w e =
-      elim (or_cases (P w) (one p P w) e) [
-        | inl x ↦ or_left (Q w) (one q Q w) (tails w x)
-        | inr y ↦ or_right (Q w) (one q Q w) (one_part w y)
-      ]
+  maybe_part w e = grind (arith, or_cases, or_left, or_right, one_part)
 
 -- a spelling or nothing
 pub optional_part : (P Q : List ℕ → Bool) → IsPart P Q → IsPart (optional P) (optional Q)
-optional_part P Q h w e =
-    elim (or_cases (nothing w) (P w) e) [
-      | inl x ↦ or_left (nothing w) (Q w) x
-      | inr y ↦ or_right (nothing w) (Q w) (h w y)
-    ]
+optional_part P Q h w e = grind (arith, or_cases, or_left, or_right)
 
 -- characters that pass, by the parts
 module _ (p : ℕ → Bool) where

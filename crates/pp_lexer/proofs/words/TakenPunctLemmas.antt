@@ -1,5 +1,5 @@
 -- A reader once the longest punctuator is taken.
-use Rattle.std.proofs.Common.{◌≡◌, ℕ, List, [], ◌∷◌, take, sym, ◌∙◌, ap, Option, Some, None, option_map}
+use Rattle.std.proofs.Common.{◌≡◌, ℕ, List, [], ◌∷◌, take, sym, ◌∙◌, ap, Option, Some, None, option_map, arith}
 use Rattle.pp_lexer.specs.declared.lexer.char_iterator.Spot.{Spot}
 use Rattle.pp_lexer.specs.declared.token.Punct.{Punct as Punctuator}
 use Rattle.pp_lexer.specs.Longest.{longest}
@@ -26,38 +26,19 @@ along ss last r x y e h = record { value = h.value; state = e ∙ h.state }
 module _ (last : Spot) (new : Reading) where
   pub taken_none : (ss : List Spot) → next_is None ss → new ≡ record { rest = ss; last = last } → IsTaken ss last None new
   unfolding punct_of
-  taken_none [] f n = record {
-    value = ap (λ k. punct_of (take k [])) (sym (longest_empty is_punctuator));
-    state = n
-        ∙ ap (λ k. advanced_of k [] last) (sym (longest_empty is_punctuator));
-  }
-  taken_none (s ∷ ss) f n = cc
+  taken_none ss h k = grind (arith, longest_empty)
 
   pub taken_bad : (c : ℕ) (ss : List Spot) → next_is (Some c) ss → punct_of (c ∷ []) ≡ None → new ≡ record { rest = ss; last = last } → IsTaken ss last None new
-  taken_bad c [] f h n = cc
-  taken_bad c (s ∷ ss) f h n =
-      let k : c ≡ s.c = cc in
-      along (s ∷ ss) last None _ new n (taken_of (s ∷ ss) last 0 None (no_punct s.c (letters ss) (ap (λ x. punct_of (x ∷ [])) (sym k) ∙ h)))
+  taken_bad c ss h k e = grind (arith, along, taken_of, no_punct)
 
   module _ (c : ℕ) (p : Punctuator) (one : punct_of (c ∷ []) ≡ Some p) where
     pub taken_one_end : (ss : List Spot) → next_is (Some c) ss → next_is None (past ss last).rest → new ≡ past ss last → IsTaken ss last (Some p) new
-    taken_one_end [] f g n = cc
-    taken_one_end (s ∷ []) f g n =
-        let k : c ≡ s.c = cc in
-        along (s ∷ []) last (Some p) _ new n (taken_of (s ∷ []) last 1 (Some p) (one_at_end s.c p (ap (λ x. punct_of (x ∷ [])) (sym k) ∙ one)))
-    taken_one_end (s ∷ t ∷ ss) f g n = cc
+    taken_one_end ss h k e = grind (arith, along, taken_of, one_at_end)
 
     module _ (d : ℕ) where
       pub taken_one : (ss : List Spot) → next_is (Some c) ss → next_is (Some d) (past ss last).rest → punct_of (c ∷ d ∷ []) ≡ None
           → new ≡ past ss last → IsTaken ss last (Some p) new
-      taken_one [] f g h n = cc
-      taken_one (s ∷ []) f g h n = cc
-      taken_one (s ∷ t ∷ ss) f g h n =
-          let k : c ≡ s.c = cc in
-          let l : d ≡ t.c = cc in
-          let one' : punct_of (s.c ∷ []) ≡ Some p = ap (λ x. punct_of (x ∷ [])) (sym k) ∙ one in
-          let h' : punct_of (s.c ∷ t.c ∷ []) ≡ None = ap (λ x. punct_of (x ∷ t.c ∷ [])) (sym k) ∙ ap (λ y. punct_of (c ∷ y ∷ [])) (sym l) ∙ h in
-          along (s ∷ t ∷ ss) last (Some p) _ new n (taken_of (s ∷ t ∷ ss) last 1 (Some p) (one_alone s.c p one' t.c (letters ss) h'))
+      taken_one ss h k e l = grind (arith, along, taken_of, one_alone)
 
       module _ (q : Punctuator) (two : punct_of (c ∷ d ∷ []) ≡ Some q) where
         pub taken_two_end : (ss : List Spot) → next_is (Some c) ss → next_is (Some d) (past ss last).rest
