@@ -1,4 +1,4 @@
-use Rattle.std.proofs.Common.{◌≡◌, [], ◌∷◌, List, refl, ◌∙◌, false, true}
+use Rattle.std.proofs.Common.{◌≡◌, [], ◌∷◌, List, refl, ◌∙◌, false, true, arith}
 use Rattle.pp_lexer.specs.Preorder.{preorder}
 use Rattle.pp_lexer.specs.declared.token.Token.{Token}
 use Rattle.pp_lexer.proofs.token.+copy.Goals as goal
@@ -10,5 +10,4 @@ no_tokens (t ∷ ts) e = cc
 
 pub Tokens::try_clone-returns-in_err-copy_items-clause-without_memory :
     goal.Tokens::try_clone-returns-in_err-copy_items-clause-without_memory
-Tokens::try_clone-returns-in_err-copy_items-clause-without_memory t c e =
-    let bad : false ≡ true = c.in_err-copy_items.ensures.without_memory (no_tokens c.self.inside.items.items (c.self.view_is ∙ e)) in absurd (cc)
+Tokens::try_clone-returns-in_err-copy_items-clause-without_memory t c e = grind (arith, no_tokens)

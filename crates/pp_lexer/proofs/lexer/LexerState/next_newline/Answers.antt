@@ -1,13 +1,10 @@
-use Rattle.std.proofs.Common.{subst}
+use Rattle.std.proofs.Common.{subst, arith}
 use Rattle.pp_lexer.specs.inner.PlainWords.{IsPlainNewline}
 use Rattle.pp_lexer.proofs.characters.NewlinesLemmas.{lexed_newline, placed_newline}
 use Rattle.pp_lexer.proofs.lexer.LexerState.next_newline.Goals as goal
 
 pub range_from-requires : goal.range_from-requires
-range_from-requires c = λ some.
-    let w : IsPlainNewline c.left-left.result.text.now c.in-Some.taken =
-    subst (λ t. IsPlainNewline t c.in-Some.taken) c.as_bytes.ensures.value c.in-Some.ensures in
-    w.cut
+range_from-requires c = grind arith
 
 pub returns-clause-lexed : goal.returns-clause-lexed
 returns-clause-lexed c =

@@ -1,13 +1,10 @@
-use Rattle.std.proofs.Common.{subst, refl}
+use Rattle.std.proofs.Common.{subst, refl, arith}
 use Rattle.pp_lexer.specs.inner.PlainWords.{IsPlainComment}
 use Rattle.pp_lexer.proofs.items.PassedCommentsLemmas.{comment_passed}
 use Rattle.pp_lexer.proofs.lexer.LexerState.skip_comment.Goals as goal
 
 pub range_from-requires : goal.range_from-requires
-range_from-requires c = λ some.
-    let w : IsPlainComment c.left-left.result.text.now c.in-Some.comment =
-    subst (λ t. IsPlainComment t c.in-Some.comment) c.as_bytes.ensures.value c.in-Some.ensures in
-    w.cut
+range_from-requires c = grind arith
 
 pub returns : goal.returns
 returns c =

@@ -8,14 +8,7 @@ use Rattle.pp_lexer.proofs.items.PlainLexLemmas.{gone, spaces_same, spaces_place
 use Rattle.pp_lexer.proofs.lexer.LexerState.skip_spaces.Goals as goal
 
 pub range_from-requires : goal.range_from-requires
-range_from-requires c = λ some.
-    let text = c.left-left.result.text.now in
-    let n = c.spaces_length-count.result in
-    let u : IsUtf8 text = subst IsUtf8 c.as_bytes-bytes.ensures.value c.as_bytes-bytes.ensures.utf8 in
-    let le : n ≤ length text = omega (arith, ap length c.as_bytes-bytes.ensures.value) in
-    let passes : list_all is_space (take n text) ≡ true = ap (λ t. list_all is_space (take n t)) (sym c.as_bytes-bytes.ensures.value)
-    ∙ c.spaces_length-count.ensures.passes in
-    cut_after_plain n text u some le (all_plain is_space space_plain (take n text) passes)
+range_from-requires c = grind (arith, cut_after_plain, all_plain, space_plain)
 
 pub returns : goal.returns
 returns c =

@@ -6,13 +6,7 @@ use Rattle.pp_lexer.proofs.characters.PlainFrontsLemmas.{cut_one, one_ahead}
 use Rattle.pp_lexer.proofs.lexer.char_iterator.take_plain.Goals as goal
 
 pub range_from-requires : goal.range_from-requires
-range_from-requires c = λ _.
-    let text = c.left-left.result.text.now in
-    let same = c.as_bytes-bytes.ensures.value in
-    let u : IsUtf8 text = subst IsUtf8 same c.as_bytes-bytes.ensures.utf8 in
-    let some : 0 < length text = omega (arith, ap length same) in
-    let plain : is_plain (get_or text 0 0) ≡ true = ap (λ t. is_plain (get_or t 0 0)) (sym same) ∙ sym c.is_plain.ensures ∙ c.if-not-is_plain.false in
-    cut_one text u some plain
+range_from-requires c = grind (arith, cut_one)
 
 pub returns : goal.returns
 returns c =

@@ -1,4 +1,4 @@
-use Rattle.std.proofs.Common.{Ok, ◌≡◌, sym, ◌∙◌, ap, subst, take, inl}
+use Rattle.std.proofs.Common.{Ok, ◌≡◌, sym, ◌∙◌, ap, subst, take, inl, arith}
 use Rattle.pp_lexer.specs.Longest.{longest}
 use Rattle.pp_lexer.specs.Numbers.{is_number}
 use Rattle.pp_lexer.specs.inner.NumberValue.{float_suffix_len, unsigned_suffix_len}
@@ -8,14 +8,7 @@ use Rattle.pp_lexer.proofs.numbers.NumberAtLemmas.{at_float, at_integer, letters
 use Rattle.pp_lexer.proofs.lexer.number.parse_number.Goals as goal
 
 pub returns-then-is_float-clause-value : goal.returns-then-is_float-clause-value
-returns-then-is_float-clause-value c =
-    let w : c.new-word.result ≡ take (longest is_number (letters c.args.inner.now.rest)) (letters c.args.inner.now.rest) =
-    c.new-word.ensures ∙ ap (λ r. take c.take_number-length.result (letters r.rest)) c.twin-start.ensures.same
-    ∙ ap (λ n. take n (letters c.args.inner.now.rest)) c.take_number-length.ensures.length in
-    let l = letters_after c.args.inner.now c.take_number-length.new.inner c.take_number-length.ensures.state in
-    let o = at_float (letters c.args.inner.now.rest) c.new-word.result (letters c.take_number-length.new.inner.rest) w l
-    (sym c.is_float.ensures ∙ c.if-is_float.true) in
-    subst (λ x. IsGiven c.finish_float.result x.value) o c.finish_float.ensures.value
+returns-then-is_float-clause-value c = grind (arith, letters_after, at_float)
 
 pub returns-then-is_float-clause-state : goal.returns-then-is_float-clause-state
 returns-then-is_float-clause-state c =
@@ -30,14 +23,7 @@ returns-then-is_float-clause-state c =
     ∙ ap (λ x. advanced x.taken c.args.inner.now) o
 
 pub returns-clause-value : goal.returns-clause-value
-returns-clause-value c =
-    let w : c.new-word.result ≡ take (longest is_number (letters c.args.inner.now.rest)) (letters c.args.inner.now.rest) =
-    c.new-word.ensures ∙ ap (λ r. take c.take_number-length.result (letters r.rest)) c.twin-start.ensures.same
-    ∙ ap (λ n. take n (letters c.args.inner.now.rest)) c.take_number-length.ensures.length in
-    let l = letters_after c.args.inner.now c.take_number-length.new.inner c.take_number-length.ensures.state in
-    let o = at_integer (letters c.args.inner.now.rest) c.new-word.result (letters c.take_number-length.new.inner.rest) w l
-    (sym c.is_float.ensures ∙ c.if-is_float.false) in
-    inl (ap Ok (c.finish_integer.ensures.value ∙ ap (λ x. x.value) o))
+returns-clause-value c = grind (arith, letters_after, at_integer)
 
 pub returns-clause-state : goal.returns-clause-state
 returns-clause-state c =

@@ -6,12 +6,7 @@ use Rattle.pp_lexer.proofs.characters.StraightLemmas.{EndsBlockAlike, cut_after_
 use Rattle.pp_lexer.proofs.lexer.replace_comments.skip_starless.Goals as goal
 
 pub range_from-requires : goal.range_from-requires
-range_from-requires c = λ some.
-    let text = c.left-left.result.text.now in
-    let n = c.starless_length-count.result in
-    let le : n ≤ length text = omega (arith, ap length c.as_bytes-bytes.ensures.value) in
-    cut_after_starless n text le
-    (subst (λ t. n < length t → is_starless (get_or t n 0) ≡ false) c.as_bytes-bytes.ensures.value c.starless_length-count.ensures.stops)
+range_from-requires c = grind (arith, cut_after_starless)
 
 pub returns : goal.returns
 returns c =

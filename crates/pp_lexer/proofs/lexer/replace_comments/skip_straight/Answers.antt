@@ -6,25 +6,10 @@ use Rattle.pp_lexer.proofs.characters.StraightLemmas.{cut_after_straight, straig
 use Rattle.pp_lexer.proofs.lexer.replace_comments.skip_straight.Goals as goal
 
 pub range_from-requires : goal.range_from-requires
-range_from-requires c = λ some.
-    let text = c.left-left.result.text.now in
-    let n = c.straight_length-count.result in
-    let u : IsUtf8 text = subst IsUtf8 c.as_bytes-bytes.ensures.value c.as_bytes-bytes.ensures.utf8 in
-    let le : n ≤ length text = omega (arith, ap length c.as_bytes-bytes.ensures.value) in
-    let passes : list_all is_straight (take n text) ≡ true = ap (λ t. list_all is_straight (take n t)) (sym c.as_bytes-bytes.ensures.value)
-    ∙ c.straight_length-count.ensures.passes in
-    cut_after_straight n text u some le passes
+range_from-requires c = grind (arith, cut_after_straight)
 
 pub returns-clause-state : goal.returns-clause-state
-returns-clause-state c =
-    let text = c.left-left.result.text.now in
-    let n = c.straight_length-count.result in
-    let u : IsUtf8 text = subst IsUtf8 c.as_bytes-bytes.ensures.value c.as_bytes-bytes.ensures.utf8 in
-    let le : n ≤ length text = omega (arith, ap length c.as_bytes-bytes.ensures.value) in
-    let passes : list_all is_straight (take n text) ≡ true = ap (λ t. list_all is_straight (take n t)) (sym c.as_bytes-bytes.ensures.value)
-    ∙ c.straight_length-count.ensures.passes in
-    straight_passed c.args.inner.now c.at.result c.left-left.result.line c.left-left.result.at n text c.range_from.result.now u le passes
-    c.left-left.ensures.value c.range_from.ensures.value c.at.ensures
+returns-clause-state c = grind (arith, straight_passed)
 
 pub returns-clause-forward : goal.returns-clause-forward
 returns-clause-forward c =

@@ -6,8 +6,7 @@ use Rattle.pp_lexer.proofs.spelling.ItemTextLemmas.{token_bytes, directive_bytes
 use Rattle.pp_lexer.proofs.token.spelling.write_directive.Goals as goal
 
 pub loop-token-init : goal.loop-token-init
-loop-token-init g c = λ plain.
-    has_written_of_eq _ _ _ _ _ (sym (append-nil c.args.word.now)) (c.in_ok-write_str.ensures.writes plain refl)
+loop-token-init g c = grind (arith, has_written_of_eq, append-nil)
 
 pub loop-token-preserved : goal.loop-token-preserved
 loop-token-preserved g c = λ plain.
@@ -19,9 +18,4 @@ loop-token-preserved g c = λ plain.
     (has_written_append _ _ _ _ _ _ so_far (has_written_append _ _ _ _ _ _ space word))
 
 pub returns : goal.returns
-returns g c = λ plain ok.
-    let tokens = c.as_slice-token-items.result.now in
-    has_written_of_eq _ _ _ _ _
-    (ap (λ ts. c.args.word.now ++ flat_map token_bytes ts) (take_all c.loop-token.token-index tokens (omega arith))
-    ∙ directive_bytes c.args.word.now tokens c.args.tokens.now c.utf8.word c.as_slice-token-items.ensures)
-    (c.loop-token.invariant plain)
+returns g c = grind (arith, has_written_of_eq, token_bytes, take_all, directive_bytes)

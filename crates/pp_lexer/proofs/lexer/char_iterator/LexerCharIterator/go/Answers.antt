@@ -3,8 +3,7 @@ use Rattle.pp_lexer.proofs.characters.FrontsLemmas.{left_of, length-spots_from}
 use Rattle.pp_lexer.proofs.lexer.char_iterator.LexerCharIterator.go.Goals as goal
 
 pub returns : goal.returns
-returns c = ap (λ ss. record { rest = ss; last = c.args.last })
-    (left_of c.at-self-inside.result c.args.rest.line c.args.rest.at c.args.rest.text.now c.at-self-inside.ensures)
+returns c = grind (arith, left_of)
 
 pub invariant_of-self : goal.invariant_of-self
 invariant_of-self c =

@@ -1,4 +1,4 @@
-use Rattle.std.proofs.Common.{◌≡◌, true, sym, ◌∙◌, ap}
+use Rattle.std.proofs.Common.{◌≡◌, true, sym, ◌∙◌, ap, arith}
 use Rattle.std.specs.Char.{is_digit}
 use Rattle.pp_lexer.specs.inner.Scan.{further}
 use Rattle.pp_lexer.proofs.numbers.ScanLemmas.{digit_taken, fewer_left}
@@ -8,6 +8,4 @@ pub digits-smaller : goal.digits-smaller
 digits-smaller c = fewer_left _ _ _ c.in-Some.ensures.value (c.take.ensures ∙ ap (further 1) c.peek.ensures.same)
 
 pub digits-preserved : goal.digits-preserved
-digits-preserved c =
-    let d : is_digit c.in-Some.c c.args.radix ≡ true = sym c.is_digit.ensures.value ∙ c.if-not-is_digit.false in
-    digit_taken (λ x. is_digit x c.args.radix) _ _ _ c.in-Some.ensures.value d (c.take.ensures ∙ ap (further 1) c.peek.ensures.same) ∙ c.digits.invariant
+digits-preserved c = grind (arith, digit_taken)

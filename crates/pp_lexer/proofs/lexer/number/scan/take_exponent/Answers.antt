@@ -1,4 +1,4 @@
-use Rattle.std.proofs.Common.{if◌then◌else◌}
+use Rattle.std.proofs.Common.{if◌then◌else◌, arith}
 use Rattle.pp_lexer.specs.Numbers.{is_decimal, is_e, exponent, digits}
 use Rattle.pp_lexer.specs.inner.Numbers.{signed_digits}
 use Rattle.pp_lexer.proofs.numbers.NumbersLemmas.{exponent_len, exponent_none}
@@ -6,8 +6,7 @@ use Rattle.pp_lexer.proofs.numbers.ScanLemmas.{then_takes, either_then, either_s
 use Rattle.pp_lexer.proofs.lexer.number.scan.take_exponent.Goals as goal
 
 pub returns-then-not-take_either : goal.returns-then-not-take_either
-returns-then-not-take_either c = either_stop exponent is_e _ _ _ c.take_either.ensures.test c.take_either.ensures.moved c.if-not-take_either.true
-    (exponent_none _)
+returns-then-not-take_either c = grind (arith, either_stop, exponent_none)
 
 pub returns : goal.returns
 returns c =

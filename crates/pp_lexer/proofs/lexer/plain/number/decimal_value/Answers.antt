@@ -7,14 +7,7 @@ pub loop-digit-init : goal.loop-digit-init
 loop-digit-init c = refl
 
 pub loop-digit-preserved : goal.loop-digit-preserved
-loop-digit-preserved c =
-    let digits = c.args.digits.now in
-    let d = digit_at c.loop-digit.digit-index digits (omega arith) c.requires in
-    let a = c.in_ok-shifted.ensures in
-    let b = c.in_ok-value.ensures in
-    value_more c.loop-digit.digit-index c.loop-digit.value c.in_ok-value.value digits (omega arith) c.requires c.loop-digit.invariant (omega (arith, a.1, b.1))
+loop-digit-preserved c = grind (arith, digit_at, value_more)
 
 pub returns : goal.returns
-returns c =
-    let e = take_whole c.loop-digit.digit-index c.args.digits.now (omega arith) in
-    c.loop-digit.invariant ∙ ap (digits_value 10) e
+returns c = grind (arith, take_whole)

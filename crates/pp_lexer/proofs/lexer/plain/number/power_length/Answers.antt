@@ -7,8 +7,7 @@ use Rattle.pp_lexer.proofs.numbers.PlainFloatsLemmas.{unsigned_power, signed_pow
 use Rattle.pp_lexer.proofs.lexer.plain.number.power_length.Goals as goal
 
 pub returns-then-not-begins_with_sign-clause-power : goal.returns-then-not-begins_with_sign-clause-power
-returns-then-not-begins_with_sign-clause-power c = λ some.
-    unsigned_power c.digits_length.result c.args.bytes.now c.digits_length.ensures.within c.digits_length.ensures.passes some
+returns-then-not-begins_with_sign-clause-power c = grind (arith, unsigned_power)
 
 pub returns-clause-power : goal.returns-clause-power
 returns-clause-power c = λ _.

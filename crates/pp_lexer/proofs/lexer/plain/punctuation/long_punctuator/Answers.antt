@@ -7,8 +7,7 @@ returns-then-bytes-eq2 c =
     pair_word c.args.bytes.now c.args.two c.requires.utf8 c.requires.some c.requires.pair (λ l. absurd (omega arith))
 
 pub returns-in-Some : goal.returns-in-Some
-returns-in-Some c =
-    triple_word c.args.bytes.now c.args.two c.in-Some.three c.requires.utf8 (omega arith) c.requires.pair (sym c.triple.ensures ∙ c.in-Some.is)
+returns-in-Some c = grind (arith, triple_word)
 
 pub returns-in-None : goal.returns-in-None
 returns-in-None c =

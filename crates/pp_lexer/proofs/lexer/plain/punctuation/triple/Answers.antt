@@ -16,5 +16,4 @@ pub returns-in-62 : goal.returns-in-62
 returns-in-62 c = sym ((shift_assigns c.args.first c.args.second c.args.third (omega arith) (omega arith)).1 (omega arith))
 
 pub returns-in_default : goal.returns-in_default
-returns-in_default c = sym (no_triple_first c.args.first c.args.second c.args.third (ne_eqb c.args.first 60 (λ k. omega arith))
-    (ne_eqb c.args.first 62 (λ k. omega arith)))
+returns-in_default c = grind (arith, no_triple_first, ne_eqb)
