@@ -3,7 +3,7 @@ use Rattle.std.proofs.Common.{◌≡◌, ℕ, zero, suc, ◌+◌, ◌-◌, List,
 use Rattle.std.specs.List.{list_all}
 use Rattle.std.specs.Str.{chars, IsUtf8, all_scalars}
 use Rattle.std.proofs.Math.Utf8.{scalar}
-use Rattle.std.proofs.lemmas.Bool.{and_parts}
+use Rattle.std.proofs.lemmas.Bool.{and_parts, and_from}
 use Rattle.std.proofs.lemmas.Str.{scalars-chars}
 use Rattle.pp_lexer.specs.Comments.{comment_length, replaced}
 use Rattle.pp_lexer.specs.inner.Comments.{stand_in}
@@ -19,7 +19,6 @@ use Rattle.pp_lexer.specs.Spots.{spots_of}
 use Rattle.pp_lexer.proofs.characters.ContinuationsLemmas.{continued_from, continued-stays, continued-leaves}
 use Rattle.pp_lexer.proofs.characters.LinesLemmas.{lines_are}
 use Rattle.pp_lexer.proofs.characters.PiecesLemmas.{along_pieces}
-use Rattle.pp_lexer.proofs.words.SetsLemmas.{both}
 
 piece_scalar : (c : ℕ) → scalar c ≡ true → scalar (piece c).char ≡ true
 piece_scalar c h = grind (arith, scalar)
@@ -28,14 +27,14 @@ pieces_scalar : (cs : List ℕ) → all_scalars cs ≡ true → list_all (λ p. 
 pieces_scalar =
     along_pieces (λ cs ps. all_scalars cs ≡ true → list_all (λ p. scalar p.char) ps ≡ true) (λ h. refl)
     (λ c cs ps go h. let b = and_parts (scalar c) (all_scalars cs) h in
-    both (scalar (piece c).char) (list_all (λ p. scalar p.char) ps) (piece_scalar c b.0) (go b.1))
+    and_from (scalar (piece c).char) (list_all (λ p. scalar p.char) ps) (piece_scalar c b.0) (go b.1))
     (λ c d cs ps e go h. go (and_parts (scalar d) (all_scalars cs) (and_parts (scalar c) (scalar d && all_scalars cs) h).1).1)
 
 placed_scalar : (line at : ℕ) (ps : List Piece) → list_all (λ p. scalar p.char) ps ≡ true → list_all (λ p. scalar p.char) (placed_from line at ps) ≡ true
 placed_scalar line at [] h = refl
 placed_scalar line at (p ∷ ps) h =
     let b = and_parts (scalar p.char) (list_all (λ q. scalar q.char) ps) h in
-    both (scalar p.char) _ b.0 (placed_scalar (if is_newline_piece p then line + 1 else line) (at + p.bytes) ps b.1)
+    and_from (scalar p.char) _ b.0 (placed_scalar (if is_newline_piece p then line + 1 else line) (at + p.bytes) ps b.1)
 
 lines_scalar : (cs : List ℕ) → all_scalars cs ≡ true → list_all (λ p. scalar p.char) (lines cs) ≡ true
 lines_scalar cs h = ap (list_all (λ (p : Placed). scalar p.char)) (lines_are cs) ∙ placed_scalar 1 0 (pieces cs) (pieces_scalar cs h)
@@ -51,7 +50,7 @@ continued_from_scalar before (p ∷ ps) h =
     by true e go = ap (list_all (λ (q : Placed). scalar q.char)) (continued-leaves before p ps e) ∙ go
     by false e go =
         ap (list_all (λ (q : Placed). scalar q.char)) (continued-stays before p ps e)
-        ∙ both (scalar p.char) _ (and_parts (scalar p.char) (list_all (λ q. scalar q.char) ps) h).0 go
+        ∙ and_from (scalar p.char) _ (and_parts (scalar p.char) (list_all (λ q. scalar q.char) ps) h).0 go
 
 continued_scalar : (ps : List Placed) → list_all (λ p. scalar p.char) ps ≡ true → list_all (λ p. scalar p.char) (continued ps) ≡ true
 unfolding continued
@@ -67,7 +66,7 @@ cut_scalar : (total n : ℕ) (size : List Placed → ℕ) (ps : List Placed) →
 cut_scalar total n size [] h = refl
 cut_scalar total zero size (p ∷ ps) h =
     let b = and_parts (scalar p.char) (list_all (λ q. scalar q.char) ps) h in
-    both _ _ (stand_in_scalar total p (take (size (p ∷ ps) - 1) ps) b.0) (cut_scalar total (size (p ∷ ps) - 1) size ps b.1)
+    and_from _ _ (stand_in_scalar total p (take (size (p ∷ ps) - 1) ps) b.0) (cut_scalar total (size (p ∷ ps) - 1) size ps b.1)
 cut_scalar total (suc n) size (p ∷ ps) h = cut_scalar total n size ps (and_parts (scalar p.char) (list_all (λ q. scalar q.char) ps) h).1
 
 replaced_scalar : (total : ℕ) (ps : List Placed) → list_all (λ p. scalar p.char) ps ≡ true → list_all (λ p. scalar p.char) (replaced total ps) ≡ true
@@ -78,7 +77,7 @@ letters_scalar : (at : ℕ) (ps : List Placed) → list_all (λ p. scalar p.char
 letters_scalar at [] h = refl
 letters_scalar at (p ∷ ps) h =
     let b = and_parts (scalar p.char) (list_all (λ q. scalar q.char) ps) h in
-    both (scalar p.char) (list_all scalar (letters (spots p.end ps))) b.0 (letters_scalar p.end ps b.1)
+    and_from (scalar p.char) (list_all scalar (letters (spots p.end ps))) b.0 (letters_scalar p.end ps b.1)
 
 -- the characters of a source, once the phases are done
 pub source_scalar : (source : List ℕ) → IsUtf8 source → list_all scalar (letters (spots_of source)) ≡ true

@@ -1,5 +1,6 @@
 -- One step of a reader that puts a mark for each comment.
 use Rattle.std.proofs.Common.{◌≡◌, ◌≢◌, ◌∷◌, ◌+◌, ◌-◌, [], ℕ, zero, suc, List, sym, ◌∙◌, ap, Bool, true, false, refl, ◌==◌, ◌&&◌, ◌||◌, not, if◌then◌else◌, Some, None, Option, take, drop, map, arith, true≢false}
+use Rattle.std.proofs.Math.Bool.{and-false}
 use Rattle.std.proofs.lemmas.Bool.{eqb-true, ne_eqb, eq-eqb}
 use Rattle.pp_lexer.specs.Cursor.{Placed, Cursor, first_of, after_of, after, passed}
 use Rattle.pp_lexer.specs.Surroundings.{begins_with}
@@ -54,10 +55,6 @@ and_begins_with-take : (b : Bool) (n : ℕ) (ps : List Placed) → (b && begins_
 and_begins_with-take true n ps e = begins_with-take is_slash n ps e
 and_begins_with-take false n ps e = refl
 
-and_false : (b : Bool) → (b && false) ≡ false
-and_false true = refl
-and_false false = refl
-
 -- a `*/` at the front, or not yet
 module _ (p : Placed) (ps : List Placed) where
   block_length_here : (is_star p && begins_with is_slash ps) ≡ true → block_length (p ∷ ps) ≡ 2
@@ -73,7 +70,7 @@ module _ (p : Placed) (ps : List Placed) where
   has_close_later e = ap (λ t. t || has_close ps) e
 
 close_in_two : (p : Placed) (ps : List Placed) → (is_star p && begins_with is_slash ps) ≡ true → has_close (take 2 (p ∷ ps)) ≡ true
-close_in_two p [] e = absurd (true≢false (sym e ∙ and_false (is_star p)))
+close_in_two p [] e = absurd (true≢false (sym e ∙ and-false (is_star p)))
 close_in_two p (q ∷ ps) e = has_close_here p (q ∷ []) e
 
 -- a block comment holds its `*/`, if there is one

@@ -1,5 +1,6 @@
 -- One step of a reader that leaves out the continuations.
 use Rattle.std.proofs.Common.{◌≡◌, ◌≢◌, ◌∷◌, [], ℕ, List, sym, ◌∙◌, ap, Bool, true, false, refl, ◌==◌, ◌&&◌, ◌||◌, Some, None, Option, map, not, if◌then◌else◌, arith}
+use Rattle.std.proofs.Math.Bool.{and-false}
 use Rattle.std.specs.List.{filter}
 use Rattle.std.proofs.lemmas.Bool.{ne_eqb, eq-eqb, eqb-true}
 use Rattle.pp_lexer.specs.Cursor.{Placed, Cursor, first_of, first, after_of, after, is_item}
@@ -43,10 +44,6 @@ continued_from_nearest b c (p ∷ ps) e = grind (arith, continued-agrees, contin
 no_newline_first : (b c ps : List Placed) → begins_with is_newline ps ≡ false → continued_from b ps ≡ continued_from c ps
 no_newline_first b c ps h = grind (arith, continued-agrees, continued_from_nearest)
 
-and_false : (b : Bool) → (b && false) ≡ false
-and_false true = refl
-and_false false = refl
-
 pub continued-nil : continued [] ≡ []
 unfolding continued
 continued-nil = refl
@@ -54,12 +51,12 @@ continued-nil = refl
 -- a character that is no backslash
 pub continued-plain : (p : Placed) (ps : List Placed) → is_backslash p ≡ false → continued (p ∷ ps) ≡ p ∷ continued ps
 unfolding continued
-continued-plain p ps e = grind (arith, continued-stays, and_false, continued_from_nearest)
+continued-plain p ps e = grind (arith, continued-stays, and-false, continued_from_nearest)
 
 -- a backslash that stays
 pub continued-backslash : (p : Placed) (ps : List Placed) → begins_with is_newline ps ≡ false → continued (p ∷ ps) ≡ p ∷ continued ps
 unfolding continued
-continued-backslash p ps e = grind (arith, and_false, continued-stays, no_newline_first)
+continued-backslash p ps e = grind (arith, and-false, continued-stays, no_newline_first)
 
 newline_no_backslash : (p : Placed) → is_newline p ≡ true → is_backslash p ≡ false
 newline_no_backslash p e = rw (eqb-true p.char 10 e) refl

@@ -3,7 +3,7 @@ use Rattle.std.proofs.Common.{◌≡◌, ℕ, ◌+◌, ◌<◌, List, [], ◌∷
 use Rattle.std.specs.List.{list_all}
 use Rattle.std.specs.Char.{len_utf8}
 use Rattle.std.specs.Str.{chars, IsUtf8}
-use Rattle.std.proofs.lemmas.Bool.{and_parts}
+use Rattle.std.proofs.lemmas.Bool.{and_parts, not-true, ltb-true}
 use Rattle.std.proofs.lemmas.Bool.Decides.{nat_tests}
 use Rattle.std.proofs.lemmas.Str.{chars_past_char, IsUtf8-past_char, encode_ascii, len_utf8_ascii, chars-nil}
 use Rattle.pp_lexer.specs.Comments.{replaced}
@@ -18,7 +18,7 @@ use Rattle.pp_lexer.specs.inner.Fronts.{spots_from, left, is_plain, run}
 use Rattle.pp_lexer.proofs.characters.CommentsLemmas.{replaced-nil, replaced-plain, no_slash, lone_slash}
 use Rattle.pp_lexer.proofs.characters.ContinuationsLemmas.{continued-nil, continued-plain}
 use Rattle.pp_lexer.proofs.characters.ReplacedLemmas.{Marks, front, length-replaced}
-use Rattle.pp_lexer.proofs.characters.PhaseLemmas.{length-continued}
+use Rattle.pp_lexer.proofs.characters.PhaseLemmas.{length-continued, length-placed_from}
 use Rattle.pp_lexer.proofs.characters.PiecesLemmas.{length-pieces-source}
 use Rattle.pp_lexer.proofs.characters.SpotsLemmas.{length-spots}
 
@@ -30,15 +30,8 @@ pub record Plain (c : ℕ) : Type 0 where
   pub no_backslash : (c == 92) ≡ false
   pub no_slash : (c == 47) ≡ false
 
-pub negated : (b : Bool) → not b ≡ true → b ≡ false
-negated true h = cc
-negated false h = refl
-
-pub below : (c n : ℕ) → nat_lt c n ≡ true → c < n
-below c n h = grind (arith, nat_tests)
-
 pub plain_parts : (c : ℕ) → is_plain c ≡ true → Plain c
-plain_parts c h = grind (arith, and_parts, below, negated, no_slash)
+plain_parts c h = grind (arith, and_parts, ltb-true, not-true, no_slash)
 
 pub pieces_plain : (c : ℕ) (cs : List ℕ) → (c == 10) ≡ false → (c == 13) ≡ false → pieces (c ∷ cs) ≡ record { char = c; bytes = len_utf8 c } ∷ pieces cs
 pieces_plain c [] a b = rw (a, b) refl
@@ -129,10 +122,6 @@ nothing_begins P line at = rw (chars-nil, continued-nil) refl
 pub left_of : (c : Cursor) (line at : ℕ) (text : List ℕ) → c ≡ uncommented (joined (left line at text)) → spots c.offset c.rest ≡ spots_from line at text
 unfolding spots_from
 left_of c line at text e = ap (λ r. spots r.offset r.rest) e
-
-length-placed_from : (line at : ℕ) (ps : List Piece) → length (placed_from line at ps) ≡ length ps
-length-placed_from line at [] = refl
-length-placed_from line at (p ∷ ps) = ap suc (length-placed_from (if is_newline_piece p then line + 1 else line) (at + p.bytes) ps)
 
 -- there are no more characters than bytes
 pub length-spots_from : (line at : ℕ) (text : List ℕ) → IsUtf8 text → length (spots_from line at text) ≤ length text

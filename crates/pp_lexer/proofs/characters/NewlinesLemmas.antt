@@ -21,6 +21,7 @@ use Rattle.pp_lexer.proofs.characters.AdvancedLemmas.{advanced_zero}
 use Rattle.pp_lexer.proofs.characters.CommentsLemmas.{replaced-plain, no_slash}
 use Rattle.pp_lexer.proofs.characters.ContinuationsLemmas.{continued-plain}
 use Rattle.pp_lexer.proofs.characters.FrontsLemmas.{ascii_chars, utf8_after}
+use Rattle.pp_lexer.proofs.characters.PlainFrontsLemmas.{drop_none}
 use Rattle.pp_lexer.proofs.items.LexLemmas.{lexed_front, placed_front}
 use Rattle.pp_lexer.proofs.items.PlainLexLemmas.{no_blank_first}
 use Rattle.pp_lexer.proofs.words.WordAtLemmas.{newline_first}
@@ -46,10 +47,6 @@ newline_at line at text u h =
     ∙ ap (λ ps. spots at (replaced (at + length (10 ∷ text)) ps)) (continued-plain here more refl)
     ∙ ap (spots at) (replaced-plain (at + length (10 ∷ text)) here (continued more) (no_slash here (continued more) refl))
     ∙ ap (λ n. spots at (here ∷ replaced n (continued more))) total
-
-drop_none : (xs : List ℕ) → drop 0 xs ≡ xs
-drop_none [] = refl
-drop_none (x ∷ xs) = refl
 
 -- a line feed with an ASCII character after it that is no carriage return, or with the end
 pub line_feed : (text : List ℕ) → IsUtf8 text → 0 < length text → get_or text 0 0 ≡ 10
@@ -87,43 +84,45 @@ return_feed (b ∷ d ∷ text) u some e f = record {
       ∙ ap (λ t. record { c = 10; line = line; begin = at; end = at + 1 } ∷ spots_from (line + 1) (at + 2) t) (sym none);
 }
 
--- a newline is taken, and its place noted
-pub placed_newline : (f : Flags) (r q : Reading) (line at n : ℕ) (text rest : List ℕ) (old : Location) → r.rest ≡ spots_from line at text
-    → IsPlainNewline text n → rest ≡ drop n text
-    → q ≡ record { rest = spots_from (line + 1) (at + n) rest; last = record { c = 10; line = line; begin = at; end = at + 1 } }
-    → IsPlaced f r old (record { leading_whitespace = true; start_of_line = true; had_comments = f.had_comments }) q
-    (record { start = at; end = at + 1; line = line })
-placed_newline f r q line at n text rest old e w g k =
-    let first : Spot = record { c = 10; line = line; begin = at; end = at + 1 } in
-    let front : r.rest ≡ first ∷ spots_from (line + 1) (at + n) rest = e ∙ w.front line at ∙ ap (λ t. first ∷ spots_from (line + 1) (at + n) t) (sym g) in
-    let here : Some first ≡ first_char r = sym (ap first_of front) in
-    let word : word_at (letters r.rest) ≡ record { value = Ok NewLine; taken = 1 } = ap (λ ss. word_at (letters ss)) front
-    ∙ newline_first (10 ∷ letters (spots_from (line + 1) (at + n) rest)) refl in
-    let there : q ≡ advanced (word_at (letters r.rest)).taken r =
-    k ∙ sym (advanced_zero (spots_from (line + 1) (at + n) rest) first) ∙ ap (λ ss. advanced_of 1 ss r.last) (sym front)
-    ∙ ap (λ o. advanced o.taken r) (sym word) in
-    placed_front f r r q first first (Ok NewLine) true old here (no_blank_first first (first_char r) here refl) refl
-    (inl (ap (λ o. Ok o.value) (sym word))) there (ap (λ x. x.last) (sym k)) refl
-
 -- a newline is taken
-pub lexed_newline : (f : Flags) (r q : Reading) (line at n : ℕ) (text rest : List ℕ) → r.rest ≡ spots_from line at text → IsPlainNewline text n
-    → rest ≡ drop n text
-    → q ≡ record { rest = spots_from (line + 1) (at + n) rest; last = record { c = 10; line = line; begin = at; end = at + 1 } }
-    → IsLexed f r (Ok (Some (Ok (record {
-      value = NewLine;
-      location = record { start = at; end = at + 1; line = line };
-      leading_whitespace = f.leading_whitespace;
-      start_of_line = f.start_of_line;
-    }))))
-    (record { leading_whitespace = true; start_of_line = true; had_comments = f.had_comments }) q
-lexed_newline f r q line at n text rest e w g k =
-    let first : Spot = record { c = 10; line = line; begin = at; end = at + 1 } in
-    let front : r.rest ≡ first ∷ spots_from (line + 1) (at + n) rest = e ∙ w.front line at ∙ ap (λ t. first ∷ spots_from (line + 1) (at + n) t) (sym g) in
-    let here : Some first ≡ first_char r = sym (ap first_of front) in
-    let word : word_at (letters r.rest) ≡ record { value = Ok NewLine; taken = 1 } = ap (λ ss. word_at (letters ss)) front
-    ∙ newline_first (10 ∷ letters (spots_from (line + 1) (at + n) rest)) refl in
-    let there : q ≡ advanced (word_at (letters r.rest)).taken r =
-    k ∙ sym (advanced_zero (spots_from (line + 1) (at + n) rest) first) ∙ ap (λ ss. advanced_of 1 ss r.last) (sym front)
-    ∙ ap (λ o. advanced o.taken r) (sym word) in
-    lexed_front f r r q first first (Ok NewLine) _ true here (no_blank_first first (first_char r) here refl) refl
-    (inl (ap (λ o. Ok o.value) (sym word))) there (ap (λ x. x.last) (sym k)) refl refl
+module _ (f : Flags) (r q : Reading) (line at n : ℕ) (text rest : List ℕ) (e : r.rest ≡ spots_from line at text) (w : IsPlainNewline text n)
+    (g : rest ≡ drop n text)
+    (k : q ≡ record { rest = spots_from (line + 1) (at + n) rest; last = record { c = 10; line = line; begin = at; end = at + 1 } }) where
+  first : Spot
+  first = record { c = 10; line = line; begin = at; end = at + 1 }
+
+  front : r.rest ≡ first ∷ spots_from (line + 1) (at + n) rest
+  unfolding first
+  front = e ∙ w.front line at ∙ ap (λ t. first ∷ spots_from (line + 1) (at + n) t) (sym g)
+
+  here : Some first ≡ first_char r
+  here = sym (ap first_of front)
+
+  word : word_at (letters r.rest) ≡ record { value = Ok NewLine; taken = 1 }
+  unfolding first
+  word = ap (λ ss. word_at (letters ss)) front ∙ newline_first (10 ∷ letters (spots_from (line + 1) (at + n) rest)) refl
+
+  there : q ≡ advanced (word_at (letters r.rest)).taken r
+  unfolding first
+  there = k ∙ sym (advanced_zero (spots_from (line + 1) (at + n) rest) first) ∙ ap (λ ss. advanced_of 1 ss r.last) (sym front)
+      ∙ ap (λ o. advanced o.taken r) (sym word)
+
+  -- its place is noted
+  pub placed_newline : (old : Location) → IsPlaced f r old (record { leading_whitespace = true; start_of_line = true; had_comments = f.had_comments }) q
+      (record { start = at; end = at + 1; line = line })
+  unfolding first
+  placed_newline old =
+      placed_front f r r q first first (Ok NewLine) true old here (no_blank_first first (first_char r) here refl) refl
+      (inl (ap (λ o. Ok o.value) (sym word))) there (ap (λ x. x.last) (sym k)) refl
+
+  pub lexed_newline : IsLexed f r (Ok (Some (Ok (record {
+    value = NewLine;
+    location = record { start = at; end = at + 1; line = line };
+    leading_whitespace = f.leading_whitespace;
+    start_of_line = f.start_of_line;
+  }))))
+      (record { leading_whitespace = true; start_of_line = true; had_comments = f.had_comments }) q
+  unfolding first
+  lexed_newline =
+      lexed_front f r r q first first (Ok NewLine) _ true here (no_blank_first first (first_char r) here refl) refl
+      (inl (ap (λ o. Ok o.value) (sym word))) there (ap (λ x. x.last) (sym k)) refl refl

@@ -17,7 +17,7 @@ use Rattle.pp_lexer.proofs.characters.ReplacedLemmas.{rising-replaced, length-re
 
 -- how many
 
-length-placed_from : (line at : ℕ) (ps : List Piece) → length (placed_from line at ps) ≡ length ps
+pub length-placed_from : (line at : ℕ) (ps : List Piece) → length (placed_from line at ps) ≡ length ps
 length-placed_from line at [] = refl
 length-placed_from line at (p ∷ ps) = ap suc (length-placed_from (if is_newline_piece p then line + 1 else line) (at + p.bytes) ps)
 

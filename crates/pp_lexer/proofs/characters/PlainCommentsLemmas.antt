@@ -1,5 +1,6 @@
 -- Comments at the front of a plain text.
 use Rattle.std.proofs.Common.{◌≡◌, ℕ, zero, suc, ◌+◌, ◌<◌, ◌≤◌, List, [], ◌∷◌, length, take, drop, get_or, Bool, true, false, ◌&&◌, ◌==◌, length-drop, add-one, add-zero, refl, sym, ◌∙◌, ap, subst, arith, inl, inr, Some, Option}
+use Rattle.std.proofs.Math.Bool.{and-false}
 use Rattle.std.specs.List.{list_all}
 use Rattle.std.specs.Char.{len_utf8}
 use Rattle.std.specs.Str.{chars, IsUtf8, IsCharBoundary}
@@ -19,7 +20,7 @@ use Rattle.pp_lexer.proofs.characters.CommentsLemmas.{past_block_after, block_go
 use Rattle.pp_lexer.proofs.characters.ContinuationsLemmas.{continued-nil, continued-plain, item_char, item_line}
 use Rattle.pp_lexer.proofs.characters.FrontsLemmas.{ascii_chars, utf8_after}
 use Rattle.pp_lexer.proofs.characters.NewlinesLemmas.{pieces_newline}
-use Rattle.pp_lexer.proofs.characters.PlainFrontsLemmas.{get_or-drop}
+use Rattle.pp_lexer.proofs.characters.PlainFrontsLemmas.{get_or-drop, drop_none}
 use Rattle.pp_lexer.proofs.characters.StraightLemmas.{Straight, straight_parts, reader, joined_first, straight_passed, cut_after_straight}
 
 -- the text does not go on with a carriage return, and its first character is ASCII
@@ -74,10 +75,6 @@ pub record IsBlockSoFar (body : List ℕ) (i newlines : ℕ) (star : Bool) : Typ
   pub state : NoReturn (drop i body) → (line at : ℕ)
       → past_block_after star (joined (left (line + newlines) (at + i) (drop i body))) ≡ past_block (joined (left line at body))
 
-drop_none : (xs : List ℕ) → drop 0 xs ≡ xs
-drop_none [] = refl
-drop_none (x ∷ xs) = refl
-
 block_begun : (body : List ℕ) → IsUtf8 body → IsBlockSoFar body 0 0 false
 block_begun body u = grind (arith, drop_none, add-zero)
 
@@ -131,14 +128,10 @@ module _ (body : List ℕ) (i newlines : ℕ) (star : Bool) (s : IsBlockSoFar bo
             let n : line + (newlines + 1) ≡ line + newlines + 1 = omega arith in
             ap (λ k. past_block (joined (left (line + (newlines + 1)) k rest))) (moved at)
             ∙ ap (λ k. past_block (joined (left k (at + i + 1) rest))) n
-            ∙ sym (goes_on star (at + i + 1 + length rest) (at + i) (record { char = 10; line = line + newlines; end = at + i + 1 }) more (and_no star))
+            ∙ sym (goes_on star (at + i + 1 + length rest) (at + i) (record { char = 10; line = line + newlines; end = at + i + 1 }) more (and-false star))
             ∙ ap (past_block_after star) (sym (joined_feed (line + newlines) (at + i) rest u h))
             ∙ ap (λ c. past_block_after star (joined (left (line + newlines) (at + i) (c ∷ rest)))) (sym feed) ∙ here small no_return line at;
       }
-    where
-      and_no : (b : Bool) → (b && false) ≡ false
-      and_no true = refl
-      and_no false = refl
 
 passed_one : (p : Placed) (ps : List Placed) (offset total : ℕ) → passed 1 (reader (p ∷ ps) offset total) ≡ reader ps p.end total
 passed_one p [] offset total = refl

@@ -82,6 +82,9 @@ take_seam (d ∷ w) cs = ap (λ xs. d ∷ xs) (take_seam w cs)
 pub drop_some : (n : ℕ) (xs : List ℕ) → 0 < length (drop n xs) → n < length xs
 drop_some n xs h = omega (arith, length-drop n xs)
 
+pub drop_none : (xs : List ℕ) → drop 0 xs ≡ xs
+drop_none xs = grind arith
+
 pub get_or-drop : (n : ℕ) (xs : List ℕ) → get_or (drop n xs) 0 0 ≡ get_or xs n 0
 get_or-drop zero [] = refl
 get_or-drop zero (x ∷ xs) = refl
@@ -141,14 +144,10 @@ pub one_ahead : (line at : ℕ) (text rest : List ℕ) (old new : Cursor) → Is
     → IsAhead (record { c = get_or text 0 0; line = line; begin = at; end = at + 1 }) (spots new.offset new.rest) (spots old.offset old.rest)
 one_ahead line at [] rest old new u some h g e k = absurd (omega arith)
 one_ahead line at (c ∷ text) rest old new u some h g e k =
-    let none : drop 1 (c ∷ text) ≡ text = take_drop_none text in
+    let none : drop 1 (c ∷ text) ≡ text = drop_none text in
     let first : spots old.offset old.rest ≡ record { c = c; line = line; begin = at; end = at + 1 } ∷ spots_from line (at + 1) text =
     left_of old line at (c ∷ text) e ∙ plain_first line at c text h u in
     record {
       first = sym (ap first_of first);
       after = left_of new line (at + 1) rest k ∙ ap (spots_from line (at + 1)) (g ∙ none) ∙ sym (ap spots_after_first first);
     }
-  where
-    take_drop_none : (xs : List ℕ) → drop 0 xs ≡ xs
-    take_drop_none [] = refl
-    take_drop_none (x ∷ xs) = refl

@@ -1,5 +1,6 @@
 -- A text without line breaks, backslashes and comments passes the phases as it is.
 use Rattle.std.proofs.Common.{◌≡◌, ℕ, ◌+◌, List, [], ◌∷◌, ◌++◌, Bool, true, false, ◌&&◌, ◌||◌, ◌==◌, map, refl, sym, ◌∙◌, ap, subst, if◌then◌else◌, arith}
+use Rattle.std.proofs.Math.Bool.{and-false}
 use Rattle.std.specs.Char.{len_utf8}
 use Rattle.std.specs.Str.{chars, all_scalars, encode_utf8_all}
 use Rattle.std.proofs.lemmas.Str.{chars-encodes}
@@ -28,10 +29,6 @@ IsPlain (c ∷ cs) = (is_line_break c ≡ false) × ((c == 92) ≡ false) × (((
 -- the characters alone
 abbrev characters : List Placed → List ℕ
 characters ps = map (λ p. p.char) ps
-
-and_false : (b : Bool) → (b && false) ≡ false
-and_false true = refl
-and_false false = refl
 
 -- the characters of lines
 
@@ -80,5 +77,5 @@ plain_letters cs s h = by (encode_utf8_all cs) (chars-encodes cs s)
 -- a space after a text begins no comment and ends none
 pub plain-space : (cs ds : List ℕ) → IsPlain cs → IsPlain ds → IsPlain (cs ++ 32 ∷ ds)
 plain-space [] ds h k = (refl, refl, refl, k)
-plain-space (c ∷ []) ds h k = (h.0, h.1, and_false (c == 47), (refl, refl, refl, k))
+plain-space (c ∷ []) ds h k = (h.0, h.1, and-false (c == 47), (refl, refl, refl, k))
 plain-space (c ∷ d ∷ cs) ds h k = (h.0, h.1, h.2, plain-space (d ∷ cs) ds h.3 k)

@@ -1,5 +1,5 @@
 -- The characters once comments are replaced: no line falls, stretches follow one another, and there are no more than before.
-use Rattle.std.proofs.Common.{◌≡◌, ◌≤◌, ◌∷◌, [], ℕ, zero, suc, List, length, ◌∙◌, ap, Bool, true, false, refl, arith, ◌&&◌, not, take, drop, ◌⊎◌, inl, inr}
+use Rattle.std.proofs.Common.{◌≡◌, ◌≤◌, ◌∷◌, [], ℕ, zero, suc, List, length, ◌∙◌, ap, Bool, true, false, refl, arith, ◌&&◌, not, take, drop, ◌⊎◌, inl, inr, length-drop}
 use Rattle.std.specs.Char.{len_utf8}
 use Rattle.std.proofs.lemmas.Str.{len_utf8_bounds}
 use Rattle.pp_lexer.specs.Cursor.{Placed, last_end}
@@ -51,12 +51,6 @@ block_marks total p q ps e f = record {
 pub front : (total : ℕ) (p : Placed) (ps : List Placed) → (replaced total (p ∷ ps) ≡ p ∷ replaced total ps) ⊎ Marks total p ps
 front total p ps = grind (arith, replaced-plain, block_marks, lone_slash, line_marks, no_slash)
 
-length_drop : {A : Type 0} (n : ℕ) (xs : List A) → length (drop n xs) ≤ length xs
-length_drop zero [] = omega arith
-length_drop zero (x ∷ xs) = omega arith
-length_drop (suc n) [] = omega arith
-length_drop (suc n) (x ∷ xs) = omega (arith, length_drop n xs)
-
 last_end-split : (n at : ℕ) (ps : List Placed) → last_end (last_end at (take n ps)) (drop n ps) ≡ last_end at ps
 last_end-split zero at [] = refl
 last_end-split zero at (p ∷ ps) = refl
@@ -74,7 +68,7 @@ rising_within_n (suc n) line at total (p ∷ ps) le h = by_front (front total p 
         → (p.end ≤ m.mark.end) × Rising m.mark.line m.mark.end total (replaced total (drop m.more ps))
     by_end m (inl e) ih = (
       omega (arith, e, rising_last m.more p.line p.end total ps h.2),
-      ih m.mark.line m.mark.end (drop m.more ps) (omega (arith, length_drop m.more ps))
+      ih m.mark.line m.mark.end (drop m.more ps) (omega (arith, length-drop m.more ps))
           (rw (m.line, e) (rising-drop m.more p.line p.end total ps h.2)),
     )
     by_end m (inr e) ih =
@@ -101,7 +95,7 @@ last_end_within_n (suc n) at total (p ∷ ps) le h = by_front (front total p ps)
         → ((a : ℕ) (qs : List Placed) → length qs ≤ n → last_end a qs ≡ total → last_end a (replaced total qs) ≡ total)
         → last_end m.mark.end (replaced total (drop m.more ps)) ≡ total
     by_end m (inl e) ih =
-        ih m.mark.end (drop m.more ps) (omega (arith, length_drop m.more ps)) (rw e (last_end-split m.more p.end ps ∙ h))
+        ih m.mark.end (drop m.more ps) (omega (arith, length-drop m.more ps)) (rw e (last_end-split m.more p.end ps ∙ h))
     by_end m (inr e) ih = rw (e.1, replaced-nil total) e.0
 
     by_front : (replaced total (p ∷ ps) ≡ p ∷ replaced total ps) ⊎ Marks total p ps
@@ -121,7 +115,7 @@ length_within_n (suc n) total (p ∷ ps) le = by_front (front total p ps) (λ qs
     by_front : (replaced total (p ∷ ps) ≡ p ∷ replaced total ps) ⊎ Marks total p ps
         → ((qs : List Placed) → length qs ≤ n → length (replaced total qs) ≤ length qs) → length (replaced total (p ∷ ps)) ≤ length (p ∷ ps)
     by_front (inl e) ih = rw e (omega (arith, ih ps (omega arith)))
-    by_front (inr m) ih = rw m.is (omega (arith, length_drop m.more ps, ih (drop m.more ps) (omega (arith, length_drop m.more ps))))
+    by_front (inr m) ih = rw m.is (omega (arith, length-drop m.more ps, ih (drop m.more ps) (omega (arith, length-drop m.more ps))))
 
 pub length-replaced : (total : ℕ) (ps : List Placed) → length (replaced total ps) ≤ length ps
 length-replaced total ps = length_within_n (length ps) total ps (omega arith)

@@ -3,7 +3,7 @@ use Rattle.std.proofs.Common.{◌≡◌, ℕ, zero, suc, ◌+◌, ◌<◌, ◌�
 use Rattle.std.specs.List.{list_all}
 use Rattle.std.specs.Char.{len_utf8}
 use Rattle.std.specs.Str.{chars, IsUtf8, IsAscii, IsCharBoundary}
-use Rattle.std.proofs.lemmas.Bool.{and_parts, ne_eqb, cases_lt}
+use Rattle.std.proofs.lemmas.Bool.{and_parts, ne_eqb, cases_lt, not-true, ltb-true}
 use Rattle.std.proofs.lemmas.List.{length-take-le}
 use Rattle.std.proofs.lemmas.List.Folds.{list_all-append}
 use Rattle.std.proofs.lemmas.Str.{IsCharBoundary-after_ascii, IsCharBoundary-before_ascii, IsCharBoundary-end, IsUtf8-take, IsUtf8-past_char, chars_past_char, encode_ascii, encodes-IsAscii, len_utf8_ascii, length-encode}
@@ -17,7 +17,7 @@ use Rattle.pp_lexer.specs.Lines.{is_newline, pieces}
 use Rattle.pp_lexer.specs.inner.Readers.{placed_from, joined, past_line, past_block}
 use Rattle.pp_lexer.proofs.characters.CommentsLemmas.{block_goes_on}
 use Rattle.pp_lexer.proofs.characters.ContinuationsLemmas.{continued-plain}
-use Rattle.pp_lexer.proofs.characters.FrontsLemmas.{below, negated, pieces_plain}
+use Rattle.pp_lexer.proofs.characters.FrontsLemmas.{pieces_plain}
 use Rattle.pp_lexer.proofs.characters.PlainFrontsLemmas.{passes_at, split_at}
 
 pub record Straight (c : ℕ) : Type 0 where
@@ -27,7 +27,7 @@ pub record Straight (c : ℕ) : Type 0 where
   pub no_backslash : (c == 92) ≡ false
 
 pub straight_parts : (c : ℕ) → is_straight c ≡ true → Straight c
-straight_parts c h = grind (arith, and_parts, below, negated)
+straight_parts c h = grind (arith, and_parts, ltb-true, not-true)
 
 abbrev pub reader : List Placed → ℕ → ℕ → Cursor
 reader rest offset total = record { rest = rest; offset = offset; total = total }
@@ -124,7 +124,7 @@ pub record Starless (c : ℕ) : Type 0 where
   pub no_star : (c == 42) ≡ false
 
 pub starless_parts : (c : ℕ) → is_starless c ≡ true → Starless c
-starless_parts c h = grind (arith, and_parts, negated)
+starless_parts c h = grind (arith, and_parts, not-true)
 
 starless_kept : (c : ℕ) → is_starless c ≡ true → Kept c
 starless_kept c h = (starless_parts c h).kept

@@ -1,5 +1,6 @@
 -- What a lexer gives at a token, at an error and at the end, after the blanks.
 use Rattle.std.proofs.Common.{◌≡◌, List, [], ◌∷◌, Bool, true, false, ◌||◌, refl, sym, ◌∙◌, ap, inl, inr, IsTrue, Option, Some, None, Result, OnOk, Ok, Err, IsErr, MatchOption, subst, arith}
+use Rattle.std.proofs.Math.Bool.{or-false}
 use Rattle.std.specs.Bool.{⊤}
 use Rattle.std.specs.List.{list_any}
 use Rattle.std.proofs.lemmas.Bool.{false≢true}
@@ -100,14 +101,10 @@ lexed_refused f r p q first e answer here plain same k h = grind (arith, refused
 newline_comments : (f : Flags) (last : Spot) (b : Bool) → b ≡ f.had_comments → f.had_comments ≡ comments_before (newline_seen f last) b
 newline_comments f last b h = grind arith
 
-no_more : (b : Bool) → (b || false) ≡ b
-no_more true = refl
-no_more false = refl
-
 end_at : (f g : Flags) (ss : List Spot) (last : Spot) (answer : Option Lexeme) → None ≡ first_of ss → answer ≡ first_item (newline_seen f last)
     → newline_seen g last ≡ after_first_item (newline_seen f last)
     → g.had_comments ≡ f.had_comments → IsLexed f (record { rest = ss; last = last }) (Ok answer) g (record { rest = ss; last = last })
-end_at f g ss last answer h k e l = grind (arith, segments_none, no_more, value, newline_comments)
+end_at f g ss last answer h k e l = grind (arith, segments_none, or-false, value, newline_comments)
 
 -- nothing is left to read
 pub lexed_end : (f g : Flags) (r p : Reading) (last : Spot) (answer : Option Lexeme) → None ≡ first_char r → p ≡ r → last ≡ p.last

@@ -1,5 +1,6 @@
 -- How a lexer in the midst of a text passes a plain comment.
 use Rattle.std.proofs.Common.{◌≡◌, ℕ, ◌+◌, List, ◌∷◌, drop, Bool, true, false, ◌||◌, refl, sym, ◌∙◌, ap, subst, Some, option_map}
+use Rattle.std.proofs.Math.Bool.{or-true}
 use Rattle.pp_lexer.specs.declared.lexer.char_iterator.Spot.{Spot}
 use Rattle.pp_lexer.specs.declared.lexer.Flags.{Flags}
 use Rattle.pp_lexer.specs.declared.lexer.plain.comment.Comment.{Comment}
@@ -7,10 +8,6 @@ use Rattle.pp_lexer.specs.inner.Fronts.{spots_from}
 use Rattle.pp_lexer.specs.inner.PlainWords.{IsPlainComment}
 use Rattle.pp_lexer.specs.Reading.{Reading, first_of, first_char, past, after_first}
 use Rattle.pp_lexer.proofs.items.PassingLemmas.{IsBlanked, blanked, blank_passed}
-
-or_true : (b : Bool) → (b || true) ≡ true
-or_true true = refl
-or_true false = refl
 
 -- the flags after a comment
 abbrev pub commented : Flags → Flags
@@ -30,5 +27,5 @@ comment_passed f r q line at text rest comment e w g k =
     let here : Some 13 ≡ option_map (λ s. s.c) (first_char r) = sym (ap (λ ss. option_map (λ s. s.c) (first_of ss)) front) in
     let there : q ≡ after_first r = k ∙ sym (ap (λ ss. past ss r.last) front) in
     let flags : blanked f 13 ≡ commented f =
-    ap (λ b. record { leading_whitespace = true; start_of_line = f.start_of_line; had_comments = b }) (or_true f.had_comments) in
+    ap (λ b. record { leading_whitespace = true; start_of_line = f.start_of_line; had_comments = b }) (or-true f.had_comments) in
     subst (λ g. IsBlanked f g r q) flags (blank_passed f r r q 13 here refl refl there)

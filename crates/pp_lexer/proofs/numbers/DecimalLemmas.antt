@@ -4,7 +4,7 @@ use Rattle.std.specs.Char.{digit_value}
 use Rattle.std.specs.Fmt.{decimal}
 use Rattle.std.specs.List.{list_all, list_any}
 use Rattle.std.specs.Str.Parse.{AllDigits, digits_value_after}
-use Rattle.std.proofs.lemmas.Bool.{and_right, and_parts, lt-ltb, ne_eqb}
+use Rattle.std.proofs.lemmas.Bool.{and_right, and_parts, lt-ltb, ne_eqb, and_from}
 use Rattle.std.proofs.lemmas.Fmt.{decimal_is_IsNumeral, decimal_digit, first_decimal}
 use Rattle.pp_lexer.specs.declared.token.Integer.{Integer as IntegerLiteral}
 use Rattle.pp_lexer.specs.declared.lexer.item.TokenValue.TheVariants.{Integer}
@@ -17,7 +17,7 @@ use Rattle.pp_lexer.specs.Surroundings.{begins_with}
 use Rattle.pp_lexer.specs.Words.{word_at}
 use Rattle.pp_lexer.proofs.numbers.NumbersLemmas.{either_apart, e_apart, point_apart}
 use Rattle.pp_lexer.proofs.numbers.NumberSetsLemmas.{decimal_number, number_lacks}
-use Rattle.pp_lexer.proofs.words.SetsLemmas.{both, all_many}
+use Rattle.pp_lexer.proofs.words.SetsLemmas.{all_many}
 use Rattle.pp_lexer.proofs.spelling.SpelledWordLemmas.{IsBreak, break_begins, number_ends, spelled_number}
 
 -- the digits of a number below 2^64, without a zero at their front unless it is all
@@ -30,7 +30,7 @@ pub record IsDecimalText (n : ℕ) (w : List ℕ) : Type 0 where
 
 all_decimal : (w : List ℕ) → AllDigits 10 w → list_all is_decimal w ≡ true
 all_decimal [] h = refl
-all_decimal (c ∷ w) h = both (is_decimal c) (list_all is_decimal w) (lt-ltb (digit_value c) 10 h.0) (all_decimal w h.1)
+all_decimal (c ∷ w) h = and_from (is_decimal c) (list_all is_decimal w) (lt-ltb (digit_value c) 10 h.0) (all_decimal w h.1)
 
 no_octal_above : (w : List ℕ) → 48 < get_or w 0 0 → begins_octal w ≡ false
 no_octal_above [] h = refl
@@ -62,11 +62,11 @@ no_hex : (w : List ℕ) → list_all is_decimal w ≡ true → begins_hex w ≡ 
 no_hex w h = and_right (begins_with is_zero w) (begins_with is_x (after_first w)) (no_x w h)
 
 digits_number : (w : List ℕ) → 0 < length w → list_all is_decimal w ≡ true → is_number w ≡ true
-digits_number w h k = grind (arith, and_parts, decimal_number, both, all_many)
+digits_number w h k = grind (arith, and_parts, decimal_number, and_from, all_many)
 
 module _ (n : ℕ) (w : List ℕ) (t : IsDecimalText n w) where
   digits_whole : whole 10 w ≡ Some n
-  digits_whole = grind (arith, lt-ltb, both)
+  digits_whole = grind (arith, lt-ltb, and_from)
 
   pub digits_value : (signed : Bool) → integer_value signed w ≡ Ok (Integer (record { value = n; signed = signed; width = pos 32 }))
   digits_value signed = grind (arith, no_hex, digits_whole)

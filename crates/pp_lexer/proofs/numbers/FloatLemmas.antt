@@ -1,5 +1,6 @@
 -- What a float's text is, read from its front.
 use Rattle.std.proofs.Common.{◌≡◌, ℕ, List, [], ◌∷◌, drop, Bool, true, false, ◌&&◌, ◌||◌, ◌==◌, refl, sym, ◌∙◌, ap, inl, inr, if◌then◌else◌, arith}
+use Rattle.std.proofs.Math.Bool.{or-false}
 use Rattle.std.proofs.lemmas.Bool.{eqb-true, or_cases}
 use Rattle.pp_lexer.specs.Longest.{front_len}
 use Rattle.pp_lexer.specs.Numbers.{is_point, is_sign, is_decimal, digits}
@@ -8,7 +9,7 @@ use Rattle.pp_lexer.specs.Surroundings.{begins_with}
 use Rattle.pp_lexer.specs.NumberValue.{float_exponent, float_tail, is_float_text}
 use Rattle.pp_lexer.specs.inner.NumberValue.{is_small_e, float_power}
 use Rattle.pp_lexer.proofs.words.LongestLemmas.{many_pass, many_is}
-use Rattle.pp_lexer.proofs.numbers.NumbersLemmas.{point_apart, small_e_apart, or_false}
+use Rattle.pp_lexer.proofs.numbers.NumbersLemmas.{point_apart, small_e_apart}
 
 -- one digit or more, and what follows
 module _ (p : ℕ → Bool) (tail : List ℕ → Bool) (ends : tail [] ≡ true) (apart : (c : ℕ) (w : List ℕ) → p c ≡ true → tail (c ∷ w) ≡ false) where
@@ -30,7 +31,7 @@ tail_apart c w h = rw (small_e_apart c h, point_apart c h) refl
 
 -- the set `one is_decimal digits` lacks the empty spelling, so `maybe` is opened here
 power_is : (t : List ℕ) → float_power t ≡ one is_decimal digits (drop (if begins_with is_sign t then 1 else 0) t)
-power_is t = grind (arith, sign_power, or_false)
+power_is t = grind (arith, sign_power, or-false)
 
 mark_is : (t : List ℕ) → begins_with is_small_e t ≡ true → float_exponent t ≡ float_power (drop 1 t)
 mark_is [] h = cc
@@ -61,7 +62,7 @@ pointed_tail (c ∷ t) h = rw (eqb-true c 46 h) refl
 
 plain_tail : (t : List ℕ) → begins_with is_point t ≡ false → float_tail t ≡ float_exponent t
 plain_tail [] h = refl
-plain_tail (c ∷ t) h = rw h (or_false (float_exponent (c ∷ t)))
+plain_tail (c ∷ t) h = rw h (or-false (float_exponent (c ∷ t)))
 
 -- a text that begins with a digit
 digits_first : (t : List ℕ) → begins_with is_decimal t ≡ true → is_float_text t ≡ float_tail (drop (front_len is_decimal t) t)
@@ -69,7 +70,7 @@ digits_first [] h = cc
 digits_first (c ∷ t) h =
     let o : is_float_text (c ∷ t) ≡ (one is_decimal (many is_decimal float_tail) (c ∷ t) || false) =
     ap (λ b. one is_decimal (many is_decimal float_tail) (c ∷ t) || (b && one is_decimal (many is_decimal float_exponent) t)) (point_apart c h) in
-    o ∙ or_false (one is_decimal (many is_decimal float_tail) (c ∷ t)) ∙ some_is is_decimal float_tail refl tail_apart (c ∷ t) h
+    o ∙ or-false (one is_decimal (many is_decimal float_tail) (c ∷ t)) ∙ some_is is_decimal float_tail refl tail_apart (c ∷ t) h
 
 -- digits, a point and digits
 pub pointed_is : (t t1 t2 t3 : List ℕ) (d p : Bool) → d ≡ begins_with is_decimal t → d ≡ true → t1 ≡ drop (front_len is_decimal t) t

@@ -1,6 +1,6 @@
 -- A float's text is the longest number, if what stands after it goes on with no number.
 use Rattle.std.proofs.Common.{◌≡◌, ℕ, ◌+◌, List, [], ◌∷◌, ◌++◌, length, Bool, true, false, ◌&&◌, ◌==◌, suc, refl, sym, ◌∙◌, ap, arith, inl, inr}
-use Rattle.std.proofs.lemmas.Bool.{and_parts, eqb-true, false≢true, or_cases, or_left, or_right}
+use Rattle.std.proofs.lemmas.Bool.{and_parts, eqb-true, false≢true, or_cases, or_left, or_right, and_from}
 use Rattle.pp_lexer.specs.Longest.{longest}
 use Rattle.pp_lexer.specs.Numbers.{is_zero, is_x, is_point, is_e, is_sign, is_decimal, digits, exponent, fraction, decimal_tail, is_number, begins_number}
 use Rattle.pp_lexer.specs.NumberValue.{float_exponent, float_tail, is_float_text}
@@ -14,7 +14,7 @@ use Rattle.pp_lexer.proofs.numbers.NumberSetsLemmas.{some_digits}
 use Rattle.pp_lexer.proofs.numbers.NumbersLemmas.{either_apart, point_apart, exponent_apart, decimal_tail_apart, sign_apart, exponent_none, decimal_tail_len, decimal_tail_none, point_number_len, digit_number_len, zero_number_len, after_zero_digits}
 use Rattle.pp_lexer.proofs.numbers.PlainNumbersLemmas.{NoMore, digits_len, fraction_of}
 use Rattle.pp_lexer.proofs.words.LongestLemmas.{longest_all, longest_same, longest_step, many_pass, many_stop, longest-maybe_pass, longest-maybe_stop, longest-optional_pass}
-use Rattle.pp_lexer.proofs.words.SetsLemmas.{both, made_many, made_nothing}
+use Rattle.pp_lexer.proofs.words.SetsLemmas.{made_many, made_nothing}
 
 -- an exponent begins with `e`
 exponent_begins : (p : ℕ → Bool) → p 101 ≡ false → (w cs : List ℕ) → float_exponent w ≡ true → begins_with p cs ≡ false
@@ -114,7 +114,7 @@ module _ (cs : List ℕ) (e : NoMore cs) where
           zero_number_len (c ∷ (w ++ cs)) z ∙ ap (λ k. 1 + k) (after ∙ rest_full w h) ∙ omega arith
       by false z =
           digit_number_len (c ∷ (w ++ cs)) (or_left (is_decimal c) (is_point c && begins_with is_decimal (w ++ cs)) d) (point_apart c d) z
-          ∙ rest_full (c ∷ w) (or_right (float_tail (c ∷ w)) (is_decimal c && many is_decimal float_tail w) (both (is_decimal c) _ d h))
+          ∙ rest_full (c ∷ w) (or_right (float_tail (c ∷ w)) (is_decimal c && many is_decimal float_tail w) (and_from (is_decimal c) _ d h))
 
   pub float_full : (w : List ℕ) → is_float_text w ≡ true → longest is_number (w ++ cs) ≡ length w
-  float_full w h = grind (arith, false≢true, or_cases, and_parts, digit_full, or_right, both, one_begins, point_number_len, fraction_full, one_many)
+  float_full w h = grind (arith, false≢true, or_cases, and_parts, digit_full, or_right, and_from, one_begins, point_number_len, fraction_full, one_many)

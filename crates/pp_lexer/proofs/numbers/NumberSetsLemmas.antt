@@ -1,5 +1,5 @@
 -- The characters of numbers, and that a float's text is a number.
-use Rattle.std.proofs.Common.{◌≡◌, ℕ, Bool, false, ◌||◌, ◌==◌, [], ◌∷◌, arith}
+use Rattle.std.proofs.Common.{◌≡◌, ℕ, Bool, false, ◌||◌, ◌==◌, [], ◌∷◌, arith, true}
 use Rattle.std.proofs.lemmas.Bool.{or_left, false≢true}
 use Rattle.pp_lexer.specs.Spellings.{nothing, one, many}
 use Rattle.pp_lexer.specs.Numbers.{is_zero, is_x, is_point, is_e, is_sign, is_decimal, is_hex, digits, exponent, fraction, decimal_tail, is_hex_number, is_number}
@@ -64,7 +64,16 @@ number_lacks k a b c d e f g =
     })
 
 -- the characters of a float's text
-module _ (p : ℕ → Bool) (decimal : Implies is_decimal p) (point : Implies is_point p) (mark : Implies is_small_e p) (sign : Implies is_sign p) where
+module _ (p : ℕ → Bool) (decimal : Implies is_decimal p) (at_point : p 46 ≡ true) (at_mark : p 101 ≡ true) (at_plus : p 43 ≡ true) (at_minus : p 45 ≡ true) where
+  point : Implies is_point p
+  point c h = grind arith
+
+  mark : Implies is_small_e p
+  mark c h = grind arith
+
+  sign : Implies is_sign p
+  sign c h = grind arith
+
   made_float_exponent : IsMadeOf p float_exponent
   made_float_exponent =
       made_optional p (one is_small_e float_power)

@@ -1,5 +1,6 @@
 -- The longest front in each of the sets that a number is made of.
 use Rattle.std.proofs.Common.{◌≡◌, ℕ, zero, suc, ◌+◌, ◌<◌, List, [], ◌∷◌, length, take, drop, Bool, true, false, ◌&&◌, ◌||◌, ◌==◌, refl, sym, ◌∙◌, ap, arith, inl, inr, zero-add, if◌then◌else◌}
+use Rattle.std.proofs.Math.Bool.{or-false}
 use Rattle.std.proofs.lemmas.Bool.{or_cases, or_parts, and_cases, and_right, eqb-true, false≢true}
 use Rattle.std.specs.Char.{is_digit}
 use Rattle.pp_lexer.specs.Longest.{longest, front_len}
@@ -93,17 +94,13 @@ hex_tail_len = optional_len is_point fraction refl
 pub hex_tail_none : (t : List ℕ) → begins_with is_point t ≡ false → longest hex_tail t ≡ 0
 hex_tail_none = optional_none is_point fraction refl
 
-pub or_false : (b : Bool) → (b || false) ≡ b
-or_false true = refl
-or_false false = refl
-
 pub decimal_tail_len : (t : List ℕ) → begins_with is_point t ≡ true → longest decimal_tail t ≡ 1 + longest fraction (drop 1 t)
 decimal_tail_len t h = grind (arith, eqb-true, longest_step)
 
 pub decimal_tail_none : (t : List ℕ) → begins_with is_point t ≡ false → longest decimal_tail t ≡ longest exponent t
 unfolding longest
 decimal_tail_none [] h = refl
-decimal_tail_none (c ∷ t) h = longest_same decimal_tail exponent c t (λ w. rw h (or_false (exponent (c ∷ w))))
+decimal_tail_none (c ∷ t) h = longest_same decimal_tail exponent c t (λ w. rw h (or-false (exponent (c ∷ w))))
 
 -- a point and a digit
 pub point_number_len : (t : List ℕ) → begins_number t ≡ true → begins_with is_point t ≡ true → longest is_number t ≡ 1 + longest fraction (drop 1 t)
@@ -126,7 +123,7 @@ point_number_len (c ∷ d ∷ t) b h =
 
 decimal_digit_number : (c : ℕ) (w : List ℕ) → is_decimal c ≡ true → is_zero c ≡ false → is_number (c ∷ w) ≡ many is_decimal decimal_tail (c ∷ w)
 unfolding longest is_number
-decimal_digit_number c w d z = grind (arith, point_apart, or_false, many_pass, decimal_tail_apart)
+decimal_digit_number c w d z = grind (arith, point_apart, or-false, many_pass, decimal_tail_apart)
 
 -- a digit other than `0`
 pub digit_number_len : (t : List ℕ) → begins_number t ≡ true → begins_with is_point t ≡ false → begins_with is_zero t ≡ false
@@ -134,7 +131,7 @@ pub digit_number_len : (t : List ℕ) → begins_number t ≡ true → begins_wi
 unfolding longest is_number
 digit_number_len [] b p z = refl
 digit_number_len (c ∷ t) b p z =
-    let d : is_decimal c ≡ true = sym (or_false (is_decimal c)) ∙ (rw p at b) in
+    let d : is_decimal c ≡ true = sym (or-false (is_decimal c)) ∙ (rw p at b) in
     longest_same is_number (many is_decimal decimal_tail) c t (λ w. decimal_digit_number c w d z)
 
 zero_front : (t : List ℕ) → begins_with is_x t ≡ false → (k : ℕ) → is_number (48 ∷ take k t) ≡ many is_decimal decimal_tail (take k t)
@@ -142,7 +139,7 @@ unfolding longest is_number
 zero_front [] x zero = refl
 zero_front [] x (suc k) = refl
 zero_front (c ∷ t) x zero = refl
-zero_front (c ∷ t) x (suc k) = rw x (or_false (many is_decimal decimal_tail (c ∷ take k t)))
+zero_front (c ∷ t) x (suc k) = rw x (or-false (many is_decimal decimal_tail (c ∷ take k t)))
 
 -- what may stand after a first `0`
 abbrev pub after_zero : List ℕ → Bool
@@ -165,8 +162,8 @@ hex_front : (c : ℕ) (w : List ℕ) → is_x c ≡ true → after_zero (c ∷ w
 unfolding longest is_number
 hex_front c w x =
     elim (or_cases (c == 120) (c == 88) x) [
-      | inl e ↦ rw (eqb-true c 120 e) (or_false (many is_hex hex_tail w))
-      | inr e ↦ rw (eqb-true c 88 e) (or_false (many is_hex hex_tail w))
+      | inl e ↦ rw (eqb-true c 120 e) (or-false (many is_hex hex_tail w))
+      | inr e ↦ rw (eqb-true c 88 e) (or-false (many is_hex hex_tail w))
     ]
 
 pub after_zero_hex : (t : List ℕ) → begins_with is_x t ≡ true → longest after_zero t ≡ 1 + longest (many is_hex hex_tail) (drop 1 t)

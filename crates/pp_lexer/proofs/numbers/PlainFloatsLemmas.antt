@@ -1,9 +1,10 @@
 -- Floats at the front of a plain text.
 use Rattle.std.proofs.Common.{◌≡◌, ℕ, zero, suc, ◌+◌, ◌-◌, ◌<◌, ◌≤◌, List, [], ◌∷◌, ◌++◌, length, take, drop, get_or, Bool, true, false, not, ◌&&◌, ◌||◌, ◌==◌, append_assoc, length-append, add-zero, refl, sym, ◌∙◌, ap, arith, Ok, None, pos}
+use Rattle.std.proofs.Math.Bool.{and-false}
 use Rattle.std.specs.List.{list_all, list_any}
 use Rattle.std.specs.Str.{IsUtf8}
 use Rattle.std.proofs.Math.Seq.{take-append_seam}
-use Rattle.std.proofs.lemmas.Bool.{and_parts, eqb-true, false≢true, or_left, or_right}
+use Rattle.std.proofs.lemmas.Bool.{and_parts, eqb-true, false≢true, or_left, or_right, and_from, not-true}
 use Rattle.std.proofs.lemmas.Bool.Decides.{nat_tests}
 use Rattle.std.proofs.lemmas.List.{drop-take, length-take-le, take-take}
 use Rattle.pp_lexer.specs.declared.lexer.item.TokenValue.TheVariants.{Float}
@@ -16,7 +17,6 @@ use Rattle.pp_lexer.specs.PlainItems.{without_suffix}
 use Rattle.pp_lexer.specs.Spellings.{nothing, one, many}
 use Rattle.pp_lexer.specs.Surroundings.{begins_with}
 use Rattle.pp_lexer.specs.Words.{is_blank, word_at}
-use Rattle.pp_lexer.proofs.characters.FrontsLemmas.{negated}
 use Rattle.pp_lexer.proofs.characters.PlainFrontsLemmas.{split_at, take_seam}
 use Rattle.pp_lexer.proofs.numbers.LongestFloatLemmas.{float_full}
 use Rattle.pp_lexer.proofs.numbers.NumbersLemmas.{either_apart}
@@ -24,7 +24,7 @@ use Rattle.pp_lexer.proofs.numbers.NumberSetsLemmas.{float_text_number, made_flo
 use Rattle.pp_lexer.proofs.numbers.PlainNumbersLemmas.{NoMore, ended, ends_class, no_f, no_h, no_refusal, number_of, either_letter, decimal_plain, take_more, plain_more}
 use Rattle.pp_lexer.proofs.spelling.FloatSpellingLemmas.{value_same}
 use Rattle.pp_lexer.proofs.words.PlainWordsLemmas.{plain_before}
-use Rattle.pp_lexer.proofs.words.SetsLemmas.{Implies, both, all_many}
+use Rattle.pp_lexer.proofs.words.SetsLemmas.{Implies, all_many}
 use Rattle.pp_lexer.proofs.words.WordsLemmas.{no_number_here}
 
 -- A float's text, with what stands after it
@@ -60,29 +60,11 @@ module _ (w : List ℕ) (text : is_float_text w ≡ true) (float : is_float w �
 
 -- at the front of a text
 
-point_plain : Implies is_point is_plain
-point_plain c h = ap is_plain (eqb-true c 46 h)
-
-mark_plain : Implies is_small_e is_plain
-mark_plain c h = ap is_plain (eqb-true c 101 h)
-
-sign_plain : Implies is_sign is_plain
-sign_plain c h = either_letter (λ c. is_plain c ≡ true) c 43 45 h refl refl
-
 abbrev no_blank : ℕ → Bool
 no_blank c = not (is_blank c)
 
 decimal_no_blank : Implies is_decimal no_blank
 decimal_no_blank c h = grind (arith, nat_tests)
-
-point_no_blank : Implies is_point no_blank
-point_no_blank c h = ap no_blank (eqb-true c 46 h)
-
-mark_no_blank : Implies is_small_e no_blank
-mark_no_blank c h = ap no_blank (eqb-true c 101 h)
-
-sign_no_blank : Implies is_sign no_blank
-sign_no_blank c h = either_letter (λ c. no_blank c ≡ true) c 43 45 h refl refl
 
 float_some : (n : ℕ) (text : List ℕ) → is_float_text (take n text) ≡ true → 0 < n
 float_some n text h = grind (arith, false≢true)
@@ -103,13 +85,13 @@ pub record IsFloatFront (text : List ℕ) (n : ℕ) : Type 0 where
 module _ (text : List ℕ) (n : ℕ) (u : IsUtf8 text) (le : n ≤ length text) (here : is_float_text (take n text) ≡ true)
     (float : is_float (take n text) ≡ true) where
   plain : list_all is_plain (take n text) ≡ true
-  plain = made_float_text is_plain decimal_plain point_plain mark_plain sign_plain (take n text) here
+  plain = made_float_text is_plain decimal_plain refl refl refl refl (take n text) here
 
   first_no_blank : is_blank (get_or text 0 0) ≡ false
   first_no_blank =
-      negated (is_blank (get_or text 0 0))
+      not-true (is_blank (get_or text 0 0))
       (first_passes no_blank n text (float_some n text here) le
-      (made_float_text no_blank decimal_no_blank point_no_blank mark_no_blank sign_no_blank (take n text) here))
+      (made_float_text no_blank decimal_no_blank refl refl refl refl (take n text) here))
 
   pub plain_float : Stops continues_number text n → IsPlainWord text (Float (record { text = take n text; width = pos 32 })) n
   plain_float stops =
@@ -137,7 +119,7 @@ module _ (text : List ℕ) (n : ℕ) (u : IsUtf8 text) (le : n ≤ length text) 
 -- Exponents by their bytes
 
 digits_some : (w : List ℕ) → list_all is_decimal w ≡ true → 0 < length w → one is_decimal digits w ≡ true
-digits_some w h k = grind (arith, and_parts, both, all_many)
+digits_some w h k = grind (arith, and_parts, and_from, all_many)
 
 pub unsigned_power : (n : ℕ) (text : List ℕ) → n ≤ length text → list_all is_decimal (take n text) ≡ true → 0 < n → float_power (take n text) ≡ true
 unsigned_power n text le h some = grind (arith, or_left, digits_some, length-take-le)
@@ -147,7 +129,7 @@ take_after n c text = let k : n + 1 ≡ suc n = omega arith in ap (λ m. take m 
 
 pub signed_power : (n : ℕ) (text : List ℕ) → 0 < length text → is_sign (get_or text 0 0) ≡ true → n ≤ length (drop 1 text)
     → list_all is_decimal (take n (drop 1 text)) ≡ true → 0 < n → float_power (take (n + 1) text) ≡ true
-signed_power n text h k e l u = grind (arith, take_after, or_right, both, digits_some, length-take-le)
+signed_power n text h k e l u = grind (arith, take_after, or_right, and_from, digits_some, length-take-le)
 
 pub exponent_text : (n : ℕ) (text : List ℕ) → 0 < length text → get_or text 0 0 ≡ 101 → float_power (take n (drop 1 text)) ≡ true
     → float_exponent (take (n + 1) text) ≡ true
@@ -167,7 +149,7 @@ many_append p P [] [] d e = e
 many_append p P [] (c ∷ w) d e = or_left (P (c ∷ w)) (p c && many p P w) e
 many_append p P (c ∷ v) w d e =
     let b = and_parts (p c) (list_all p v) d in
-    or_right (P (c ∷ (v ++ w))) (p c && many p P (v ++ w)) (both (p c) _ b.0 (many_append p P v w b.1 e))
+    or_right (P (c ∷ (v ++ w))) (p c && many p P (v ++ w)) (and_from (p c) _ b.0 (many_append p P v w b.1 e))
 
 any_there : (p : ℕ → Bool) (v : List ℕ) (c : ℕ) (w : List ℕ) → p c ≡ true → list_any p (v ++ c ∷ w) ≡ true
 any_there p [] c w h = or_left (p c) (list_any p w) h
@@ -179,14 +161,14 @@ pointed_text [] u d e some = some refl
 pointed_text (c ∷ v) u d e some =
     let b = and_parts (is_decimal c) (list_all is_decimal v) d in
     or_left (is_decimal c && many is_decimal float_tail (v ++ 46 ∷ u)) _
-    (both (is_decimal c) _ b.0 (many_append is_decimal float_tail v (46 ∷ u) b.1 (or_right (float_exponent (46 ∷ u)) (many is_decimal float_exponent u) e)))
+    (and_from (is_decimal c) _ b.0 (many_append is_decimal float_tail v (46 ∷ u) b.1 (or_right (float_exponent (46 ∷ u)) (many is_decimal float_exponent u) e)))
 
 some_first : (u x : List ℕ) → list_all is_decimal u ≡ true → 0 < length u → float_exponent x ≡ true
     → one is_decimal (many is_decimal float_exponent) (u ++ x) ≡ true
 some_first [] x d some e = absurd (omega arith)
 some_first (c ∷ u) x d some e =
     let b = and_parts (is_decimal c) (list_all is_decimal u) d in
-    both (is_decimal c) _ b.0 (many_append is_decimal float_exponent u x b.1 e)
+    and_from (is_decimal c) _ b.0 (many_append is_decimal float_exponent u x b.1 e)
 
 -- digits, a point and digits
 pub pointed_front : (text : List ℕ) (n m k : ℕ) → n < length text → get_or text n 0 ≡ 46 → list_all is_decimal (take n text) ≡ true
@@ -200,23 +182,15 @@ whole_text [] x d some e = absurd (omega arith)
 whole_text (c ∷ v) x d some e =
     let b = and_parts (is_decimal c) (list_all is_decimal v) d in
     or_left (is_decimal c && many is_decimal float_tail (v ++ x)) _
-    (both (is_decimal c) _ b.0 (many_append is_decimal float_tail v x b.1 (or_left (float_exponent x) _ e)))
+    (and_from (is_decimal c) _ b.0 (many_append is_decimal float_tail v x b.1 (or_left (float_exponent x) _ e)))
 
 no_hex : (v y : List ℕ) → list_all is_decimal v ≡ true → 0 < length v → begins_hex (v ++ 101 ∷ y) ≡ false
 no_hex [] y d some = absurd (omega arith)
-no_hex (c ∷ []) y d some = and_no (is_zero c)
-  where
-    and_no : (b : Bool) → (b && false) ≡ false
-    and_no true = refl
-    and_no false = refl
+no_hex (c ∷ []) y d some = and-false (is_zero c)
 no_hex (c ∷ a ∷ v) y d some =
     let b = and_parts (is_decimal c) (list_all is_decimal (a ∷ v)) d in
     let no : is_x a ≡ false = either_apart 120 88 10 refl refl a (and_parts (is_decimal a) (list_all is_decimal v) b.1).0 in
-    ap (λ t. is_zero c && t) no ∙ and_no (is_zero c)
-  where
-    and_no : (b : Bool) → (b && false) ≡ false
-    and_no true = refl
-    and_no false = refl
+    ap (λ t. is_zero c && t) no ∙ and-false (is_zero c)
 
 whole_float : (v x : List ℕ) → list_all is_decimal v ≡ true → 0 < length v → float_exponent x ≡ true → 0 < length x → is_float (v ++ x) ≡ true
 whole_float v x h k e l = grind (arith, eqb-true, and_parts, any_there, no_hex)

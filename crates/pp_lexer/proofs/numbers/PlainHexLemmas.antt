@@ -5,7 +5,7 @@ use Rattle.std.specs.Char.{digit_value}
 use Rattle.std.specs.Str.{IsUtf8}
 use Rattle.std.specs.Str.Parse.{digits_value_after}
 use Rattle.std.proofs.lemmas.Int.Digits.{digits_value_more}
-use Rattle.std.proofs.lemmas.Bool.{and_parts, lt-ltb}
+use Rattle.std.proofs.lemmas.Bool.{and_parts, lt-ltb, and_from}
 use Rattle.std.proofs.lemmas.Bool.Decides.{nat_tests}
 use Rattle.std.proofs.lemmas.List.{length-take-le}
 use Rattle.pp_lexer.specs.declared.lexer.item.TokenValue.TheVariants.{Integer}
@@ -23,7 +23,6 @@ use Rattle.pp_lexer.proofs.numbers.NumbersLemmas.{hex_point_apart, zero_number_l
 use Rattle.pp_lexer.proofs.numbers.PlainNumbersLemmas.{ends_class, number_of, no_point, no_u, no_s, drop_front, either_letter, take_more, plain_more, no_refusal}
 use Rattle.pp_lexer.proofs.characters.PlainFrontsLemmas.{all_plain, front_len-append}
 use Rattle.pp_lexer.proofs.words.PlainWordsLemmas.{plain_before}
-use Rattle.pp_lexer.proofs.words.SetsLemmas.{both}
 
 no_hex : (c : ℕ) → continues_number c ≡ false → is_hex c ≡ false
 no_hex c h = grind (arith, nat_tests)
@@ -71,7 +70,7 @@ marks true x w e l h = either_letter (λ c. list_any (is_float_mark true) (48 �
 
 -- the digits are those of the base
 hex_whole : (n : ℕ) (w : List ℕ) → n < 2 ^ 64 → 0 < length w → list_all is_hex w ≡ true → digits_value_after 16 0 w ≡ n → whole 16 w ≡ Some n
-hex_whole n w h k e l = grind (arith, lt-ltb, both)
+hex_whole n w h k e l = grind (arith, lt-ltb, and_from)
 
 hex_integer : (n : ℕ) (u w : List ℕ) (signed : Bool) → begins_hex u ≡ true → drop 2 u ≡ w → whole 16 w ≡ Some n
     → integer_value signed u ≡ Ok (Integer (record { value = n; signed = signed; width = pos 32 }))
@@ -113,7 +112,7 @@ x_plain : (x : ℕ) → is_x x ≡ true → is_plain x ≡ true
 x_plain x h = either_letter (λ c. is_plain c ≡ true) x 120 88 h refl refl
 
 hex_all_plain : (x : ℕ) (w : List ℕ) → is_x x ≡ true → list_all is_hex w ≡ true → list_all is_plain (48 ∷ x ∷ w) ≡ true
-hex_all_plain x w l h = both (is_plain x) (list_all is_plain w) (x_plain x l) (all_plain is_hex hex_plain w h)
+hex_all_plain x w l h = and_from (is_plain x) (list_all is_plain w) (x_plain x l) (all_plain is_hex hex_plain w h)
 
 module _ (text : List ℕ) (n value : ℕ) (u : IsUtf8 text) (b : BeginsHex text) (some : 0 < n) (within : n + 2 ≤ length text)
     (le : n ≤ length (drop 2 text)) (digits : list_all is_hex (take n (drop 2 text)) ≡ true) (small : value < 2 ^ 64)

@@ -8,7 +8,7 @@ use Rattle.std.specs.Int.{IsInRange}
 use Rattle.std.proofs.lemmas.Int.Digits.{digits_value_more}
 use Rattle.std.proofs.lemmas.Str.{digit_value_digit}
 use Rattle.std.proofs.lemmas.Str.Parse.{digit_from_value}
-use Rattle.std.proofs.lemmas.Bool.{and_parts, eqb-true, or_cases}
+use Rattle.std.proofs.lemmas.Bool.{and_parts, eqb-true, or_cases, and_from, ltb-true}
 use Rattle.std.proofs.lemmas.Bool.Decides.{nat_tests}
 use Rattle.std.proofs.lemmas.List.{length-take-le, drop_at}
 use Rattle.pp_lexer.specs.declared.lexer.item.TokenValue.TheVariants.{Integer}
@@ -22,10 +22,8 @@ use Rattle.pp_lexer.specs.Surroundings.{begins_with}
 use Rattle.pp_lexer.specs.Words.{is_blank, word_at}
 use Rattle.pp_lexer.proofs.numbers.DecimalLemmas.{IsDecimalText, digits_value, digits_outcome}
 use Rattle.pp_lexer.proofs.numbers.NumbersLemmas.{point_apart, either_apart, decimal_len, fraction_len, exponent_none, decimal_tail_none, digit_number_len, zero_number_len, after_zero_digits}
-use Rattle.pp_lexer.proofs.characters.FrontsLemmas.{below}
 use Rattle.pp_lexer.proofs.characters.PlainFrontsLemmas.{all_plain, front_len-append, take_seam}
 use Rattle.pp_lexer.proofs.words.PlainWordsLemmas.{plain_before}
-use Rattle.pp_lexer.proofs.words.SetsLemmas.{both}
 use Rattle.pp_lexer.proofs.words.WordAtLemmas.{number_first}
 
 -- what the character after a number is not
@@ -92,7 +90,7 @@ module _ (cs : List ℕ) (h : begins_with is_decimal cs ≡ false) where
           let after = after_zero_digits (w ++ cs) (no_x_after w all x) in
           let first = zero_number_len ((c ∷ w) ++ cs) z in
           first ∙ ap (λ k. 1 + k) (after ∙ more) ∙ omega arith
-      by false z = digit_number_len ((c ∷ w) ++ cs) begins (point_apart c d) z ∙ digits_len (c ∷ w) (both (is_decimal c) (list_all is_decimal w) d all)
+      by false z = digit_number_len ((c ∷ w) ++ cs) begins (point_apart c d) z ∙ digits_len (c ∷ w) (and_from (is_decimal c) (list_all is_decimal w) d all)
 
 -- a number of that many characters
 pub number_of : (w cs : List ℕ) → begins_number (w ++ cs) ≡ true → longest is_number (w ++ cs) ≡ length w → word_at (w ++ cs) ≡ number_outcome w cs
@@ -152,7 +150,7 @@ length_whole n xs = take_whole (length xs - n) (drop n xs) (omega (arith, length
 
 -- the value of one digit more
 digit_is : (c : ℕ) → is_decimal c ≡ true → (48 ≤ c) × (digit_value c ≡ c - 48)
-digit_is c h = grind (arith, digit_from_value, below, digit_value_digit)
+digit_is c h = grind (arith, digit_from_value, ltb-true, digit_value_digit)
 
 pub all_at : (p : ℕ → Bool) (n : ℕ) (xs : List ℕ) → n < length xs → list_all p xs ≡ true → p (get_or xs n 0) ≡ true
 all_at p n [] l h = absurd (omega arith)
@@ -214,7 +212,7 @@ pub plain_more : (c : ℕ) (w : List ℕ) → list_all is_plain w ≡ true → i
 plain_more c [] h p = ap (λ t. t && true) p
 plain_more c (d ∷ w) h p =
     let b = and_parts (is_plain d) (list_all is_plain w) h in
-    both (is_plain d) (list_all is_plain (w ++ c ∷ [])) b.0 (plain_more c w b.1 p)
+    and_from (is_plain d) (list_all is_plain (w ++ c ∷ [])) b.0 (plain_more c w b.1 p)
 
 pub plain_unsigned : (text : List ℕ) (n value : ℕ) → IsUtf8 text → 0 < n → n ≤ length text → list_all is_decimal (take n text) ≡ true
     → (get_or text 0 0 ≡ 48 → n ≤ 1) → value < 2 ^ 64

@@ -1,7 +1,7 @@
 -- A float's text is read as itself.
 use Rattle.std.proofs.Common.{◌≡◌, ℕ, List, [], ◌∷◌, ◌++◌, length, Bool, true, not, ◌&&◌, ◌==◌, add-zero, refl, sym, ◌∙◌, ap, inl, inr, map, filter, Ok, Err, None, pos, if◌then◌else◌, arith}
 use Rattle.std.specs.List.{list_all}
-use Rattle.std.proofs.lemmas.Bool.{and_parts, or_cases, eqb-true, eq-eqb}
+use Rattle.std.proofs.lemmas.Bool.{and_parts, or_cases, eqb-true, eq-eqb, and_from}
 use Rattle.pp_lexer.specs.declared.token.Float.{Float as FloatLiteral}
 use Rattle.pp_lexer.specs.declared.token.PreprocessorError.TheVariants.{FloatParsingError}
 use Rattle.pp_lexer.specs.declared.lexer.item.TokenValue.TheVariants.{Float}
@@ -11,7 +11,7 @@ use Rattle.pp_lexer.specs.inner.NumberValue.{is_small_e, small_e}
 use Rattle.pp_lexer.specs.Words.{word_at}
 use Rattle.pp_lexer.proofs.numbers.NumbersLemmas.{either_apart, e_apart}
 use Rattle.pp_lexer.proofs.numbers.NumberSetsLemmas.{made_float_text, float_text_number}
-use Rattle.pp_lexer.proofs.words.SetsLemmas.{Implies, both}
+use Rattle.pp_lexer.proofs.words.SetsLemmas.{Implies}
 use Rattle.pp_lexer.proofs.spelling.SpelledWordLemmas.{IsBreak, break_begins, number_ends, spelled_number}
 
 -- a character that stays in a float's text as it is
@@ -21,16 +21,7 @@ is_kept c = not (is_x c) && (small_e c == c)
 decimal_kept : Implies is_decimal is_kept
 decimal_kept c d =
     let same : small_e c ≡ c = ap (λ b. if b then 101 else c) (e_apart c d) in
-    both (not (is_x c)) (small_e c == c) (ap not (either_apart 120 88 10 refl refl c d)) (eq-eqb (small_e c) c same)
-
-point_kept : Implies is_point is_kept
-point_kept c e = ap is_kept (eqb-true c 46 e)
-
-mark_kept : Implies is_small_e is_kept
-mark_kept c e = ap is_kept (eqb-true c 101 e)
-
-sign_kept : Implies is_sign is_kept
-sign_kept c e = grind (arith, or_cases, eqb-true)
+    and_from (not (is_x c)) (small_e c == c) (ap not (either_apart 120 88 10 refl refl c d)) (eq-eqb (small_e c) c same)
 
 all_kept : (w : List ℕ) → list_all is_kept w ≡ true → float_text w ≡ w
 all_kept [] h = refl
@@ -42,7 +33,7 @@ all_kept (c ∷ w) h =
 
 -- nothing of a float's text is changed
 pub float_text_same : (w : List ℕ) → is_float_text w ≡ true → float_text w ≡ w
-float_text_same w h = all_kept w (made_float_text is_kept decimal_kept point_kept mark_kept sign_kept w h)
+float_text_same w h = all_kept w (made_float_text is_kept decimal_kept refl refl refl refl w h)
 
 pub value_same : (w : List ℕ) → is_float_text w ≡ true → float_value w ≡ Ok (Float (record { text = w; width = pos 32 }))
 value_same w h = grind (arith, float_text_same)

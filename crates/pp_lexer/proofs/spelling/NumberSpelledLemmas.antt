@@ -3,7 +3,7 @@ use Rattle.std.proofs.Common.{◌≡◌, ℕ, ◌^◌, ◌<◌, List, [], ◌∷
 use Rattle.std.specs.Char.{is_digit}
 use Rattle.std.specs.List.{list_all, list_any}
 use Rattle.std.specs.Str.Parse.{digits_value_after}
-use Rattle.std.proofs.lemmas.Bool.{and_parts, and_right, or_cases, or_right, eqb-true, ltb-true}
+use Rattle.std.proofs.lemmas.Bool.{and_parts, and_right, or_cases, or_right, eqb-true, ltb-true, not-true}
 use Rattle.pp_lexer.specs.declared.token.PreprocessorError.{PreprocessorError}
 use Rattle.pp_lexer.specs.declared.token.PreprocessorError.TheVariants.{FloatParsingError}
 use Rattle.pp_lexer.specs.declared.lexer.item.TokenValue.TheVariants.{Float}
@@ -14,7 +14,6 @@ use Rattle.pp_lexer.specs.Outcome.{Answer}
 use Rattle.pp_lexer.specs.Respelling.{IsSpelled}
 use Rattle.pp_lexer.specs.Spellings.{after_first}
 use Rattle.pp_lexer.specs.Surroundings.{begins_with}
-use Rattle.pp_lexer.proofs.words.SetsLemmas.{not_true}
 
 -- a number that is read is below 2^64
 whole_small : (base : ℕ) (ds : List ℕ) (n : ℕ) → whole base ds ≡ Some n → n < 2 ^ 64
@@ -35,7 +34,7 @@ no_x_kept [] = refl
 no_x_kept (c ∷ w) = grind (arith, no_x_kept w)
 
 no_hex : (w : List ℕ) → list_all (λ c. not (is_x c)) w ≡ true → begins_hex w ≡ false
-no_hex w h = grind (arith, and_right, and_parts, not_true)
+no_hex w h = grind (arith, and_right, and_parts, not-true)
 
 marked : (hex : Bool) (c : ℕ) (w : List ℕ) → is_float_mark hex c ≡ true → list_any (is_float_mark false) (float_text (c ∷ w)) ≡ true
 marked hex c w h = grind (arith, or_cases, eqb-true, and_parts)

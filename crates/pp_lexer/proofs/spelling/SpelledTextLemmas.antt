@@ -5,7 +5,7 @@ use Rattle.std.specs.Fmt.{decimal}
 use Rattle.std.specs.List.{list_all}
 use Rattle.std.specs.Str.{all_scalars}
 use Rattle.std.proofs.Math.Utf8.{scalar, low_scalar}
-use Rattle.std.proofs.lemmas.Bool.{and_parts, or_cases, eqb-true}
+use Rattle.std.proofs.lemmas.Bool.{and_parts, or_cases, eqb-true, and_from, not-true}
 use Rattle.std.proofs.lemmas.List.Elements.{All-head, All-tail}
 use Rattle.unicode_ident.specs.Ident.{is_xid_continue}
 use Rattle.unicode_ident.proofs.IdentLemmas.{is_xid_continue-ascii}
@@ -27,7 +27,7 @@ use Rattle.pp_lexer.specs.Surroundings.{begins_with}
 use Rattle.pp_lexer.proofs.numbers.DecimalLemmas.{decimal_text}
 use Rattle.pp_lexer.proofs.numbers.NumberSetsLemmas.{made_float_text}
 use Rattle.pp_lexer.proofs.characters.PlainPhasesLemmas.{is_second, IsPlain, plain-space}
-use Rattle.pp_lexer.proofs.words.SetsLemmas.{Implies, IsMadeOf, is_other, missing, both, not_true, made_nothing, made_one, made_many}
+use Rattle.pp_lexer.proofs.words.SetsLemmas.{Implies, IsMadeOf, is_other, missing, made_nothing, made_one, made_many}
 use Rattle.pp_lexer.proofs.words.WordsLemmas.{digit_low, ascii_no_start}
 
 -- a character that begins no line break, continuation or comment
@@ -35,7 +35,7 @@ abbrev is_calm : ℕ → Bool
 is_calm c = is_other 10 c && (is_other 13 c && (is_other 92 c && is_other 47 c))
 
 calm_class : (p : ℕ → Bool) → p 10 ≡ false → p 13 ≡ false → p 92 ≡ false → p 47 ≡ false → Implies p is_calm
-calm_class p a b d e c h = grind (arith, both, is_other, missing)
+calm_class p a b d e c h = grind (arith, and_from, is_other, missing)
 
 calm_char : (a b d e other : Bool) → (not a && (not b && (not d && not e))) ≡ true → ((a || b) ≡ false) × (d ≡ false) × ((e && other) ≡ false)
 calm_char a b d e other h = grind arith
@@ -49,20 +49,20 @@ calm_plain (c ∷ w) h =
 
 all_implied : (p q : ℕ → Bool) → Implies p q → (w : List ℕ) → list_all p w ≡ true → list_all q w ≡ true
 all_implied p q h [] e = refl
-all_implied p q h (c ∷ w) e = let b = and_parts (p c) (list_all p w) e in both (q c) (list_all q w) (h c b.0) (all_implied p q h w b.1)
+all_implied p q h (c ∷ w) e = let b = and_parts (p c) (list_all p w) e in and_from (q c) (list_all q w) (h c b.0) (all_implied p q h w b.1)
 
 -- characters of Unicode, one by one
 pub scalars_all : (w : List ℕ) → list_all scalar w ≡ true → all_scalars w ≡ true
 scalars_all [] h = refl
-scalars_all (c ∷ w) h = let b = and_parts (scalar c) (list_all scalar w) h in both (scalar c) (all_scalars w) b.0 (scalars_all w b.1)
+scalars_all (c ∷ w) h = let b = and_parts (scalar c) (list_all scalar w) h in and_from (scalar c) (all_scalars w) b.0 (scalars_all w b.1)
 
 scalars_append : (v w : List ℕ) → all_scalars v ≡ true → all_scalars w ≡ true → all_scalars (v ++ w) ≡ true
 scalars_append [] w h k = k
-scalars_append (c ∷ v) w h k = let b = and_parts (scalar c) (all_scalars v) h in both (scalar c) (all_scalars (v ++ w)) b.0 (scalars_append v w b.1 k)
+scalars_append (c ∷ v) w h k = let b = and_parts (scalar c) (all_scalars v) h in and_from (scalar c) (all_scalars (v ++ w)) b.0 (scalars_append v w b.1 k)
 
 all_append : (p : ℕ → Bool) (v w : List ℕ) → list_all p v ≡ true → list_all p w ≡ true → list_all p (v ++ w) ≡ true
 all_append p [] w h k = k
-all_append p (c ∷ v) w h k = let b = and_parts (p c) (list_all p v) h in both (p c) (list_all p (v ++ w)) b.0 (all_append p v w b.1 k)
+all_append p (c ∷ v) w h k = let b = and_parts (p c) (list_all p v) h in and_from (p c) (list_all p (v ++ w)) b.0 (all_append p v w b.1 k)
 
 -- Identifiers
 
@@ -83,19 +83,10 @@ abbrev is_safe : ℕ → Bool
 is_safe c = is_calm c && scalar c
 
 decimal_safe : Implies is_decimal is_safe
-decimal_safe c d = both (is_calm c) (scalar c) (calm_class is_decimal refl refl refl refl c d) (low_scalar c (omega (arith, digit_low c d)))
-
-point_safe : Implies is_point is_safe
-point_safe c e = ap is_safe (eqb-true c 46 e)
-
-mark_safe : Implies is_small_e is_safe
-mark_safe c e = ap is_safe (eqb-true c 101 e)
-
-sign_safe : Implies is_sign is_safe
-sign_safe c e = grind (arith, or_cases, eqb-true)
+decimal_safe c d = and_from (is_calm c) (scalar c) (calm_class is_decimal refl refl refl refl c d) (low_scalar c (omega (arith, digit_low c d)))
 
 float_safe : IsMadeOf is_safe is_float_text
-float_safe = made_float_text is_safe decimal_safe point_safe mark_safe sign_safe
+float_safe = made_float_text is_safe decimal_safe refl refl refl refl
 
 suffix_safe : (signed : Bool) → list_all is_safe (if signed then [] else codes "u") ≡ true
 suffix_safe true = refl
@@ -119,7 +110,7 @@ plain_from (c ∷ w) h =
     let a = and_parts (not (is_line_break c)) (not (c == 92) && (not ((c == 47) && begins_with is_second w) && is_plain w)) h in
     let b = and_parts (not (c == 92)) (not ((c == 47) && begins_with is_second w) && is_plain w) a.1 in
     let d = and_parts (not ((c == 47) && begins_with is_second w)) (is_plain w) b.1 in
-    (not_true (is_line_break c) a.0, not_true (c == 92) b.0, not_true ((c == 47) && begins_with is_second w) d.0, plain_from w d.1)
+    (not-true (is_line_break c) a.0, not-true (c == 92) b.0, not-true ((c == 47) && begins_with is_second w) d.0, plain_from w d.1)
 
 punctuator_plain : (p : Punctuator) → is_plain (punctuator p) ≡ true
 punctuator_plain AddAssign = refl

@@ -4,7 +4,7 @@ use Rattle.std.specs.Prelude.{All, ⊤}
 use Rattle.std.specs.List.{list_all}
 use Rattle.std.specs.Str.{IsUtf8, all_scalars}
 use Rattle.std.proofs.Math.Utf8.{scalar}
-use Rattle.std.proofs.lemmas.Bool.{and_parts}
+use Rattle.std.proofs.lemmas.Bool.{and_parts, and_from}
 use Rattle.std.proofs.lemmas.List.Elements.{All-nil, All-cons}
 use Rattle.std.proofs.lemmas.Simd.{map-map}
 use Rattle.pp_lexer.specs.declared.lexer.item.TokenValue.TheVariants.{Hash, NewLine, Ident, Punct}
@@ -26,7 +26,6 @@ use Rattle.pp_lexer.proofs.characters.CharactersLemmas.{source_scalar}
 use Rattle.pp_lexer.proofs.spelling.NumberSpelledLemmas.{number_spelled}
 use Rattle.pp_lexer.proofs.items.ItemsLemmas.{items_from, items_at_start}
 use Rattle.pp_lexer.proofs.spelling.RespellingLemmas.{letters-drop, values_in}
-use Rattle.pp_lexer.proofs.words.SetsLemmas.{both}
 use Rattle.pp_lexer.proofs.spelling.SpelledTextLemmas.{scalars_all}
 
 punctuation_spelled : (n : ℕ) (w : List ℕ) → IsSpelled (punctuation_outcome n (punctuation_value w)).value
@@ -38,7 +37,7 @@ word_spelled w after h = grind (arith, number_spelled, punctuation_spelled)
 take_scalar : (n : ℕ) (w : List ℕ) → list_all scalar w ≡ true → list_all scalar (take n w) ≡ true
 take_scalar zero w h = refl
 take_scalar (suc n) [] h = refl
-take_scalar (suc n) (c ∷ w) h = let b = and_parts (scalar c) (list_all scalar w) h in both (scalar c) (list_all scalar (take n w)) b.0 (take_scalar n w b.1)
+take_scalar (suc n) (c ∷ w) h = let b = and_parts (scalar c) (list_all scalar w) h in and_from (scalar c) (list_all scalar (take n w)) b.0 (take_scalar n w b.1)
 
 drop_scalar : (n : ℕ) (w : List ℕ) → list_all scalar w ≡ true → list_all scalar (drop n w) ≡ true
 drop_scalar zero w h = h

@@ -1,8 +1,9 @@
 -- Punctuators and `#` at the front of a plain text.
 use Rattle.std.proofs.Common.{◌≡◌, ℕ, suc, ◌+◌, ◌<◌, ◌≤◌, List, [], ◌∷◌, ◌++◌, length, take, drop, get_or, Bool, true, false, not, ◌&&◌, ◌||◌, ◌==◌, nat_lt, if◌then◌else◌, refl, sym, ◌∙◌, ap, subst, arith, Option, Some, None, is_some, Ok, inl, inr}
+use Rattle.std.proofs.Math.Bool.{and-false, and-true, and_self}
 use Rattle.std.specs.List.{list_all}
 use Rattle.std.specs.Str.{chars, IsUtf8, IsAscii}
-use Rattle.std.proofs.lemmas.Bool.{and_parts, and_right, or_parts, or_cases, eqb-true, eq-eqb, ne_eqb, eqb-false, false≢true}
+use Rattle.std.proofs.lemmas.Bool.{and_parts, and_right, or_parts, or_cases, eqb-true, eq-eqb, ne_eqb, eqb-false, false≢true, or_from, and_from, not-true, ltb-true}
 use Rattle.std.proofs.lemmas.Str.{IsCharBoundary-after_ascii}
 use Rattle.std.proofs.lemmas.Str.Ascii.{IsAscii-cons}
 use Rattle.unicode_ident.proofs.IdentLemmas.{is_xid_start-ascii}
@@ -20,12 +21,11 @@ use Rattle.pp_lexer.specs.inner.Readers.{placed_from}
 use Rattle.pp_lexer.specs.Reading.{letters}
 use Rattle.pp_lexer.specs.Surroundings.{begins_with}
 use Rattle.pp_lexer.specs.Words.{is_blank, word_at}
-use Rattle.pp_lexer.proofs.characters.FrontsLemmas.{below, negated, utf8_after, plain_parts, joined_is_not, slash_first, nothing_begins}
+use Rattle.pp_lexer.proofs.characters.FrontsLemmas.{utf8_after, plain_parts, joined_is_not, slash_first, nothing_begins}
 use Rattle.pp_lexer.proofs.characters.PlainFrontsLemmas.{plain_ascii, front_plain}
 use Rattle.pp_lexer.proofs.words.PlainWordsLemmas.{word_always, word_before}
 use Rattle.pp_lexer.proofs.words.PunctuationLemmas.{at_hash, at_punct}
 use Rattle.pp_lexer.proofs.words.PunctuatorsLemmas.{map_choice, IsLongest, found, is_punctuator-closed, one_at_end, one_alone, two_at_end, two_alone, three_of}
-use Rattle.pp_lexer.proofs.words.SetsLemmas.{both}
 use Rattle.pp_lexer.proofs.words.WordAtLemmas.{other_first}
 
 -- what the spellings of punctuators have in common
@@ -59,7 +59,7 @@ record First (c : ℕ) : Type 0 where
   no_hash : (c == 35) ≡ false
 
 first_of : (c : ℕ) (cs : List ℕ) (p : Punctuator) → punct_of (c ∷ cs) ≡ Some p → First c
-first_of c cs p h = grind (arith, and_parts, spelling_fits, below, negated)
+first_of c cs p h = grind (arith, and_parts, spelling_fits, ltb-true, not-true)
 
 passes_of : (c : ℕ) (cs : List ℕ) (p : Punctuator) → punct_of (c ∷ cs) ≡ Some p → passes c cs ≡ true
 passes_of c cs p h = (and_parts (first_fits c) (passes c cs) (spelling_fits (c ∷ cs) p h)).1
@@ -75,13 +75,9 @@ nothing_of : (o : Option Punctuator) → is_some o ≡ false → o ≡ None
 nothing_of None h = refl
 nothing_of (Some p) h = cc
 
-either_false : (a b : Bool) → a ≡ false → b ≡ false → (a || b) ≡ false
-either_false true b e f = cc
-either_false false b e f = f
-
 -- a newline or a mark continues nothing
 break_after : (c d : ℕ) → is_plain d ≡ false → is_decimal d ≡ false → ((d == 47) || (d == 42)) ≡ false → continues_punct c d ≡ false
-break_after c d n k m = grind (arith, either_false, unspelled, and_right)
+break_after c d n k m = grind (arith, or_from, unspelled, and_right)
 
 -- what stands there
 
@@ -89,7 +85,7 @@ starts_nothing : (c : ℕ) → First c → is_start c ≡ false
 starts_nothing c f = ap (λ t. t || (c == 95)) (is_xid_start-ascii c f.small) ∙ f.no_letter
 
 no_number : (c : ℕ) (cs : List ℕ) → First c → (is_point c && begins_with is_decimal cs) ≡ false → begins_number (c ∷ cs) ≡ false
-no_number c cs f h = either_false (is_decimal c) (is_point c && begins_with is_decimal cs) f.no_decimal h
+no_number c cs f h = or_from (is_decimal c) (is_point c && begins_with is_decimal cs) f.no_decimal h
 
 longest_word : (c : ℕ) (cs : List ℕ) (n : ℕ) (p : Punctuator) → First c → (is_point c && begins_with is_decimal cs) ≡ false → IsLongest (c ∷ cs) n (Some p)
     → word_at (c ∷ cs) ≡ record { value = Ok (Punct p); taken = n }
@@ -115,7 +111,7 @@ one_of c d q h = by (punct_of (c ∷ [])) refl (is_punctuator-closed (c ∷ d �
     by (Some p) e t = (p, e)
 
 second_no_decimal : (c d : ℕ) (ds : List ℕ) (q : Punctuator) → punct_of (c ∷ d ∷ ds) ≡ Some q → is_decimal d ≡ false
-second_no_decimal c d ds q h = grind (arith, and_parts, passes_of, negated)
+second_no_decimal c d ds q h = grind (arith, and_parts, passes_of, not-true)
 
 pair_at : (c d : ℕ) (cs : List ℕ) (q : Punctuator) → punct_of (c ∷ d ∷ []) ≡ Some q → begins_with (continues_pair c d) cs ≡ false
     → word_at (c ∷ d ∷ cs) ≡ record { value = Ok (Punct q); taken = 2 }
@@ -274,7 +270,7 @@ long_front : (c d : ℕ) (n : ℕ) (text : List ℕ) → IsUtf8 (c ∷ d ∷ tex
     → IsFront (c ∷ d ∷ text) (suc (suc n))
 long_front c d n text u le h p all = elim (or_cases (is_plain c) ((c == 47) && (d == 61)) h) [
   | inl q ↦ front_plain (suc (suc n)) (c ∷ d ∷ text) u (omega arith)
-      (both (is_plain c) (is_plain d && list_all is_plain (take n text)) q (both (is_plain d) (list_all is_plain (take n text)) p all))
+      (and_from (is_plain c) (is_plain d && list_all is_plain (take n text)) q (and_from (is_plain d) (list_all is_plain (take n text)) p all))
   | inr e ↦
       let k = and_parts (c == 47) (d == 61) e in
       let a : c ≡ 47 = eqb-true c 47 k.0 in
@@ -283,7 +279,7 @@ long_front c d n text u le h p all = elim (or_cases (is_plain c) ((c == 47) && (
       let v : IsUtf8 (d ∷ text) = utf8_after 47 (d ∷ text) (omega arith) w in
       subst (λ x. IsFront (x ∷ d ∷ text) (suc (suc n))) (sym a)
       (slash_front (suc n) (d ∷ text) w (λ l. (plain_small d p, ap (λ x. x == 92) b, ap (λ x. (x == 47) || (x == 42)) b))
-      (front_plain (suc n) (d ∷ text) v (omega arith) (both (is_plain d) (list_all is_plain (take n text)) p all)))
+      (front_plain (suc n) (d ∷ text) v (omega arith) (and_from (is_plain d) (list_all is_plain (take n text)) p all)))
 ]
 
 pub pair_word : (text : List ℕ) (q : Punctuator) → IsUtf8 text → 1 < length text → punct_of (get_or text 0 0 ∷ get_or text 1 0 ∷ []) ≡ Some q
@@ -327,18 +323,6 @@ triple_word (c ∷ d ∷ e ∷ text) q x u some h k =
 swapped : (a b : ℕ) → (a == b) ≡ (b == a)
 swapped a b = grind (arith, eq-eqb, eqb-true, ne_eqb, eqb-false)
 
-and_false : (b : Bool) → (b && false) ≡ false
-and_false true = refl
-and_false false = refl
-
-and_true : (b : Bool) → (b && true) ≡ b
-and_true true = refl
-and_true false = refl
-
-and_same : (b : Bool) → (b && b) ≡ b
-and_same true = refl
-and_same false = refl
-
 -- no number is two that differ
 apart : (c d k : ℕ) → (d == c) ≡ false → ((k == c) && (k == d)) ≡ false
 apart c d k h = grind (arith, eqb-true, swapped)
@@ -346,8 +330,8 @@ apart c d k h = grind (arith, eqb-true, swapped)
 pub single_is : (c : ℕ) → punct_of (c ∷ []) ≡ single c
 unfolding punct_of
 single_is c = simp (
-  and_false,
-  and_true,
+  and-false,
+  and-true,
   map_choice,
   swapped 123 c,
   swapped 125 c,
@@ -377,23 +361,23 @@ single_is c = simp (
 
 pub before_equals_is : (c : ℕ) → punct_of (c ∷ 61 ∷ []) ≡ before_equals c
 unfolding punct_of
-before_equals_is c = grind (arith, and_false, and_true, map_choice, swapped)
+before_equals_is c = grind (arith, and-false, and-true, map_choice, swapped)
 
 pub doubled_is : (c : ℕ) → (c == 61) ≡ false → punct_of (c ∷ c ∷ []) ≡ doubled c
 unfolding punct_of
-doubled_is c h = grind (arith, swapped, and_false, and_true, map_choice, and_same)
+doubled_is c h = grind (arith, swapped, and-false, and-true, map_choice, and_self)
 
 pub pair_none : (c d : ℕ) → (d == 61) ≡ false → (d == c) ≡ false → punct_of (c ∷ d ∷ []) ≡ None
 unfolding punct_of
-pair_none c d h n = grind (arith, swapped, apart, and_false, and_true)
+pair_none c d h n = grind (arith, swapped, apart, and-false, and-true)
 
 -- two of the three are of one character twice
 triple_none : (c d e : ℕ) → ((60 == c) && ((60 == d) && (61 == e))) ≡ false → ((62 == c) && ((62 == d) && (61 == e))) ≡ false → punct_of (c ∷ d ∷ e ∷ []) ≡ None
 unfolding punct_of
-triple_none c d e h k = simp (and_false, and_true, h, k)
+triple_none c d e h k = simp (and-false, and-true, h, k)
 
 pub no_triple_third : (c d e : ℕ) → (e == 61) ≡ false → punct_of (c ∷ d ∷ e ∷ []) ≡ None
-no_triple_third c d e h = grind (arith, swapped, and_right, and_false, triple_none)
+no_triple_third c d e h = grind (arith, swapped, and_right, and-false, triple_none)
 
 pub no_triple_second : (c d e : ℕ) → (d == c) ≡ false → punct_of (c ∷ d ∷ e ∷ []) ≡ None
 no_triple_second c d e h = grind (arith, triple_none, apart)
@@ -411,7 +395,7 @@ shift_assigns c d e h k = grind arith
 pub stops_single : (text : List ℕ) → Stops (λ _. false) text 1 → (1 < length text → punct_of (get_or text 0 0 ∷ get_or text 1 0 ∷ []) ≡ None)
     → (1 < length text → ((is_point (get_or text 0 0) && is_decimal (get_or text 1 0)) || begins_comment (get_or text 0 0)
     (get_or text 1 0)) ≡ false) → Stops (continues_punct (get_or text 0 0)) text 1
-stops_single text s none other = grind (arith, either_false)
+stops_single text s none other = grind (arith, or_from)
 
 pub stops_pair : (text : List ℕ) → Stops (λ _. false) text 2 → (2 < length text → punct_of (get_or text 0 0 ∷ get_or text 1 0 ∷ get_or text 2 0 ∷ []) ≡ None)
     → Stops (continues_pair (get_or text 0 0) (get_or text 1 0)) text 2

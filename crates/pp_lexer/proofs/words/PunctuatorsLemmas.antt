@@ -1,5 +1,6 @@
 -- The tables of the code hold the punctuators, and each front of a punctuator is one.
 use Rattle.std.proofs.Common.{◌≡◌, ℕ, zero, suc, ◌<◌, ◌≤◌, List, [], ◌∷◌, length, take, Bool, true, false, ◌&&◌, ◌==◌, refl, sym, ◌∙◌, ap, arith, Option, Some, None, option_map, is_some, if◌then◌else◌, nat_eq}
+use Rattle.std.proofs.Math.Bool.{and-false, and-true}
 use Rattle.std.specs.List.{find, list_all}
 use Rattle.std.proofs.lemmas.Bool.{false≢true, and_parts}
 use Rattle.std.proofs.lemmas.List.{take-take, length-take-le}
@@ -11,14 +12,6 @@ use Rattle.pp_lexer.specs.Longest.{longest}
 use Rattle.pp_lexer.specs.Punctuators.{punctuator, punctuators, punct_of, is_punctuator}
 use Rattle.pp_lexer.proofs.words.LongestLemmas.{longest_no_front, longest_closed}
 
-and_false : (b : Bool) → (b && false) ≡ false
-and_false true = refl
-and_false false = refl
-
-and_true : (b : Bool) → (b && true) ≡ b
-and_true true = refl
-and_true false = refl
-
 pub map_choice : {X Y : Type 0} (f : X → Y) (b : Bool) (x : X) (o : Option X)
     → option_map f (if b then Some x else o) ≡ (if b then Some (f x) else option_map f o)
 map_choice f true x o = refl
@@ -26,15 +19,15 @@ map_choice f false x o = refl
 
 pub single_is : (c : ℕ) → punct_of (c ∷ []) ≡ option_map (λ e. e.1) (find (λ e. e.0 == c) SINGLES)
 unfolding punct_of
-single_is c = simp (and_false, and_true, map_choice)
+single_is c = simp (and-false, and-true, map_choice)
 
 pub pair_is : (c d : ℕ) → punct_of (c ∷ d ∷ []) ≡ option_map (λ e. e.2) (find (λ e. (e.0 == c) && (e.1 == d)) PAIRS)
 unfolding punct_of
-pair_is c d = simp (and_false, and_true, map_choice)
+pair_is c d = simp (and-false, and-true, map_choice)
 
 pub triple_is : (c d e : ℕ) → punct_of (c ∷ d ∷ e ∷ []) ≡ option_map (λ x. x.3) (find (λ x. (x.0 == c) && ((x.1 == d) && (x.2 == e))) TRIPLES)
 unfolding punct_of
-triple_is c d e = simp (and_false, and_true, map_choice)
+triple_is c d e = simp (and-false, and-true, map_choice)
 
 -- each front of a punctuator is one
 front_of : (p : Punctuator) (n : ℕ) → is_some (punct_of (take (suc n) (punctuator p))) ≡ true

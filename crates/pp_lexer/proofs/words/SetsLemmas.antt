@@ -1,7 +1,7 @@
 -- Sets of spellings that lie in others, segment by segment.
 use Rattle.std.proofs.Common.{◌≡◌, ℕ, List, [], ◌∷◌, Bool, true, false, ◌&&◌, ◌||◌, ◌==◌, not, refl, sym, ◌∙◌, ap, inl, inr, arith}
 use Rattle.std.specs.List.{list_all}
-use Rattle.std.proofs.lemmas.Bool.{or_cases, or_left, or_right, and_parts, ne_eqb, false≢true}
+use Rattle.std.proofs.lemmas.Bool.{or_cases, or_left, or_right, and_parts, ne_eqb, false≢true, and_from}
 use Rattle.pp_lexer.specs.Spellings.{nothing, one, many, maybe, optional}
 
 -- each character that passes the first test passes the second
@@ -28,11 +28,6 @@ Lacks k P = IsMadeOf (is_other k) P
 pub missing : (p : ℕ → Bool) (k : ℕ) → p k ≡ false → Implies p (is_other k)
 missing p k h c e = ap not (ne_eqb c k (λ s. false≢true (sym h ∙ ap p (sym s) ∙ e)))
 
--- two tests that pass, as one
-pub both : (a b : Bool) → a ≡ true → b ≡ true → (a && b) ≡ true
-both true b e f = f
-both false b e f = e
-
 -- a union lies where both sets lie
 pub union_part : (P Q R : List ℕ → Bool) → IsPart P R → IsPart Q R → IsPart (λ w. P w || Q w) R
 union_part P Q R h k w e = grind (arith, or_cases)
@@ -45,17 +40,12 @@ left_part P Q R h w e = or_left (Q w) (R w) (h w e)
 pub right_part : (P Q R : List ℕ → Bool) → IsPart P R → IsPart P (λ w. Q w || R w)
 right_part P Q R h w e = or_right (Q w) (R w) (h w e)
 
--- a test that fails, by its negation
-pub not_true : (b : Bool) → not b ≡ true → b ≡ false
-not_true true h = cc
-not_true false h = refl
-
 -- sets of the same form, by their parts
 module _ (p q : ℕ → Bool) (P Q : List ℕ → Bool) (chars : Implies p q) (tails : IsPart P Q) where
   -- one character, and what follows
   pub one_part : IsPart (one p P) (one q Q)
   one_part [] e = e
-  one_part (c ∷ w) e = let b = and_parts (p c) (P w) e in both (q c) (Q w) (chars c b.0) (tails w b.1)
+  one_part (c ∷ w) e = let b = and_parts (p c) (P w) e in and_from (q c) (Q w) (chars c b.0) (tails w b.1)
 
   -- any number of characters, and what follows
   pub many_part : IsPart (many p P) (many q Q)
@@ -65,7 +55,7 @@ module _ (p q : ℕ → Bool) (P Q : List ℕ → Bool) (chars : Implies p q) (t
         | inl x ↦ or_left (Q (c ∷ w)) (q c && many q Q w) (tails (c ∷ w) x)
         | inr y ↦
             let b = and_parts (p c) (many p P w) y in
-            or_right (Q (c ∷ w)) (q c && many q Q w) (both (q c) (many q Q w) (chars c b.0) (many_part w b.1))
+            or_right (Q (c ∷ w)) (q c && many q Q w) (and_from (q c) (many q Q w) (chars c b.0) (many_part w b.1))
       ]
 
   -- one character or none, and what follows
@@ -87,7 +77,7 @@ module _ (p : ℕ → Bool) where
     -- one character, and what follows
     pub made_one : IsMadeOf p (one q P)
     made_one [] e = refl
-    made_one (c ∷ w) e = let b = and_parts (q c) (P w) e in both (p c) (list_all p w) (chars c b.0) (tails w b.1)
+    made_one (c ∷ w) e = let b = and_parts (q c) (P w) e in and_from (p c) (list_all p w) (chars c b.0) (tails w b.1)
 
     -- any number of characters, and what follows
     pub made_many : IsMadeOf p (many q P)
@@ -95,7 +85,7 @@ module _ (p : ℕ → Bool) where
     made_many (c ∷ w) e =
         elim (or_cases (P (c ∷ w)) (q c && many q P w) e) [
           | inl x ↦ tails (c ∷ w) x
-          | inr y ↦ let b = and_parts (q c) (many q P w) y in both (p c) (list_all p w) (chars c b.0) (made_many w b.1)
+          | inr y ↦ let b = and_parts (q c) (many q P w) y in and_from (p c) (list_all p w) (chars c b.0) (made_many w b.1)
         ]
 
     -- one character or none, and what follows
@@ -111,4 +101,4 @@ pub all_many : (p : ℕ → Bool) (P : List ℕ → Bool) → P [] ≡ true → 
 all_many p P h [] e = h
 all_many p P h (c ∷ w) e =
     let b = and_parts (p c) (list_all p w) e in
-    or_right (P (c ∷ w)) (p c && many p P w) (both (p c) (many p P w) b.0 (all_many p P h w b.1))
+    or_right (P (c ∷ w)) (p c && many p P w) (and_from (p c) (many p P w) b.0 (all_many p P h w b.1))

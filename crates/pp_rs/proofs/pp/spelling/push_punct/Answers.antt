@@ -1,10 +1,10 @@
 use Rattle.std.proofs.Common.{◌≡◌, ◌∙◌, ◌++◌, ◌<◌, ℕ, List, [], ◌∷◌, length, get_or, true, nat_lt, if◌then◌else◌, refl, ap, arith, string_bytes}
 use Rattle.std.specs.Prelude.{is_ok}
+use Rattle.std.proofs.lemmas.Bool.{ltb-true}
 use Rattle.std.proofs.lemmas.Str.{IsUtf8-string_bytes}
 use Rattle.pp_lexer.specs.Punctuators.{punctuator}
 use Rattle.pp_lexer.specs.declared.token.Punct.{Punct}
 use Rattle.pp_lexer.specs.declared.token.Punct.TheVariants.{AddAssign}
-use Rattle.pp_lexer.proofs.characters.FrontsLemmas.{below}
 use Rattle.pp_rs.proofs.runs.SpellingLemmas.{chars-punctuator, chars-pushed, not-pushed}
 use Rattle.pp_rs.proofs.pp.spelling.push_punct.Goals as goal
 
@@ -21,7 +21,7 @@ only (c ∷ d ∷ s) e = absurd (omega arith)
 one_letter : (p : Punct) (bytes : List ℕ) → bytes ≡ punctuator p → length bytes ≡ 1
     → (get_or bytes 0 0 < 128) × (get_or bytes 0 0 ∷ [] ≡ punctuator p)
 one_letter p bytes e one =
-    (below (get_or bytes 0 0) 128 (ap (λ s. nat_lt (get_or s 0 0) 128) e ∙ begins_ascii p), only bytes one ∙ e)
+    (ltb-true (get_or bytes 0 0) 128 (ap (λ s. nat_lt (get_or s 0 0) 128) e ∙ begins_ascii p), only bytes one ∙ e)
 
 pub returns-then-bytes-eq1-clause-appended : goal.returns-then-bytes-eq1-clause-appended
 returns-then-bytes-eq1-clause-appended c =
