@@ -93,11 +93,7 @@ module _ (P : ℕ → Bool) (feed : P 10 ≡ false) where
   joined_is_not line at b text small no_backslash h u = rw (ascii_chars b text small u) (by_pieces (chars text))
     where
       piece_case : (ps : List Piece) → begins_with (λ q. P q.char) (continued (placed_from line at (piece b ∷ ps))) ≡ false
-      piece_case ps = by_break (is_line_break b) refl
-        where
-          by_break : (t : Bool) → is_line_break b ≡ t → begins_with (λ q. P q.char) (continued (placed_from line at (piece b ∷ ps))) ≡ false
-          by_break true e = rw e (first_joined line at (newline_piece 1) ps refl feed)
-          by_break false e = rw e (first_joined line at (record { char = b; bytes = len_utf8 b }) ps no_backslash h)
+      piece_case ps = grind (arith, first_joined)
 
       by_pieces : (cs : List ℕ) → begins_with (λ q. P q.char) (continued (placed_from line at (pieces (b ∷ cs)))) ≡ false
       by_pieces [] = piece_case []

@@ -50,14 +50,7 @@ module _ (text mid rest : List ℕ) (c d : ℕ) (u : IsUtf8 text) (v : IsUtf8 mi
         room = omega (arith, taken text mid c e, taken mid rest d f);
         pieces_are = rw (n, chars_of text mid c u e, chars_of mid rest d v f) (pieces_pair c d (chars rest) pair);
       }
-  first_newline (inr f) =
-      let t : text ≡ encode c ++ rest = rw f.0 at e in
-      let n : length text - length rest ≡ 1 = omega (arith, taken text rest c t) in
-      let g : slice_get (chars rest) 0 ≢ Some d = rw f.0 at f.1 in
-      record {
-        room = omega (arith, taken text rest c t);
-        pieces_are = rw (n, chars_of text rest c u t) (pieces_single c (chars rest) new (λ k h. only k (λ q. g (h ∙ ap Some q))));
-      }
+  first_newline (inr f) = grind (arith, taken, slice_get, chars_of, pieces_single)
 
 lf_only : (k : ℕ) → k ≢ 13 → is_pair 10 k ≡ false
 lf_only k h = rw (tested k 13 h) refl

@@ -29,9 +29,7 @@ use Rattle.pp_lexer.proofs.words.WordAtLemmas.{newline_first}
 pub pieces_newline : (text : List ℕ) → IsUtf8 text → (0 < length text → (get_or text 0 0 < 128) × ((get_or text 0 0 == 13) ≡ false))
     → pieces (10 ∷ chars text) ≡ newline_piece 1 ∷ pieces (chars text)
 pieces_newline [] u h = rw chars-nil refl
-pieces_newline (b ∷ text) u h =
-    let k = h (omega arith) in
-    rw (ascii_chars b text k.0 u, k.1) refl
+pieces_newline (b ∷ text) u h = grind (arith, ascii_chars)
 
 -- the newline, and what stands on the next line
 pub newline_at : (line at : ℕ) (text : List ℕ) → IsUtf8 (10 ∷ text) → (0 < length text → (get_or text 0 0 < 128) × ((get_or text 0 0 == 13) ≡ false))

@@ -55,15 +55,8 @@ passed_none c = grind (arith, reader)
 -- a line comment ends before a newline, and at the end of the text
 line_ended : (line at : ℕ) (text : List ℕ) → IsUtf8 text → (0 < length text → is_line_break (get_or text 0 0) ≡ true)
     → past_line (joined (left line at text)) ≡ joined (left line at text)
-line_ended line at [] u h =
-    let none : continued (placed_from line at (pieces (chars []))) ≡ [] = nothing_joined line at in
-    ap (λ n. passed n (joined (left line at []))) (ap line_length none) ∙ passed_none (joined (left line at []))
-  where
-    nothing_joined : (line at : ℕ) → continued (placed_from line at (pieces (chars []))) ≡ []
-    nothing_joined line at = rw chars-nil continued-nil
-line_ended line at (b ∷ text) u h =
-    ap (λ n. passed n (joined (left line at (b ∷ text)))) (line_broken line at b text (h (omega arith)) u)
-    ∙ passed_none (joined (left line at (b ∷ text)))
+line_ended line at [] u h = grind (arith, passed_none, chars-nil, continued-nil)
+line_ended line at (b ∷ text) u h = grind (arith, line_broken, passed_none)
 
 -- Where a block comment ends
 

@@ -63,9 +63,7 @@ module _ (P : ℕ → Bool) (feed : P 10 ≡ false) (mark : P 13 ≡ false) wher
       → (0 < length rest → P (get_or rest 0 0) ≡ false)
       → begins_with P (letters (spots_from line at rest)) ≡ false
   after_is_not line at [] u h k = ap (λ ss. begins_with P (letters ss)) (nothing_left line at)
-  after_is_not line at (b ∷ rest) u h k =
-      let e = h (omega arith) in
-      first_is_not P feed mark line at b rest e.0 e.1 (k (omega arith)) u
+  after_is_not line at (b ∷ rest) u h k = grind (arith, first_is_not)
 
 pub front_len-append : (p : ℕ → Bool) (w cs : List ℕ) → list_all p w ≡ true → begins_with p cs ≡ false → front_len p (w ++ cs) ≡ length w
 front_len-append p [] [] h k = refl

@@ -141,11 +141,7 @@ starless_chars (c ∷ cs) h =
     ap (λ t. t && list_all is_starless cs) (first b.0) ∙ starless_chars cs b.1
   where
     first : list_all is_starless (encode c) ≡ true → is_starless c ≡ true
-    first k =
-        elim (cases_lt c 128) [
-          | inl small ↦ (and_parts (is_starless c) true (ap (list_all is_starless) (sym (encode_ascii c small)) ∙ k)).0
-          | inr large ↦ large_starless c large
-        ]
+    first k = grind (arith, cases_lt, and_parts, encode_ascii, large_starless)
 
 -- such bytes end at the end of a character
 pub cut_after_starless : (n : ℕ) (text : List ℕ) → n ≤ length text → (n < length text → is_starless (get_or text n 0) ≡ false) → IsCharBoundary text n

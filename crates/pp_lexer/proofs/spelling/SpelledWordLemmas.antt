@@ -64,11 +64,7 @@ spelled_identifier w cs e b = by (begins_identifier (w ++ cs)) refl
     ends = ends_at_break is_identifier (identifier_lacks 32 (ascii_no_start 32 refl refl) (is_xid_continue-ascii 32 (omega arith))) cs b
 
     by : (t : Bool) → begins_identifier (w ++ cs) ≡ t → word_at (w ++ cs) ≡ record { value = Ok (Ident w); taken = length w }
-    by false f = absurd (false≢true (sym (no_identifier_front (w ++ cs) (length w) f) ∙ ap is_identifier (take-append_seam w cs) ∙ e))
-    by true f =
-        let text : take (longest is_identifier (w ++ cs)) (w ++ cs) ≡ w = taken_before is_identifier w (identifier_some w e) e cs ends in
-        let size : longest is_identifier (w ++ cs) ≡ length w = longest_before is_identifier w (identifier_some w e) e cs ends in
-        identifier_first (w ++ cs) f ∙ (λ i. record { value = Ok (Ident (text i)); taken = size i })
+    by t h = grind (arith, false≢true, no_identifier_front, take-append_seam, taken_before, identifier_some, ends, longest_before, identifier_first)
 
 -- Numbers
 

@@ -35,7 +35,4 @@ chars_tested xs ys u v =
 
 pub chars-empty : (bs : List ℕ) → IsUtf8 bs → Decides (length bs == 0) (chars bs ≡ [])
 chars-empty [] u = (λ _. chars-nil, λ _. refl)
-chars-empty (b ∷ bs) u = (
-  λ h. absurd (omega (arith, eqb-true (length (b ∷ bs)) 0 h)),
-  λ e. let f : b ∷ bs ≡ [] = chars_same (b ∷ bs) [] u IsUtf8-nil (e ∙ sym chars-nil) in cc,
-)
+chars-empty (b ∷ bs) u = grind (arith, eqb-true, chars_same, IsUtf8-nil, chars-nil)

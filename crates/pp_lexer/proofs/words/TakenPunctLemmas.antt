@@ -46,12 +46,7 @@ module _ (last : Spot) (new : Reading) where
             → IsTaken ss last (Some q) new
         taken_two_end [] f g h n = cc
         taken_two_end (s ∷ []) f g h n = cc
-        taken_two_end (s ∷ t ∷ []) f g h n =
-            let k : c ≡ s.c = cc in
-            let l : d ≡ t.c = cc in
-            let one' : punct_of (s.c ∷ []) ≡ Some p = ap (λ x. punct_of (x ∷ [])) (sym k) ∙ one in
-            let two' : punct_of (s.c ∷ t.c ∷ []) ≡ Some q = ap (λ x. punct_of (x ∷ t.c ∷ [])) (sym k) ∙ ap (λ y. punct_of (c ∷ y ∷ [])) (sym l) ∙ two in
-            along (s ∷ t ∷ []) last (Some q) _ new n (taken_of (s ∷ t ∷ []) last 2 (Some q) (two_at_end s.c p one' t.c q two'))
+        taken_two_end (s ∷ t ∷ []) f g h n = grind (arith, along, taken_of, two_at_end)
         taken_two_end (s ∷ t ∷ u ∷ ss) f g h n = cc
 
         module _ (e : ℕ) where

@@ -90,10 +90,5 @@ word_at-some c cs = by_line (begins_with is_line_end (c ∷ cs)) (begins_identif
     by_line : (a i n : Bool) → begins_with is_line_end (c ∷ cs) ≡ a → begins_identifier (c ∷ cs) ≡ i → begins_number (c ∷ cs) ≡ n → 0 < (word_at (c ∷ cs)).taken
     by_line true i n e f g = rw (newline_first (c ∷ cs) e) (omega arith)
     by_line false true n e f g = rw (identifier_first (c ∷ cs) f) (identifier_len (c ∷ cs) f)
-    by_line false false true e f g =
-        let b = number_begins (c ∷ cs) g in
-        let l : length (take (longest is_number (c ∷ cs)) (c ∷ cs)) ≡ longest is_number (c ∷ cs) =
-        length-take-le (longest is_number (c ∷ cs)) (c ∷ cs) (longest_le is_number (c ∷ cs)) in
-        rw (number_first (c ∷ cs) g) (number_some (take (longest is_number (c ∷ cs)) (c ∷ cs)) (drop (longest is_number (c ∷ cs)) (c ∷ cs))
-        (omega (arith, l, b.some)))
+    by_line false false true e f g = grind (arith, number_begins, length-take-le, longest_le, number_first, number_some)
     by_line false false false e f g = rw (other_first (c ∷ cs) e f g) (punctuation_some (c ∷ cs) (longest is_punctuation (c ∷ cs)))
