@@ -1,7 +1,7 @@
 -- A reader that is further on, and the characters that are left to it.
 use Rattle.std.proofs.Common.{◌≡◌, ℕ, zero, suc, ◌+◌, List, [], ◌∷◌, drop, Bool, true, false, refl, sym, ◌∙◌, ap, zero-add, arith, Some, None, option_map}
 use Rattle.pp_lexer.specs.declared.lexer.char_iterator.Spot.{Spot}
-use Rattle.pp_lexer.specs.Reading.{Reading, letters, first_of, first_char, after_first, advanced_of, advanced}
+use Rattle.pp_lexer.specs.Reading.{Reading, letters, first_char, after_first, advanced_of, advanced}
 use Rattle.pp_lexer.specs.Longest.{front_len}
 
 pub letters-advanced : (n : ℕ) (ss : List Spot) (last : Spot) → letters (advanced_of n ss last).rest ≡ drop n (letters ss)

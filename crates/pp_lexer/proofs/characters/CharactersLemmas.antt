@@ -1,7 +1,7 @@
 -- After the phases a source has characters of Unicode only.
-use Rattle.std.proofs.Common.{◌≡◌, ℕ, zero, suc, ◌+◌, ◌-◌, List, [], ◌∷◌, map, length, take, Bool, true, false, ◌&&◌, refl, ◌∙◌, ap, if◌then◌else◌, arith}
+use Rattle.std.proofs.Common.{◌≡◌, ℕ, zero, suc, ◌+◌, ◌-◌, List, [], ◌∷◌, map, take, Bool, true, false, ◌&&◌, refl, ◌∙◌, ap, if◌then◌else◌, arith}
 use Rattle.std.specs.List.{list_all}
-use Rattle.std.specs.Str.{chars, IsUtf8, all_scalars}
+use Rattle.std.specs.Str.{IsUtf8, all_scalars}
 use Rattle.std.proofs.Math.Utf8.{scalar}
 use Rattle.std.proofs.lemmas.Bool.{and_parts, and_from}
 use Rattle.std.proofs.lemmas.Str.{scalars-chars}
@@ -10,9 +10,8 @@ use Rattle.pp_lexer.specs.inner.Comments.{stand_in}
 use Rattle.pp_lexer.specs.Continuations.{is_continuation, continued}
 use Rattle.pp_lexer.specs.Cursor.{Placed}
 use Rattle.pp_lexer.specs.Cut.{cut_after, cut}
-use Rattle.pp_lexer.specs.Lines.{is_line_break, Piece, piece, pieces, lines}
+use Rattle.pp_lexer.specs.Lines.{Piece, piece, pieces, lines}
 use Rattle.pp_lexer.specs.inner.Lines.{is_newline_piece}
-use Rattle.pp_lexer.specs.PhaseLaws.{replaced_of}
 use Rattle.pp_lexer.specs.inner.Readers.{placed_from}
 use Rattle.pp_lexer.specs.Reading.{letters, spots}
 use Rattle.pp_lexer.specs.Spots.{spots_of}
@@ -21,7 +20,7 @@ use Rattle.pp_lexer.proofs.characters.LinesLemmas.{lines_are}
 use Rattle.pp_lexer.proofs.characters.PiecesLemmas.{along_pieces}
 
 piece_scalar : (c : ℕ) → scalar c ≡ true → scalar (piece c).char ≡ true
-piece_scalar c h = grind (arith, scalar)
+piece_scalar c h = grind arith
 
 pieces_scalar : (cs : List ℕ) → all_scalars cs ≡ true → list_all (λ p. scalar p.char) (pieces cs) ≡ true
 pieces_scalar =

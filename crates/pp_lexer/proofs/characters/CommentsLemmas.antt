@@ -1,5 +1,5 @@
 -- One step of a reader that puts a mark for each comment.
-use Rattle.std.proofs.Common.{◌≡◌, ◌≢◌, ◌∷◌, ◌+◌, ◌-◌, [], ℕ, zero, suc, List, sym, ◌∙◌, ap, Bool, true, false, refl, ◌==◌, ◌&&◌, ◌||◌, not, if◌then◌else◌, Some, None, Option, take, drop, map, arith, true≢false}
+use Rattle.std.proofs.Common.{◌≡◌, ◌≢◌, ◌∷◌, ◌+◌, ◌-◌, [], ℕ, suc, List, sym, ◌∙◌, ap, Bool, true, false, refl, ◌==◌, ◌&&◌, ◌||◌, not, if◌then◌else◌, Some, None, Option, take, drop, map, arith, true≢false}
 use Rattle.std.proofs.Math.Bool.{and-false}
 use Rattle.std.proofs.lemmas.Bool.{eqb-true, ne_eqb, eq-eqb}
 use Rattle.pp_lexer.specs.Cursor.{Placed, Cursor, first_of, after_of, after, passed}
@@ -77,12 +77,12 @@ close_in_two p (q ∷ ps) e = has_close_here p (q ∷ []) e
 pub has_close-take : (ps : List Placed) → has_close (take (block_length ps) ps) ≡ has_close ps
 has_close-take [] = refl
 has_close-take (p ∷ ps) =
-    grind (arith, block_length_here, close_in_two, has_close_here, block_length_later, has_close_later, and_begins_with-take, has_close-take ps)
+    grind (arith, has_close_here, block_length_later, has_close_later, and_begins_with-take, has_close-take ps)
 
 -- without one it takes all
 pub drop-unclosed : (ps : List Placed) → has_close ps ≡ false → drop (block_length ps) ps ≡ []
 drop-unclosed [] e = refl
-drop-unclosed (p ∷ ps) e = grind (arith, true≢false, has_close_here, block_length_later, has_close_later, drop-unclosed ps)
+drop-unclosed (p ∷ ps) e = grind (arith, has_close_later, drop-unclosed ps)
 
 -- the reader of a block comment's rest, where a star may stand directly before
 abbrev pub past_block_after : Bool → Cursor → Cursor
@@ -92,12 +92,12 @@ past_block_after star c = if star && begins_with is_slash c.rest then passed 1 c
 module _ (total offset : ℕ) (p : Placed) (ps : List Placed) where
   pub block_goes_on : past_block (record { rest = p ∷ ps; offset = offset; total = total }) ≡ past_block_after (is_star p)
       (record { rest = ps; offset = p.end; total = total })
-  block_goes_on = grind (arith, has_close_here, block_length_here, has_close_later, block_length_later)
+  block_goes_on = grind (arith, has_close_later, block_length_later)
 
 pub block_step : (star : Bool) (ps : List Placed) (offset total : ℕ) (d : Cursor) (ch line : ℕ) → Some (ch, line) ≡ first_of ps
     → d ≡ after_of ps total → (star && (ch == 47)) ≡ false
     → past_block_after (ch == 42) d ≡ past_block_after star (record { rest = ps; offset = offset; total = total })
-block_step star ps offset total d ch line h k e = grind (arith, item_char, block_goes_on)
+block_step star ps offset total d ch line h k e = grind (arith, block_goes_on)
 
 -- a block comment and its mark end at the same place
 block_marked : (total : ℕ) (p q : Placed) (ps : List Placed) → is_star q ≡ true

@@ -1,8 +1,7 @@
 -- One step of a reader that leaves out the continuations.
-use Rattle.std.proofs.Common.{◌≡◌, ◌≢◌, ◌∷◌, [], ℕ, List, sym, ◌∙◌, ap, Bool, true, false, refl, ◌==◌, ◌&&◌, ◌||◌, Some, None, Option, map, not, if◌then◌else◌, arith}
-use Rattle.std.proofs.Math.Bool.{and-false}
+use Rattle.std.proofs.Common.{◌≡◌, ◌≢◌, ◌∷◌, [], ℕ, List, sym, ◌∙◌, ap, Bool, true, false, refl, ◌==◌, Some, None, Option, map, not, if◌then◌else◌, arith}
 use Rattle.std.specs.List.{filter}
-use Rattle.std.proofs.lemmas.Bool.{ne_eqb, eq-eqb, eqb-true}
+use Rattle.std.proofs.lemmas.Bool.{eqb-true}
 use Rattle.pp_lexer.specs.Cursor.{Placed, Cursor, first_of, first, after_of, after, is_item}
 use Rattle.pp_lexer.specs.Surroundings.{surrounded_from, begins_with}
 use Rattle.pp_lexer.specs.Lines.{is_newline}
@@ -38,11 +37,11 @@ continued-agrees b c p ps false e f g = continued-stays b p ps e ∙ (ap (λ t. 
 -- of what stands before, only the nearest counts
 continued_from_nearest : (b c ps : List Placed) → begins_with is_backslash b ≡ begins_with is_backslash c → continued_from b ps ≡ continued_from c ps
 continued_from_nearest b c [] e = refl
-continued_from_nearest b c (p ∷ ps) e = grind (arith, continued-agrees, continued_from_nearest (p ∷ b) (p ∷ c) ps refl)
+continued_from_nearest b c (p ∷ ps) e = grind (arith, continued_from_nearest (p ∷ b) (p ∷ c) ps refl)
 
 -- where no newline is first, nothing that stands before counts
 no_newline_first : (b c ps : List Placed) → begins_with is_newline ps ≡ false → continued_from b ps ≡ continued_from c ps
-no_newline_first b c ps h = grind (arith, continued-agrees, continued_from_nearest)
+no_newline_first b c ps h = grind (arith, continued_from_nearest)
 
 pub continued-nil : continued [] ≡ []
 unfolding continued
@@ -51,19 +50,19 @@ continued-nil = refl
 -- a character that is no backslash
 pub continued-plain : (p : Placed) (ps : List Placed) → is_backslash p ≡ false → continued (p ∷ ps) ≡ p ∷ continued ps
 unfolding continued
-continued-plain p ps e = grind (arith, continued-stays, and-false, continued_from_nearest)
+continued-plain p ps e = grind (arith, continued_from_nearest)
 
 -- a backslash that stays
 pub continued-backslash : (p : Placed) (ps : List Placed) → begins_with is_newline ps ≡ false → continued (p ∷ ps) ≡ p ∷ continued ps
 unfolding continued
-continued-backslash p ps e = grind (arith, and-false, continued-stays, no_newline_first)
+continued-backslash p ps e = grind (arith, no_newline_first)
 
 newline_no_backslash : (p : Placed) → is_newline p ≡ true → is_backslash p ≡ false
 newline_no_backslash p e = rw (eqb-true p.char 10 e) refl
 
 pub continued-gone : (p q : Placed) (ps : List Placed) → is_backslash p ≡ true → is_newline q ≡ true → continued (p ∷ q ∷ ps) ≡ continued ps
 unfolding continued
-continued-gone p q ps e f = grind (arith, newline_no_backslash, continued-leaves, continued_from_nearest)
+continued-gone p q ps e f = grind (arith, continued_from_nearest)
 
 -- the character that an item has
 pub item_char : (p : Placed) (ch line : ℕ) → ◌≡◌ {A = Option (ℕ × ℕ)} (Some (ch, line)) (Some (p.char, p.line)) → p.char ≡ ch
@@ -89,7 +88,7 @@ module _ (total : ℕ) (d : Cursor) where
   module _ (ch line : ℕ) where
     pub plain_step : (ps : List Placed) → Some (ch, line) ≡ first_of ps → d ≡ after_of ps total → ch ≢ 92
         → Steps (continued ps) total (Some (ch, line)) (joined d)
-    plain_step ps h k e = grind (arith, continued-plain, ne_eqb, item_char)
+    plain_step ps h k e = grind (arith, continued-plain)
 
     pub backslash_step : (ps : List Placed) → Some (ch, line) ≡ first_of ps → d ≡ after_of ps total → begins_with is_newline d.rest ≡ false
         → Steps (continued ps) total (Some (ch, line)) (joined d)
@@ -109,4 +108,4 @@ looked c ahead now r t b same e f g =
 -- a backslash and the newline after it
 pub gone_step : (ps : List Placed) (total ch line : ℕ) (d peek : Cursor) → Some (ch, line) ≡ first_of ps → d ≡ after_of ps total → ch ≡ 92
     → begins_with is_newline d.rest ≡ true → peek ≡ after d → continued peek.rest ≡ continued ps
-gone_step ps total ch line d peek h k e l u = grind (arith, continued-gone, eq-eqb, item_char)
+gone_step ps total ch line d peek h k e l u = grind (arith, continued-gone)

@@ -1,15 +1,14 @@
 -- A plain front of a text, and what stands after it.
-use Rattle.std.proofs.Common.{◌≡◌, ℕ, ◌+◌, ◌<◌, List, [], ◌∷◌, ◌++◌, length, Bool, true, false, not, ◌==◌, nat_lt, refl, ◌∙◌, ap, arith, ◌⊎◌, inl, inr, suc, ◌≤◌, if◌then◌else◌}
+use Rattle.std.proofs.Common.{◌≡◌, ℕ, ◌+◌, ◌<◌, List, [], ◌∷◌, ◌++◌, length, Bool, true, false, ◌==◌, refl, ◌∙◌, ap, arith, ◌⊎◌, inl, inr, ◌≤◌, if◌then◌else◌}
 use Rattle.std.specs.List.{list_all}
 use Rattle.std.specs.Char.{len_utf8}
 use Rattle.std.specs.Str.{chars, IsUtf8}
-use Rattle.std.proofs.lemmas.Bool.{and_parts, not-true, ltb-true}
-use Rattle.std.proofs.lemmas.Bool.Decides.{nat_tests}
-use Rattle.std.proofs.lemmas.Str.{chars_past_char, IsUtf8-past_char, encode_ascii, len_utf8_ascii, chars-nil}
+use Rattle.std.proofs.lemmas.Bool.{and_parts}
+use Rattle.std.proofs.lemmas.Str.{chars_past_char, IsUtf8-past_char, encode_ascii, chars-nil}
 use Rattle.pp_lexer.specs.Comments.{replaced}
 use Rattle.pp_lexer.specs.Continuations.{is_backslash, continued}
 use Rattle.pp_lexer.specs.Cursor.{Placed, Cursor}
-use Rattle.pp_lexer.specs.Lines.{is_line_break, is_pair, Piece, piece, pieces}
+use Rattle.pp_lexer.specs.Lines.{is_pair, Piece, piece, pieces}
 use Rattle.pp_lexer.specs.inner.Lines.{is_newline_piece, newline_piece}
 use Rattle.pp_lexer.specs.inner.Readers.{placed_from, joined, uncommented}
 use Rattle.pp_lexer.specs.Reading.{letters, spots}
@@ -31,7 +30,7 @@ pub record Plain (c : ℕ) : Type 0 where
   pub no_slash : (c == 47) ≡ false
 
 pub plain_parts : (c : ℕ) → is_plain c ≡ true → Plain c
-plain_parts c h = grind (arith, and_parts, ltb-true, not-true, no_slash)
+plain_parts c h = grind arith
 
 pub pieces_plain : (c : ℕ) (cs : List ℕ) → (c == 10) ≡ false → (c == 13) ≡ false → pieces (c ∷ cs) ≡ record { char = c; bytes = len_utf8 c } ∷ pieces cs
 pieces_plain c [] a b = rw (a, b) refl
@@ -45,7 +44,7 @@ ascii_chars c text h u = chars_past_char (c ∷ text) text c u (rw (encode_ascii
 pub plain_first : (line at c : ℕ) (text : List ℕ) → is_plain c ≡ true → IsUtf8 (c ∷ text)
     → spots_from line at (c ∷ text) ≡ record { c = c; line = line; begin = at; end = at + 1 } ∷ spots_from line (at + 1) text
 unfolding spots_from
-plain_first line at c text h u = grind (arith, plain_parts, len_utf8_ascii, ascii_chars, pieces_plain, continued-plain, replaced-plain, no_slash)
+plain_first line at c text h u = grind (arith, plain_parts, ascii_chars, pieces_plain, continued-plain, replaced-plain, no_slash)
 
 pub utf8_after : (c : ℕ) (text : List ℕ) → c < 128 → IsUtf8 (c ∷ text) → IsUtf8 text
 utf8_after c text h u = IsUtf8-past_char (c ∷ text) text c u (rw (encode_ascii c h) refl)
@@ -109,7 +108,7 @@ pub slash_first : (line at : ℕ) (text : List ℕ) → IsUtf8 (47 ∷ text)
     → begins_with (λ q. q.char == 42) (continued (placed_from line (at + 1) (pieces (chars text)))) ≡ false
     → spots_from line at (47 ∷ text) ≡ record { c = 47; line = line; begin = at; end = at + 1 } ∷ spots_from line (at + 1) text
 unfolding spots_from
-slash_first line at text u no_slash no_star = grind (arith, ascii_chars, pieces_plain, continued-plain, replaced-plain, lone_slash)
+slash_first line at text u no_slash no_star = grind (arith, ascii_chars, continued-plain, replaced-plain, lone_slash)
 
 pub nothing_begins : (P : Placed → Bool) (line at : ℕ) → begins_with P (continued (placed_from line at (pieces (chars [])))) ≡ false
 nothing_begins P line at = rw (chars-nil, continued-nil) refl

@@ -3,7 +3,6 @@ use Rattle.std.proofs.Common.{◌≡◌, ◌≢◌, ◌++◌, ◌∷◌, ◌+◌
 use Rattle.std.specs.Char.{len_utf8}
 use Rattle.std.specs.Str.{chars, IsUtf8}
 use Rattle.std.proofs.lemmas.List.Sums.{sum_by-cons}
-use Rattle.std.proofs.lemmas.Bool.Decides.{nat_tests}
 use Rattle.std.proofs.lemmas.Str.{chars_past_char, length-encode, chars-nil}
 use Rattle.pp_lexer.specs.Lines.{is_line_break, is_pair, Piece, pieces, placed, lines}
 use Rattle.pp_lexer.specs.inner.Lines.{newline_piece, is_newline_piece}
@@ -28,7 +27,7 @@ pieces_pair : (c d : ℕ) (cs : List ℕ) → is_pair c d ≡ true → pieces (c
 pieces_pair c d cs a = rw a refl
 
 tested : (c k : ℕ) → c ≢ k → (c == k) ≡ false
-tested c k h = grind (arith, nat_tests)
+tested c k h = grind arith
 
 taken : (text rest : List ℕ) (c : ℕ) → text ≡ encode c ++ rest → length text ≡ len_utf8 c + length rest
 taken text rest c e = rw e (length-append (encode c) rest ∙ ap (λ n. n + length rest) (length-encode c))
@@ -50,7 +49,7 @@ module _ (text mid rest : List ℕ) (c d : ℕ) (u : IsUtf8 text) (v : IsUtf8 mi
         room = omega (arith, taken text mid c e, taken mid rest d f);
         pieces_are = rw (n, chars_of text mid c u e, chars_of mid rest d v f) (pieces_pair c d (chars rest) pair);
       }
-  first_newline (inr f) = grind (arith, taken, slice_get, chars_of, pieces_single)
+  first_newline (inr f) = grind (arith, taken, chars_of, pieces_single)
 
 lf_only : (k : ℕ) → k ≢ 13 → is_pair 10 k ≡ false
 lf_only k h = rw (tested k 13 h) refl

@@ -49,7 +49,7 @@ newline_at line at text u h =
 -- a line feed with an ASCII character after it that is no carriage return, or with the end
 pub line_feed : (text : List ℕ) → IsUtf8 text → 0 < length text → get_or text 0 0 ≡ 10
     → (1 < length text → (get_or text 1 0 < 128) × ((get_or text 1 0 == 13) ≡ false)) → IsPlainNewline text 1
-line_feed text h k e l = grind (arith, IsCharBoundary-after_ascii, drop_none, newline_at)
+line_feed text h k e l = grind (arith, newline_at)
 
 -- the pair, and what stands on the next line
 pair_at : (line at : ℕ) (text : List ℕ) → IsUtf8 (13 ∷ 10 ∷ text)

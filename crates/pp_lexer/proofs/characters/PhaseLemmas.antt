@@ -1,19 +1,18 @@
 -- How many characters each phase has, and where the last of them ends; lines and newlines.
-use Rattle.std.proofs.Common.{◌≡◌, ◌≤◌, ◌++◌, ◌∷◌, ◌+◌, [], ℕ, zero, suc, List, length, sym, ◌∙◌, ap, Bool, true, false, refl, arith, ◌&&◌, true≢false, take, All, slice_get, Some, sum_by, count_by, cond, if◌then◌else◌, ◌<◌, add-zero}
+use Rattle.std.proofs.Common.{◌≡◌, ◌≤◌, ◌++◌, ◌∷◌, ◌+◌, [], ℕ, zero, suc, List, length, sym, ◌∙◌, ap, Bool, true, false, refl, arith, ◌&&◌, true≢false, take, slice_get, Some, sum_by, count_by, cond, if◌then◌else◌, ◌<◌}
 use Rattle.std.specs.Str.{chars, IsUtf8}
 use Rattle.std.proofs.lemmas.Option.{slice_get_within}
 use Rattle.std.proofs.lemmas.List.Sums.{sum_by-cons, sum_by-append}
 use Rattle.pp_lexer.specs.Cursor.{Placed, last_end}
-use Rattle.pp_lexer.specs.Lines.{is_line_break, is_pair, Piece, piece, pieces, is_newline, lines}
+use Rattle.pp_lexer.specs.Lines.{is_line_break, is_pair, Piece, pieces, is_newline, lines}
 use Rattle.pp_lexer.specs.inner.Lines.{newline_piece, is_newline_piece}
 use Rattle.pp_lexer.specs.Continuations.{is_backslash, is_continuation, continued}
 use Rattle.pp_lexer.specs.inner.Readers.{placed_from}
 use Rattle.pp_lexer.specs.PhaseLaws.{lines_of, continued_of, replaced_of, ends_in_break, ends_in_continuation}
 use Rattle.pp_lexer.proofs.characters.LinesLemmas.{lines_are}
-use Rattle.pp_lexer.proofs.characters.PiecesLemmas.{is_pair-breaks, length-pieces-source, bytes_of_source}
+use Rattle.pp_lexer.proofs.characters.PiecesLemmas.{length-pieces-source, bytes_of_source}
 use Rattle.pp_lexer.proofs.characters.ContinuationsLemmas.{continued_from, continued-stays, continued-leaves, continued-nil, continued-plain, continued-backslash, continued-gone}
-use Rattle.pp_lexer.proofs.characters.RisingLemmas.{rising-lines, rising-continued, ends_within}
-use Rattle.pp_lexer.proofs.characters.ReplacedLemmas.{rising-replaced, length-replaced}
+use Rattle.pp_lexer.proofs.characters.ReplacedLemmas.{length-replaced}
 
 -- how many
 
@@ -88,7 +87,7 @@ one_line_on false line before = omega arith
 placed_from-counts : (line at n : ℕ) (ps : List Piece) (p : Placed) → slice_get (placed_from line at ps) n ≡ Some p
     → p.line ≡ line + count_by is_newline (take n (placed_from line at ps))
 placed_from-counts line at n [] p e = let within : n < 0 = slice_get_within [] n p e in absurd (omega arith)
-placed_from-counts line at zero (q ∷ ps) p e = grind (arith, add-zero)
+placed_from-counts line at zero (q ∷ ps) p e = grind arith
 placed_from-counts line at (suc n) (q ∷ ps) p e =
     let next : ℕ = if is_newline_piece q then line + 1 else line in
     let here : Placed = record { char = q.char; line = line; end = at + q.bytes } in
@@ -114,7 +113,7 @@ newlines-lines : (cs : List ℕ) → count_by is_newline (lines cs) ≡ count_by
 newlines-lines cs = ap (count_by is_newline) (lines_are cs) ∙ newlines-placed_from 1 0 (pieces cs)
 
 no_pair : (a c : ℕ) → is_line_break a ≡ false → is_pair a c ≡ false
-no_pair a c e = grind (arith, true≢false, is_pair-breaks)
+no_pair a c e = grind arith
 
 ends_after : (a b : ℕ) (front : List ℕ) → ends_in_break (a ∷ b ∷ front) ≡ false → ends_in_break front ≡ false
 ends_after a b [] e = refl
@@ -126,7 +125,7 @@ pieces_around : (front back : List ℕ) (c d : ℕ) → ends_in_break front ≡ 
 pieces_around [] back c d e f = rw f refl
 pieces_around (a ∷ []) back c d e f = rw (no_pair a c e, f) refl
 pieces_around (a ∷ b ∷ front) back c d e f =
-    grind (arith, ends_after, pieces_around front back c d (ends_after a b front e) f, pieces_around (b ∷ front) back c d e f)
+    grind (arith, pieces_around front back c d (ends_after a b front e) f, pieces_around (b ∷ front) back c d e f)
 
 pub pair-counts-once : (front back : List ℕ) (c d : ℕ) → ends_in_break front ≡ false → is_pair c d ≡ true
     → count_by is_newline (lines (front ++ (c ∷ d ∷ back))) ≡ count_by is_newline (lines front) + 1 + count_by is_newline (lines back)

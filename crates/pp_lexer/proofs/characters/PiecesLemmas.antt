@@ -1,9 +1,8 @@
 -- The pieces of a text: how many bytes they take, and how a pair stands among them.
-use Rattle.std.proofs.Common.{◌≡◌, ◌≤◌, ◌∷◌, [], ℕ, List, length, sym, ◌∙◌, ap, Bool, true, false, refl, arith, ◌||◌, ◌==◌, ◌&&◌, sum_by, length-append}
+use Rattle.std.proofs.Common.{◌≡◌, ◌≤◌, ◌∷◌, [], ℕ, List, length, ◌∙◌, ap, Bool, true, refl, arith, ◌||◌, ◌==◌, ◌&&◌, sum_by, length-append}
 use Rattle.std.specs.Char.{len_utf8}
 use Rattle.std.specs.Str.{chars, IsUtf8}
 use Rattle.std.proofs.Math.Utf8.{encodes}
-use Rattle.std.proofs.lemmas.Bool.{eqb-true}
 use Rattle.std.proofs.lemmas.List.Sums.{sum_by-cons}
 use Rattle.std.proofs.lemmas.Str.{encodes-chars, length-encode, length-le-encodes}
 use Rattle.pp_lexer.specs.Lines.{is_line_break, is_pair, Piece, piece, pieces}
@@ -26,10 +25,10 @@ pub is_pair-breaks : (c d : ℕ) → is_pair c d ≡ true → (is_line_break c �
 is_pair-breaks c d e = pair_breaks (c == 10) (c == 13) (d == 10) (d == 13) e
 
 len_utf8-break : (c : ℕ) → is_line_break c ≡ true → len_utf8 c ≡ 1
-len_utf8-break c e = grind (arith, eqb-true)
+len_utf8-break c e = grind arith
 
 bytes_of_piece : (c : ℕ) → (piece c).bytes ≡ len_utf8 c
-bytes_of_piece c = grind (arith, len_utf8-break)
+bytes_of_piece c = grind arith
 
 room_of_piece : (c : ℕ) → len_utf8 (piece c).char ≤ (piece c).bytes
 room_of_piece c = grind arith

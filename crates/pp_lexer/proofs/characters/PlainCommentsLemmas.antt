@@ -1,26 +1,24 @@
 -- Comments at the front of a plain text.
-use Rattle.std.proofs.Common.{◌≡◌, ℕ, zero, suc, ◌+◌, ◌<◌, ◌≤◌, List, [], ◌∷◌, length, take, drop, get_or, Bool, true, false, ◌&&◌, ◌==◌, length-drop, add-one, add-zero, refl, sym, ◌∙◌, ap, subst, arith, inl, inr, Some, Option}
+use Rattle.std.proofs.Common.{◌≡◌, ℕ, zero, suc, ◌+◌, ◌<◌, ◌≤◌, List, [], ◌∷◌, length, take, drop, get_or, Bool, true, false, ◌&&◌, ◌==◌, length-drop, add-one, add-zero, refl, sym, ◌∙◌, ap, subst, arith, Some, Option}
 use Rattle.std.proofs.Math.Bool.{and-false}
 use Rattle.std.specs.List.{list_all}
-use Rattle.std.specs.Char.{len_utf8}
 use Rattle.std.specs.Str.{chars, IsUtf8, IsCharBoundary}
-use Rattle.std.proofs.lemmas.Bool.{or_cases, eqb-true}
 use Rattle.std.proofs.lemmas.List.{drop-drop}
 use Rattle.std.proofs.lemmas.Str.{IsCharBoundary-start, IsCharBoundary-from_drop, IsUtf8-drop, chars-nil}
 use Rattle.std.proofs.Math.Seq.{drop-cons}
 use Rattle.pp_lexer.specs.Comments.{is_slash, is_star, line_length, replaced}
 use Rattle.pp_lexer.specs.Continuations.{continued}
 use Rattle.pp_lexer.specs.Cursor.{Placed, Cursor, first_of, after_of, passed}
-use Rattle.pp_lexer.specs.Lines.{is_line_break, is_pair, Piece, piece, pieces}
+use Rattle.pp_lexer.specs.Lines.{is_line_break, pieces}
 use Rattle.pp_lexer.specs.Reading.{spots}
 use Rattle.pp_lexer.specs.inner.Fronts.{spots_from, left, is_straight}
 use Rattle.pp_lexer.specs.inner.PlainWords.{IsPlainComment}
 use Rattle.pp_lexer.specs.inner.Readers.{placed_from, joined, uncommented, past_line, past_block}
 use Rattle.pp_lexer.proofs.characters.CommentsLemmas.{past_block_after, block_goes_on, line_comment_step, block_comment_step}
-use Rattle.pp_lexer.proofs.characters.ContinuationsLemmas.{continued-nil, continued-plain, item_char, item_line}
+use Rattle.pp_lexer.proofs.characters.ContinuationsLemmas.{continued-nil, continued-plain}
 use Rattle.pp_lexer.proofs.characters.FrontsLemmas.{ascii_chars, utf8_after}
 use Rattle.pp_lexer.proofs.characters.NewlinesLemmas.{pieces_newline}
-use Rattle.pp_lexer.proofs.characters.PlainFrontsLemmas.{get_or-drop, drop_none}
+use Rattle.pp_lexer.proofs.characters.PlainFrontsLemmas.{get_or-drop}
 use Rattle.pp_lexer.proofs.characters.StraightLemmas.{Straight, straight_parts, reader, joined_first, straight_passed, cut_after_straight}
 
 -- the text does not go on with a carriage return, and its first character is ASCII
@@ -47,16 +45,16 @@ joined_feed line at text u h =
 -- no character stands before a newline
 line_broken : (line at b : ℕ) (text : List ℕ) → is_line_break b ≡ true → IsUtf8 (b ∷ text)
     → line_length (continued (placed_from line at (pieces (chars (b ∷ text))))) ≡ 0
-line_broken line at b text h u = grind (arith, ascii_chars, or_cases, eqb-true, continued-plain)
+line_broken line at b text h u = grind (arith, ascii_chars, continued-plain)
 
 passed_none : (c : Cursor) → passed 0 c ≡ c
-passed_none c = grind (arith, reader)
+passed_none c = grind arith
 
 -- a line comment ends before a newline, and at the end of the text
 line_ended : (line at : ℕ) (text : List ℕ) → IsUtf8 text → (0 < length text → is_line_break (get_or text 0 0) ≡ true)
     → past_line (joined (left line at text)) ≡ joined (left line at text)
-line_ended line at [] u h = grind (arith, passed_none, chars-nil, continued-nil)
-line_ended line at (b ∷ text) u h = grind (arith, line_broken, passed_none)
+line_ended line at [] u h = grind (arith, chars-nil, continued-nil)
+line_ended line at (b ∷ text) u h = grind (arith, line_broken)
 
 -- Where a block comment ends
 
@@ -69,7 +67,7 @@ pub record IsBlockSoFar (body : List ℕ) (i newlines : ℕ) (star : Bool) : Typ
       → past_block_after star (joined (left (line + newlines) (at + i) (drop i body))) ≡ past_block (joined (left line at body))
 
 block_begun : (body : List ℕ) → IsUtf8 body → IsBlockSoFar body 0 0 false
-block_begun body u = grind (arith, drop_none, add-zero)
+block_begun body u = grind arith
 
 -- what follows a byte that does not close the comment
 goes_on : (star : Bool) (total offset : ℕ) (p : Placed) (ps : List Placed) → (star && is_slash p) ≡ false
@@ -88,7 +86,7 @@ module _ (body : List ℕ) (i newlines : ℕ) (star : Bool) (s : IsBlockSoFar bo
 
   here : get_or body i 0 < 128 → (get_or body i 0 == 13) ≡ false → (line at : ℕ)
       → past_block_after star (joined (left (line + newlines) (at + i) (get_or body i 0 ∷ drop (i + 1) body))) ≡ past_block (joined (left line at body))
-  here small no_return line at = grind (arith, split, past_block_after)
+  here small no_return line at = grind (arith, split)
 
   pub block_more : (star && (get_or body i 0 == 47)) ≡ false → is_straight (get_or body i 0) ≡ true
       → IsBlockSoFar body (i + 1) newlines (get_or body i 0 == 42)
@@ -150,7 +148,7 @@ block_closed body i newlines s l slash line at =
 mark_first : (qs : List Placed) (total at line : ℕ) (s : Cursor)
     → ◌≡◌ {A = Option (ℕ × ℕ)} (Some (13, line)) (first_of qs) → s ≡ after_of qs total
     → spots at qs ≡ record { c = 13; line = line; begin = at; end = at + 1 } ∷ spots s.offset s.rest
-mark_first qs total at line s h k = grind (arith, item_char, item_line)
+mark_first qs total at line s h k = grind arith
 
 module _ (line at : ℕ) (body : List ℕ) where
   more : List Placed
@@ -199,7 +197,7 @@ module _ (line at : ℕ) (body : List ℕ) where
 -- Both kinds, by their bytes
 
 two_first : (text : List ℕ) (d : ℕ) → 1 < length text → get_or text 0 0 ≡ 47 → get_or text 1 0 ≡ d → text ≡ 47 ∷ d ∷ drop 2 text
-two_first text d h k e = grind (arith, drop_none)
+two_first text d h k e = grind arith
 
 utf8_body : (text : List ℕ) (d : ℕ) → Straight d → IsUtf8 text → text ≡ 47 ∷ d ∷ drop 2 text → IsUtf8 (drop 2 text)
 utf8_body text d p u two =

@@ -23,7 +23,7 @@ after_newline p seen e =
     λ i. (line i, column i)
 
 after_other : (p : Placed) (seen : List Placed) → is_newline p ≡ false → (count_by is_newline seen + 1, line_length seen + 1 + 1) ≡ after (p ∷ seen)
-after_other p seen e = grind (arith, count_by, sum_by-cons)
+after_other p seen e = grind arith
 
 -- one character more, if the characters after it lead to the line and the column of all
 leads_within : (offset : ℕ) (p : Placed) (ps seen : List Placed) (b : Bool) → is_newline p ≡ b

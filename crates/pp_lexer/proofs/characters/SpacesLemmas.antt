@@ -1,9 +1,7 @@
 -- Spaces of a plain text are passed.
 use Rattle.std.proofs.Common.{◌≡◌, ℕ, ◌+◌, List, [], ◌∷◌, ◌++◌, length, get_or, true, false, ◌||◌, refl, ◌∙◌, ap, arith, suc}
 use Rattle.std.specs.List.{list_all, list_any}
-use Rattle.std.proofs.Math.Bool.{or-false}
 use Rattle.std.proofs.lemmas.Bool.{and_parts}
-use Rattle.std.proofs.lemmas.Bool.Decides.{nat_tests}
 use Rattle.pp_lexer.specs.declared.lexer.char_iterator.Spot.{Spot}
 use Rattle.pp_lexer.specs.declared.lexer.Flags.{Flags}
 use Rattle.pp_lexer.specs.inner.Fronts.{is_plain, run}
@@ -16,13 +14,13 @@ use Rattle.pp_lexer.specs.inner.Passing.{seen_from, places_from}
 use Rattle.pp_lexer.proofs.items.PassingLemmas.{blanked, blank_seen, blank_places, blank_at_end}
 
 pub space_plain : (b : ℕ) → is_space b ≡ true → is_plain b ≡ true
-space_plain b h = grind (arith, nat_tests)
+space_plain b h = grind arith
 
 pub space_blank : (b : ℕ) → is_space b ≡ true → is_blank b ≡ true
-space_blank b h = grind (arith, nat_tests)
+space_blank b h = grind arith
 
 pub space_no_mark : (b : ℕ) → is_space b ≡ true → is_mark b ≡ false
-space_no_mark b h = grind (arith, nat_tests)
+space_no_mark b h = grind arith
 
 -- spaces are passed
 
@@ -31,13 +29,13 @@ abbrev pub spaced : Flags → Flags
 spaced f = record { leading_whitespace = true; start_of_line = f.start_of_line; had_comments = f.had_comments }
 
 blanked_space : (f : Flags) (c : ℕ) → is_space c ≡ true → blanked f c ≡ spaced f
-blanked_space f c h = grind (arith, space_no_mark, or-false)
+blanked_space f c h = grind arith
 
 -- the items to come, and whether comments will have been passed
 pub spaces_seen : (f : Flags) (line at c : ℕ) (w : List ℕ) (more : List Spot) (last : Spot) → list_all is_space (c ∷ w) ≡ true
     → seen_from f last (segments (run line at (c ∷ w) ++ more)) ≡ seen_from (spaced f)
     (record { c = get_or (c ∷ w) (length w) 0; line = line; begin = at + length w; end = at + length w + 1 }) (segments more)
-spaces_seen f line at c [] more last h = grind (arith, and_parts, blank_seen, space_blank, blanked_space)
+spaces_seen f line at c [] more last h = grind (arith, blank_seen, blanked_space)
 spaces_seen f line at c (d ∷ w) more last h =
     let b = and_parts (is_space c) (list_all is_space (d ∷ w)) h in
     let n : at + 1 + length w ≡ at + suc (length w) = omega arith in
@@ -50,7 +48,7 @@ spaces_seen f line at c (d ∷ w) more last h =
 pub spaces_places : (f : Flags) (line at c : ℕ) (w : List ℕ) (more : List Spot) (last : Spot) → list_all is_space (c ∷ w) ≡ true
     → places_from f last (segments (run line at (c ∷ w) ++ more)) ≡ places_from (spaced f)
     (record { c = get_or (c ∷ w) (length w) 0; line = line; begin = at + length w; end = at + length w + 1 }) (segments more)
-spaces_places f line at c [] more last h = grind (arith, and_parts, blank_places, space_blank, blanked_space)
+spaces_places f line at c [] more last h = grind (arith, blank_places, blanked_space)
 spaces_places f line at c (d ∷ w) more last h =
     let b = and_parts (is_space c) (list_all is_space (d ∷ w)) h in
     let n : at + 1 + length w ≡ at + suc (length w) = omega arith in

@@ -1,12 +1,12 @@
 -- A front of a comment's rest that no phase changes.
-use Rattle.std.proofs.Common.{◌≡◌, ℕ, zero, suc, ◌+◌, ◌<◌, ◌≤◌, List, [], ◌∷◌, ◌++◌, length, take, drop, get_or, Bool, true, false, not, ◌==◌, nat_lt, refl, sym, ◌∙◌, ap, subst, arith, add-one, ◌&&◌, inl, inr, append_assoc, length-append, true≢false}
+use Rattle.std.proofs.Common.{◌≡◌, ℕ, ◌+◌, ◌<◌, ◌≤◌, List, [], ◌∷◌, ◌++◌, length, take, drop, get_or, Bool, true, false, ◌==◌, refl, sym, ◌∙◌, ap, subst, arith, ◌&&◌, append_assoc, length-append}
 use Rattle.std.specs.List.{list_all}
 use Rattle.std.specs.Char.{len_utf8}
 use Rattle.std.specs.Str.{chars, IsUtf8, IsAscii, IsCharBoundary}
-use Rattle.std.proofs.lemmas.Bool.{and_parts, ne_eqb, cases_lt, not-true, ltb-true}
+use Rattle.std.proofs.lemmas.Bool.{and_parts, ne_eqb}
 use Rattle.std.proofs.lemmas.List.{length-take-le}
 use Rattle.std.proofs.lemmas.List.Folds.{list_all-append}
-use Rattle.std.proofs.lemmas.Str.{IsCharBoundary-after_ascii, IsCharBoundary-before_ascii, IsCharBoundary-end, IsUtf8-take, IsUtf8-past_char, chars_past_char, encode_ascii, encodes-IsAscii, len_utf8_ascii, length-encode}
+use Rattle.std.proofs.lemmas.Str.{IsCharBoundary-after_ascii, IsUtf8-take, IsUtf8-past_char, chars_past_char, encode_ascii, encodes-IsAscii, len_utf8_ascii, length-encode}
 use Rattle.std.proofs.lemmas.Str.Ascii.{IsAscii-cons}
 use Rattle.std.proofs.Math.Utf8.{encode, encodes}
 use Rattle.pp_lexer.specs.Comments.{is_star}
@@ -27,7 +27,7 @@ pub record Straight (c : ℕ) : Type 0 where
   pub no_backslash : (c == 92) ≡ false
 
 pub straight_parts : (c : ℕ) → is_straight c ≡ true → Straight c
-straight_parts c h = grind (arith, and_parts, ltb-true, not-true)
+straight_parts c h = grind arith
 
 abbrev pub reader : List Placed → ℕ → ℕ → Cursor
 reader rest offset total = record { rest = rest; offset = offset; total = total }
@@ -43,7 +43,7 @@ joined_char : (line at c : ℕ) (text : List ℕ) → Kept c → IsUtf8 (encode 
     → joined (left line at (encode c ++ text))
     ≡ reader (record { char = c; line = line; end = at + len_utf8 c } ∷ continued (placed_from line (at + len_utf8 c) (pieces (chars text)))) at
     (at + len_utf8 c + length text)
-joined_char line at c text p u = grind (arith, encode, chars_past_char, pieces_plain, length-append, length-encode, continued-plain)
+joined_char line at c text p u = grind (arith, chars_past_char, pieces_plain, length-append, length-encode, continued-plain)
 
 kept : (c : ℕ) → Straight c → Kept c
 kept c p = record { no_feed = p.no_feed; no_return = p.no_return; no_backslash = p.no_backslash }
@@ -124,7 +124,7 @@ pub record Starless (c : ℕ) : Type 0 where
   pub no_star : (c == 42) ≡ false
 
 pub starless_parts : (c : ℕ) → is_starless c ≡ true → Starless c
-starless_parts c h = grind (arith, and_parts, not-true)
+starless_parts c h = grind arith
 
 starless_kept : (c : ℕ) → is_starless c ≡ true → Kept c
 starless_kept c h = (starless_parts c h).kept
@@ -141,11 +141,11 @@ starless_chars (c ∷ cs) h =
     ap (λ t. t && list_all is_starless cs) (first b.0) ∙ starless_chars cs b.1
   where
     first : list_all is_starless (encode c) ≡ true → is_starless c ≡ true
-    first k = grind (arith, cases_lt, and_parts, encode_ascii, large_starless)
+    first k = grind (arith, encode_ascii)
 
 -- such bytes end at the end of a character
 pub cut_after_starless : (n : ℕ) (text : List ℕ) → n ≤ length text → (n < length text → is_starless (get_or text n 0) ≡ false) → IsCharBoundary text n
-cut_after_starless n text le stops = grind (arith, cases_lt, IsCharBoundary-before_ascii, IsCharBoundary-end, true≢false, large_starless)
+cut_after_starless n text le stops = grind (arith, large_starless)
 
 no_star_step : (p : Placed) (ps : List Placed) (offset total : ℕ) → is_star p ≡ false → past_block (reader (p ∷ ps) offset total) ≡ past_block (reader ps p.end total)
 no_star_step p ps offset total h = block_goes_on total offset p ps ∙ rw h refl

@@ -20,7 +20,7 @@ spaced_is : (f : Flags) → after_spaces true f ≡ spaced f
 spaced_is f = ap (λ b. record f { leading_whitespace = b }) (or-true f.leading_whitespace)
 
 pub after_none : (line at : ℕ) (text : List ℕ) (r : Reading) → IsLeft line at text r.rest → IsAfterSpaces line at text false r
-after_none line at text r left = grind (arith, unspaced)
+after_none line at text r left = grind arith
 
 module _ (line at n : ℕ) (text rest : List ℕ) (r : Reading) (left : IsLeft line at text r.rest) (u : IsUtf8 text) (some : 0 < n)
     (le : n ≤ length text) (passes : list_all is_space (take n text) ≡ true) (e : rest ≡ drop n text) where

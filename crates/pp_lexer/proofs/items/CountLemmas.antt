@@ -1,10 +1,10 @@
 -- How many items a text has at most.
-use Rattle.std.proofs.Common.{◌≡◌, ℕ, zero, suc, ◌+◌, ◌≤◌, List, [], ◌∷◌, length, drop, Bool, true, false, refl, ap, arith, length-append}
+use Rattle.std.proofs.Common.{ℕ, zero, suc, ◌+◌, ◌≤◌, List, [], ◌∷◌, length, drop, arith, length-append}
 use Rattle.pp_lexer.specs.declared.lexer.char_iterator.Spot.{Spot}
 use Rattle.pp_lexer.specs.Cursor.{Placed}
 use Rattle.pp_lexer.specs.Reading.{spots}
-use Rattle.pp_lexer.specs.Segments.{Kind, blank, comment, item, Segment, taken_by, segments_within, segments}
-use Rattle.pp_lexer.specs.Items.{item_at, start_of_line, final_newline, items_of}
+use Rattle.pp_lexer.specs.Segments.{Kind, Segment, taken_by, segments_within, segments}
+use Rattle.pp_lexer.specs.Items.{item_at, final_newline, items_of}
 use Rattle.pp_lexer.proofs.characters.SpotsLemmas.{length-spots}
 use Rattle.pp_lexer.proofs.items.ItemsLemmas.{items_from, items_at_start}
 
@@ -28,4 +28,4 @@ length-items_from (g ∷ gs) before =
 -- at most one for each character, and one
 pub length-items_of : (at : ℕ) (ps : List Placed) → length (items_of (spots at ps)) ≤ length ps + 1
 unfolding segments
-length-items_of at ps = grind (arith, items_from, items_at_start, length-items_from, length-segments_within, length-spots)
+length-items_of at ps = grind (arith, items_at_start, length-items_from, length-segments_within, length-spots)

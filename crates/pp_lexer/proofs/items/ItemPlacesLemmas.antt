@@ -1,9 +1,9 @@
 -- Each item of a text has one place, which is that of a token's location.
-use Rattle.std.proofs.Common.{◌≡◌, List, [], ◌∷◌, ◌++◌, Bool, true, false, refl, sym, subst, Ok, Err, arith}
+use Rattle.std.proofs.Common.{List, [], ◌∷◌, ◌++◌, sym, subst, arith}
 use Rattle.pp_lexer.specs.declared.token.Location.{Location}
 use Rattle.pp_lexer.specs.declared.lexer.char_iterator.Spot.{Spot}
-use Rattle.pp_lexer.specs.Segments.{Kind, blank, comment, item, Segment, segments}
-use Rattle.pp_lexer.specs.Items.{Item, start_of_line, item_at, final_newline, items_of, places_at, places_of}
+use Rattle.pp_lexer.specs.Segments.{Kind, Segment, segments}
+use Rattle.pp_lexer.specs.Items.{Item, item_at, final_newline, items_of, places_at, places_of}
 use Rattle.pp_lexer.specs.ItemLaws.{StandAt}
 use Rattle.pp_lexer.specs.inner.Passing.{places_from}
 use Rattle.pp_lexer.proofs.items.ItemsLemmas.{items_from, items_at_start, places_at_start, flags_after, last_before, flags_step}
@@ -19,12 +19,12 @@ segment_stands : (k : Kind) (g : Segment) (before : List Segment) → StandAt (i
 segment_stands k g before = grind arith
 
 end_stands : (before : List Segment) (s : Spot) → StandAt (final_newline before) (places_from (flags_after before) (last_before before s) [])
-end_stands before s = grind (arith, flags_after)
+end_stands before s = grind arith
 
 items_stand : (gs before : List Segment) (s : Spot) → StandAt (items_from before gs) (places_from (flags_after before) (last_before before s) gs)
 unfolding items_from
 items_stand [] before s = end_stands before s
-items_stand (g ∷ gs) before s = grind (arith, stand-append, items_from, segment_stands, flags_step, items_stand gs (g ∷ before) s)
+items_stand (g ∷ gs) before s = grind (arith, segment_stands, flags_step, items_stand gs (g ∷ before) s)
 
 nowhere_spot : Spot
 nowhere_spot = record { c = 0; line = 0; begin = 0; end = 0 }

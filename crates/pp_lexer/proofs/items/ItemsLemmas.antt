@@ -1,18 +1,17 @@
 -- A lexer that passes segments gives the items of the text.
-use Rattle.std.proofs.Common.{◌≡◌, ℕ, ◌+◌, zero-add, List, [], ◌∷◌, ◌++◌, map, reverse, append_assoc, Bool, true, false, ◌||◌, refl, sym, ◌∙◌, ap, arith, cond, Ok, Err}
+use Rattle.std.proofs.Common.{◌≡◌, ℕ, ◌+◌, zero-add, List, [], ◌∷◌, ◌++◌, map, reverse, append_assoc, Bool, true, false, refl, sym, ◌∙◌, ap, arith, cond}
 use Rattle.std.specs.Prelude.{nat_lt}
 use Rattle.std.specs.List.{list_any, flat_map}
 use Rattle.std.proofs.lemmas.List.Sums.{sum_by-cons}
 use Rattle.std.proofs.lemmas.List.{map-append, append-nil, reverse-append}
 use Rattle.std.proofs.lemmas.List.Concat.{flat_map-cons}
-use Rattle.std.proofs.lemmas.Bool.Decides.{nat_tests}
 use Rattle.pp_lexer.specs.declared.lexer.char_iterator.Spot.{Spot}
 use Rattle.pp_lexer.specs.declared.lexer.Flags.{Flags}
 use Rattle.pp_lexer.specs.Location.{nowhere}
 use Rattle.pp_lexer.specs.Reading.{Reading}
 use Rattle.pp_lexer.specs.Surroundings.{surrounded_from, surrounded}
-use Rattle.pp_lexer.specs.Segments.{Kind, blank, comment, item, Segment, segments}
-use Rattle.pp_lexer.specs.inner.Passing.{is_newline_result, passed, lexeme_seen, item_seen, newline_seen, seen_from, places_from, lexed}
+use Rattle.pp_lexer.specs.Segments.{Kind, Segment, segments}
+use Rattle.pp_lexer.specs.inner.Passing.{passed, item_seen, newline_seen, seen_from, places_from, lexed}
 use Rattle.pp_lexer.specs.Items.{is_comment, leading_whitespace, start_of_line, comments_in, item_at, final_newline, items_of, Item, places_at, final_place, places_of}
 use Rattle.pp_lexer.specs.inner.Items.{item_of}
 use Rattle.pp_lexer.specs.Lexed.{seen, start_of}
@@ -56,7 +55,7 @@ pub flags_step : (k : Kind) (first last : Spot) (before : List Segment)
 flags_step k first last before = grind arith
 
 above_zero : (n : ℕ) → nat_lt 0 (1 + n) ≡ true
-above_zero n = grind (arith, nat_tests)
+above_zero n = grind arith
 
 -- some comments were passed where their number is not 0
 comments_some : (gs : List Segment) → nat_lt 0 (comments_in gs) ≡ list_any (λ g. is_comment g.kind) gs

@@ -1,8 +1,6 @@
 -- What a lexer gives at a token, at an error and at the end, after the blanks.
-use Rattle.std.proofs.Common.{◌≡◌, List, [], ◌∷◌, Bool, true, false, ◌||◌, refl, sym, ◌∙◌, ap, inl, inr, IsTrue, Option, Some, None, Result, OnOk, Ok, Err, IsErr, MatchOption, subst, arith}
-use Rattle.std.proofs.Math.Bool.{or-false}
+use Rattle.std.proofs.Common.{◌≡◌, List, ◌∷◌, Bool, true, false, refl, sym, ◌∙◌, ap, inl, inr, IsTrue, Option, Some, None, Result, OnOk, Ok, Err, IsErr, MatchOption, subst, arith}
 use Rattle.std.specs.Bool.{⊤}
-use Rattle.std.specs.List.{list_any}
 use Rattle.std.proofs.lemmas.Bool.{false≢true}
 use Rattle.std.specs.declared.alloc.AllocError.{AllocError}
 use Rattle.pp_lexer.specs.declared.token.Location.{Location}
@@ -15,8 +13,8 @@ use Rattle.pp_lexer.specs.Words.{word_at}
 use Rattle.pp_lexer.specs.Outcome.{Answer, takes_memory, IsGiven}
 use Rattle.pp_lexer.specs.Segments.{item}
 use Rattle.pp_lexer.specs.Words.{is_blank}
-use Rattle.pp_lexer.specs.inner.Passing.{is_newline_result, passed, lexeme_seen, newline_seen, seen_from, seen_of, comments_at_end, newline_places, places_from, places_left, IsPlaced, IsLexRefused, IsLexed}
-use Rattle.pp_lexer.specs.Items.{Lexeme, is_comment}
+use Rattle.pp_lexer.specs.inner.Passing.{is_newline_result, passed, lexeme_seen, newline_seen, seen_of, comments_at_end, newline_places, places_left, IsPlaced, IsLexRefused, IsLexed}
+use Rattle.pp_lexer.specs.Items.{Lexeme}
 use Rattle.pp_lexer.specs.Lexed.{first_item, after_first_item, comments_before, lexeme_takes_memory, first_takes_memory, first_place, places_after_first}
 use Rattle.pp_lexer.proofs.words.WordAtLemmas.{word_at-some}
 use Rattle.pp_lexer.proofs.items.SegmentsLemmas.{segments_none, advanced-rest}
@@ -64,7 +62,7 @@ front_at : (f : Flags) (ss : List Spot) (last : Spot) (q : Reading) (first : Spo
     → r ≡ (word_at (letters ss)).value → q ≡ advanced (word_at (letters ss)).taken (record { rest = ss; last = last })
     → IsLexed f (record { rest = ss; last = last }) (Ok (Some (lexeme_seen f first q.last r))) (passed f (item r)) q
 unfolding value after
-front_at f ss last q first r h k e l = grind (arith, seen_front, value, at_end_front)
+front_at f ss last q first r h k e l = grind (arith, seen_front, at_end_front)
 
 lexeme_takes : (f : Flags) (first last : Spot) (r : Answer) → lexeme_takes_memory (lexeme_seen f first last r) ≡ takes_memory r
 lexeme_takes f first last (Ok v) = refl
@@ -74,7 +72,7 @@ refused_at : (f : Flags) (ss : List Spot) (last first : Spot) (answer : Result (
     → MatchOption (first_of ss) ⊤ (λ s. is_blank s.c ≡ false)
     → IsErr answer → takes_memory (word_at (letters ss)).value ≡ true → IsLexRefused f (record { rest = ss; last = last }) f answer
 unfolding value after
-refused_at f ss last first answer h k e l = grind (arith, seen_front, value, lexeme_takes)
+refused_at f ss last first answer h k e l = grind (arith, seen_front, lexeme_takes)
 
 given_value : (r answer : Answer) → IsGiven (Ok r) answer → r ≡ answer
 given_value r answer (inl h) = cc
@@ -90,13 +88,13 @@ pub lexed_front : (f : Flags) (r p q : Reading) (first last : Spot) (v : Answer)
     → p ≡ r → IsGiven (Ok v) (word_at (letters p.rest)).value → q ≡ advanced (word_at (letters p.rest)).taken p → last ≡ q.last
     → answer ≡ lexeme_seen f first last v → line ≡ is_newline_result v
     → IsLexed f r (Ok (Some answer)) (record { leading_whitespace = line; start_of_line = line; had_comments = f.had_comments }) q
-lexed_front f r p q first last v answer line e plain same h k l a n = grind (arith, front_at, given_value, value)
+lexed_front f r p q first last v answer line e plain same h k l a n = grind (arith, front_at, value)
 
 -- memory was refused
 pub lexed_refused : (f : Flags) (r p q : Reading) (first : Spot) (e : AllocError) (answer : Result (Option Lexeme) AllocError)
     → Some first ≡ first_char r → MatchOption (first_char r) ⊤ (λ s. is_blank s.c ≡ false)
     → p ≡ r → IsErr answer → IsGiven (Err e) (word_at (letters p.rest)).value → IsLexed f r answer f q
-lexed_refused f r p q first e answer here plain same k h = grind (arith, refused_at, value, given_refused)
+lexed_refused f r p q first e answer here plain same k h = grind (arith, refused_at, given_refused)
 
 newline_comments : (f : Flags) (last : Spot) (b : Bool) → b ≡ f.had_comments → f.had_comments ≡ comments_before (newline_seen f last) b
 newline_comments f last b h = grind arith
@@ -104,7 +102,7 @@ newline_comments f last b h = grind arith
 end_at : (f g : Flags) (ss : List Spot) (last : Spot) (answer : Option Lexeme) → None ≡ first_of ss → answer ≡ first_item (newline_seen f last)
     → newline_seen g last ≡ after_first_item (newline_seen f last)
     → g.had_comments ≡ f.had_comments → IsLexed f (record { rest = ss; last = last }) (Ok answer) g (record { rest = ss; last = last })
-end_at f g ss last answer h k e l = grind (arith, segments_none, or-false, value, newline_comments)
+end_at f g ss last answer h k e l = grind (arith, segments_none, newline_comments)
 
 -- nothing is left to read
 pub lexed_end : (f g : Flags) (r p : Reading) (last : Spot) (answer : Option Lexeme) → None ≡ first_char r → p ≡ r → last ≡ p.last

@@ -75,7 +75,7 @@ module _ (f : Flags) (r : Reading) (place : Location) (line at n : ℕ) (text : 
       (placed_plain g after.there line at text after.left.rest_is (value_of form spelling.now) n plain (reading_after word) old there)
 
   given_first : Some (Ok (token_of word)) ≡ first_item (seen_of f r)
-  given_first = grind (arith, taken, given)
+  given_first = grind (arith, given)
 
   pub next_word : IsNextWord (lexed f r place false) word
   next_word = record { unspent = refl; is = sym given_first; ascii = subst IsAscii (sym spelled) w.ascii }

@@ -1,5 +1,5 @@
 -- How a lexer in the midst of a text passes a plain comment.
-use Rattle.std.proofs.Common.{◌≡◌, ℕ, ◌+◌, List, ◌∷◌, drop, Bool, true, false, ◌||◌, refl, sym, ◌∙◌, ap, subst, Some, option_map}
+use Rattle.std.proofs.Common.{◌≡◌, ℕ, ◌+◌, List, ◌∷◌, drop, true, refl, sym, ◌∙◌, ap, subst, Some, option_map}
 use Rattle.std.proofs.Math.Bool.{or-true}
 use Rattle.pp_lexer.specs.declared.lexer.char_iterator.Spot.{Spot}
 use Rattle.pp_lexer.specs.declared.lexer.Flags.{Flags}

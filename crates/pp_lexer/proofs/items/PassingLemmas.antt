@@ -1,11 +1,11 @@
 -- How a lexer in the midst of a text passes a blank, and what stands at the front.
-use Rattle.std.proofs.Common.{◌≡◌, ℕ, zero, suc, ◌<◌, List, [], ◌∷◌, ◌++◌, take, drop, Bool, true, false, ◌||◌, refl, sym, ◌∙◌, ap, arith, cond, Some, option_map}
+use Rattle.std.proofs.Common.{◌≡◌, ℕ, zero, suc, ◌<◌, List, [], ◌∷◌, take, drop, Bool, true, false, ◌||◌, refl, sym, ◌∙◌, ap, arith, cond, Some, option_map}
 use Rattle.std.specs.List.{list_any}
 use Rattle.pp_lexer.specs.declared.lexer.char_iterator.Spot.{Spot}
 use Rattle.pp_lexer.specs.declared.lexer.Flags.{Flags}
 use Rattle.pp_lexer.specs.Reading.{Reading, letters, first_of, first_char, past, after_first, advanced_of}
 use Rattle.pp_lexer.specs.Words.{word_at}
-use Rattle.pp_lexer.specs.Segments.{blank, comment, item, last_of, kind_of, taken_by, segments}
+use Rattle.pp_lexer.specs.Segments.{blank, comment, item, last_of, kind_of, segments}
 use Rattle.pp_lexer.specs.inner.Segments.{is_mark}
 use Rattle.pp_lexer.specs.Words.{is_blank}
 use Rattle.pp_lexer.specs.Items.{is_comment}
@@ -38,11 +38,11 @@ comment_is false = refl
 -- a blank alone
 blank_first : (s : Spot) (ss : List Spot) → is_blank s.c ≡ true
     → segments (s ∷ ss) ≡ record { kind = cond (is_mark s.c) comment blank; first = s; last = s } ∷ segments ss
-blank_first s ss e = grind (arith, segments_first, kind_blank)
+blank_first s ss e = grind (arith, segments_first)
 
 pub blank_seen : (f : Flags) (last s : Spot) (ss : List Spot) → is_blank s.c ≡ true
     → seen_from f last (segments (s ∷ ss)) ≡ seen_from (blanked f s.c) s (segments ss)
-blank_seen f last s ss e = grind (arith, blank_first, none_seen, passed_blank)
+blank_seen f last s ss e = grind (arith, blank_first, passed_blank)
 
 none_placed : (first last : Spot) (b : Bool) → places_at (record { kind = cond b comment blank; first = first; last = last }) (cond b comment blank) ≡ []
 none_placed first last true = refl
@@ -50,12 +50,12 @@ none_placed first last false = refl
 
 pub blank_places : (f : Flags) (last s : Spot) (ss : List Spot) → is_blank s.c ≡ true
     → places_from f last (segments (s ∷ ss)) ≡ places_from (blanked f s.c) s (segments ss)
-blank_places f last s ss e = grind (arith, blank_first, none_placed, passed_blank)
+blank_places f last s ss e = grind (arith, blank_first, passed_blank)
 
 pub blank_at_end : (f : Flags) (s : Spot) (ss : List Spot) → is_blank s.c ≡ true
     → (f.had_comments || list_any (λ g. is_comment g.kind) (segments (s ∷ ss))) ≡
     ((f.had_comments || is_mark s.c) || list_any (λ g. is_comment g.kind) (segments ss))
-blank_at_end f s ss e = grind (arith, blank_first, comment_is)
+blank_at_end f s ss e = grind (arith, blank_first)
 
 -- a blank that was taken
 pub record IsBlanked (f g : Flags) (r q : Reading) : Type 0 where
@@ -80,7 +80,7 @@ pub front_first : (s : Spot) (ss : List Spot) → is_blank s.c ≡ false
       last = last_of s (take (word_at (letters (s ∷ ss))).taken (s ∷ ss));
     }
     ∷ segments (drop (word_at (letters (s ∷ ss))).taken (s ∷ ss))
-front_first s ss e = grind (arith, segments_first, kind_front)
+front_first s ss e = grind (arith, segments_first)
 
 -- the first character counts as the last one before it
 pub last_same : (n : ℕ) (last s : Spot) (ss : List Spot) → 0 < n → last_of s (take n (s ∷ ss)) ≡ (advanced_of n (s ∷ ss) last).last

@@ -1,13 +1,12 @@
 -- The tokens of characters that stand in order lie where these do.
-use Rattle.std.proofs.Common.{◌≡◌, ℕ, zero, suc, ◌+◌, ◌≤◌, ◌<◌, List, [], ◌∷◌, ◌++◌, length, take, drop, Bool, true, false, refl, sym, arith, Ok, Err, subst}
+use Rattle.std.proofs.Common.{ℕ, zero, suc, ◌≤◌, ◌<◌, List, [], ◌∷◌, ◌++◌, take, drop, arith}
 use Rattle.std.specs.Prelude.{All}
-use Rattle.std.specs.Char.{len_utf8}
 use Rattle.std.proofs.lemmas.List.Elements.{All-cons}
 use Rattle.pp_lexer.specs.declared.lexer.char_iterator.Spot.{Spot}
 use Rattle.pp_lexer.specs.Cursor.{Placed}
 use Rattle.pp_lexer.specs.Reading.{spots}
-use Rattle.pp_lexer.specs.Segments.{Kind, blank, comment, item, Segment, last_of, taken_by, segments_within, segments}
-use Rattle.pp_lexer.specs.Items.{Item, item_at, start_of_line, final_newline, items_of}
+use Rattle.pp_lexer.specs.Segments.{Kind, blank, Segment, last_of, taken_by, segments_within, segments}
+use Rattle.pp_lexer.specs.Items.{Item, item_at, final_newline, items_of}
 use Rattle.pp_lexer.specs.ItemLaws.{IsWithin}
 use Rattle.pp_lexer.specs.PhaseLaws.{StretchesFollow}
 use Rattle.pp_lexer.proofs.items.SegmentsLemmas.{taken_some}

@@ -1,9 +1,8 @@
 -- The first segment of a text, and those after it.
-use Rattle.std.proofs.Common.{◌≡◌, ℕ, zero, suc, ◌-◌, ◌<◌, ◌≤◌, List, [], ◌∷◌, length, take, drop, Bool, true, false, refl, ap, arith, length-drop}
+use Rattle.std.proofs.Common.{◌≡◌, ℕ, zero, suc, ◌-◌, ◌<◌, ◌≤◌, List, [], ◌∷◌, length, take, drop, refl, ap, arith, length-drop}
 use Rattle.pp_lexer.specs.declared.lexer.char_iterator.Spot.{Spot}
-use Rattle.pp_lexer.specs.Reading.{letters, advanced_of}
+use Rattle.pp_lexer.specs.Reading.{advanced_of}
 use Rattle.pp_lexer.specs.Segments.{last_of, taken_by, segment_at, segments_within, segments}
-use Rattle.pp_lexer.specs.Words.{is_blank}
 use Rattle.pp_lexer.proofs.words.WordAtLemmas.{word_at-some}
 
 pub taken_some : (s : Spot) (ss : List Spot) → 0 < taken_by s ss

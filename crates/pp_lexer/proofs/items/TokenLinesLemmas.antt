@@ -1,22 +1,22 @@
 -- The lines of tokens are lines of the source: at least 1, and at most one more than its bytes.
-use Rattle.std.proofs.Common.{◌≡◌, ℕ, zero, suc, ◌+◌, ◌≤◌, List, [], ◌∷◌, ◌++◌, length, take, drop, Bool, true, false, refl, sym, arith, length-drop, All, Ok, Err, subst, if◌then◌else◌, ◌⊎◌, inl, inr}
+use Rattle.std.proofs.Common.{◌≡◌, ℕ, zero, suc, ◌+◌, ◌≤◌, List, [], ◌∷◌, ◌++◌, length, take, drop, Bool, true, false, sym, arith, length-drop, All, subst, if◌then◌else◌, ◌⊎◌, inl, inr}
 use Rattle.std.specs.Str.{chars, IsUtf8}
 use Rattle.pp_lexer.specs.declared.lexer.char_iterator.Spot.{Spot}
 use Rattle.pp_lexer.specs.Cursor.{Placed}
 use Rattle.pp_lexer.specs.Lines.{Piece, pieces}
 use Rattle.pp_lexer.specs.inner.Lines.{is_newline_piece}
-use Rattle.pp_lexer.specs.Continuations.{is_continuation, continued}
+use Rattle.pp_lexer.specs.Continuations.{continued}
 use Rattle.pp_lexer.specs.Comments.{replaced}
 use Rattle.pp_lexer.specs.inner.Readers.{placed_from}
 use Rattle.pp_lexer.specs.Reading.{spots}
 use Rattle.pp_lexer.specs.Spots.{spots_of}
-use Rattle.pp_lexer.specs.Segments.{Kind, blank, comment, item, Segment, last_of, taken_by, segments_within, segments}
-use Rattle.pp_lexer.specs.Items.{Item, item_at, start_of_line, final_newline, items_of}
+use Rattle.pp_lexer.specs.Segments.{Kind, Segment, last_of, taken_by, segments_within, segments}
+use Rattle.pp_lexer.specs.Items.{Item, item_at, final_newline, items_of}
 use Rattle.pp_lexer.specs.ItemLaws.{HasLineWithin, TokensHaveLines}
-use Rattle.pp_lexer.specs.PhaseLaws.{lines_of, continued_of, replaced_of}
+use Rattle.pp_lexer.specs.PhaseLaws.{lines_of, replaced_of}
 use Rattle.pp_lexer.proofs.characters.LinesLemmas.{lines_are}
 use Rattle.pp_lexer.proofs.characters.PiecesLemmas.{length-pieces-source}
-use Rattle.pp_lexer.proofs.characters.ContinuationsLemmas.{continued_from, continued-stays, continued-leaves}
+use Rattle.pp_lexer.proofs.characters.ContinuationsLemmas.{continued_from, continued-stays}
 use Rattle.pp_lexer.proofs.characters.CommentsLemmas.{replaced-nil}
 use Rattle.pp_lexer.proofs.characters.ReplacedLemmas.{Marks, front}
 use Rattle.pp_lexer.proofs.items.ItemsLemmas.{items_from, items_at_start}
@@ -66,7 +66,7 @@ lines-continued_from : (total : ℕ) (before ps : List Placed) → PlacedHaveLin
 unfolding Each
 lines-continued_from total before [] h = tt
 lines-continued_from total before (p ∷ ps) h =
-    grind (arith, continued_from, continued-leaves, continued-stays, lines-continued_from total (p ∷ before) ps h.1)
+    grind (arith, continued-stays, lines-continued_from total (p ∷ before) ps h.1)
 
 lines-continued : (total : ℕ) (ps : List Placed) → PlacedHaveLines total ps → PlacedHaveLines total (continued ps)
 unfolding continued

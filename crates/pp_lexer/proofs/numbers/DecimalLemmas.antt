@@ -1,5 +1,5 @@
 -- The decimal digits of a number are read as that number.
-use Rattle.std.proofs.Common.{◌≡◌, ℕ, zero, suc, ◌+◌, ◌^◌, ◌<◌, List, [], ◌∷◌, ◌++◌, length, get_or, drop, Bool, true, false, not, ◌&&◌, append-nil, append_assoc, length-append, add-zero, refl, sym, ◌∙◌, ap, subst, arith, Ok, Some, None, nat_lt, pos, if◌then◌else◌}
+use Rattle.std.proofs.Common.{◌≡◌, ℕ, zero, suc, ◌+◌, ◌^◌, ◌<◌, List, [], ◌∷◌, ◌++◌, length, get_or, Bool, true, false, not, ◌&&◌, append_assoc, length-append, add-zero, refl, ◌∙◌, ap, arith, Ok, Some, None, pos}
 use Rattle.std.specs.Char.{digit_value}
 use Rattle.std.specs.Fmt.{decimal}
 use Rattle.std.specs.List.{list_all, list_any}
@@ -8,11 +8,11 @@ use Rattle.std.proofs.lemmas.Bool.{and_right, and_parts, lt-ltb, ne_eqb, and_fro
 use Rattle.std.proofs.lemmas.Fmt.{decimal_is_IsNumeral, decimal_digit, first_decimal}
 use Rattle.pp_lexer.specs.declared.token.Integer.{Integer as IntegerLiteral}
 use Rattle.pp_lexer.specs.declared.lexer.item.TokenValue.TheVariants.{Integer}
-use Rattle.pp_lexer.specs.Numbers.{is_zero, is_x, is_decimal, decimal_tail, is_number}
+use Rattle.pp_lexer.specs.Numbers.{is_zero, is_x, is_decimal, is_number}
 use Rattle.pp_lexer.specs.NumberValue.{is_l, is_s, is_u, begins_hex, begins_octal, whole, integer_value, integer_outcome, width_refusal, number_outcome}
-use Rattle.pp_lexer.specs.inner.NumberValue.{is_float_mark, integer_of}
+use Rattle.pp_lexer.specs.inner.NumberValue.{is_float_mark}
 use Rattle.pp_lexer.specs.Spelling.{integer_literal}
-use Rattle.pp_lexer.specs.Spellings.{many, after_first}
+use Rattle.pp_lexer.specs.Spellings.{after_first}
 use Rattle.pp_lexer.specs.Surroundings.{begins_with}
 use Rattle.pp_lexer.specs.Words.{word_at}
 use Rattle.pp_lexer.proofs.numbers.NumbersLemmas.{either_apart, e_apart, point_apart}
@@ -62,14 +62,14 @@ no_hex : (w : List ℕ) → list_all is_decimal w ≡ true → begins_hex w ≡ 
 no_hex w h = and_right (begins_with is_zero w) (begins_with is_x (after_first w)) (no_x w h)
 
 digits_number : (w : List ℕ) → 0 < length w → list_all is_decimal w ≡ true → is_number w ≡ true
-digits_number w h k = grind (arith, and_parts, decimal_number, and_from, all_many)
+digits_number w h k = grind (arith, decimal_number, all_many)
 
 module _ (n : ℕ) (w : List ℕ) (t : IsDecimalText n w) where
   digits_whole : whole 10 w ≡ Some n
-  digits_whole = grind (arith, lt-ltb, and_from)
+  digits_whole = grind arith
 
   pub digits_value : (signed : Bool) → integer_value signed w ≡ Ok (Integer (record { value = n; signed = signed; width = pos 32 }))
-  digits_value signed = grind (arith, no_hex, digits_whole)
+  digits_value signed = grind (arith, digits_whole)
 
   pub digits_outcome : (cs : List ℕ) → number_outcome w cs ≡ integer_outcome w cs
   digits_outcome cs = rw (no_marks (begins_hex w) w t.digits) refl
@@ -96,4 +96,4 @@ unsigned_integer n cs h b =
 -- an integer is read back with its mark
 pub spelled_integer : (i : IntegerLiteral) (cs : List ℕ) → i.value < 2 ^ 64 → i.width ≡ pos 32 → IsBreak cs
     → word_at (integer_literal i ++ cs) ≡ record { value = Ok (Integer i); taken = length (integer_literal i) }
-spelled_integer i cs h e b = grind (arith, append-nil, signed_integer, append_assoc, length-append, unsigned_integer)
+spelled_integer i cs h e b = grind (arith, signed_integer, append_assoc, length-append, unsigned_integer)

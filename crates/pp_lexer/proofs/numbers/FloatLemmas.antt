@@ -1,27 +1,27 @@
 -- What a float's text is, read from its front.
-use Rattle.std.proofs.Common.{◌≡◌, ℕ, List, [], ◌∷◌, drop, Bool, true, false, ◌&&◌, ◌||◌, ◌==◌, refl, sym, ◌∙◌, ap, inl, inr, if◌then◌else◌, arith}
+use Rattle.std.proofs.Common.{◌≡◌, ℕ, List, [], ◌∷◌, drop, Bool, true, false, ◌&&◌, ◌||◌, refl, sym, ◌∙◌, ap, if◌then◌else◌, arith}
 use Rattle.std.proofs.Math.Bool.{or-false}
-use Rattle.std.proofs.lemmas.Bool.{eqb-true, or_cases}
+use Rattle.std.proofs.lemmas.Bool.{eqb-true}
 use Rattle.pp_lexer.specs.Longest.{front_len}
 use Rattle.pp_lexer.specs.Numbers.{is_point, is_sign, is_decimal, digits}
 use Rattle.pp_lexer.specs.Spellings.{nothing, one, many}
 use Rattle.pp_lexer.specs.Surroundings.{begins_with}
 use Rattle.pp_lexer.specs.NumberValue.{float_exponent, float_tail, is_float_text}
 use Rattle.pp_lexer.specs.inner.NumberValue.{is_small_e, float_power}
-use Rattle.pp_lexer.proofs.words.LongestLemmas.{many_pass, many_is}
+use Rattle.pp_lexer.proofs.words.LongestLemmas.{many_is}
 use Rattle.pp_lexer.proofs.numbers.NumbersLemmas.{point_apart, small_e_apart}
 
 -- one digit or more, and what follows
 module _ (p : ℕ → Bool) (tail : List ℕ → Bool) (ends : tail [] ≡ true) (apart : (c : ℕ) (w : List ℕ) → p c ≡ true → tail (c ∷ w) ≡ false) where
   pub some_is : (w : List ℕ) → begins_with p w ≡ true → one p (many p tail) w ≡ tail (drop (front_len p w) w)
-  some_is w h = grind (arith, many_pass, many_is)
+  some_is w h = grind (arith, many_is)
 
 pub front_none : (p : ℕ → Bool) (w : List ℕ) → begins_with p w ≡ false → drop (front_len p w) w ≡ w
 front_none p [] h = refl
 front_none p (c ∷ w) h = let n : front_len p (c ∷ w) ≡ 0 = rw h refl in ap (λ k. drop k (c ∷ w)) n
 
 sign_power : (c : ℕ) (w : List ℕ) → is_sign c ≡ true → one is_decimal digits (c ∷ w) ≡ false
-sign_power c w h = grind (arith, or_cases, eqb-true)
+sign_power c w h = grind arith
 
 exponent_apart : (c : ℕ) (w : List ℕ) → is_decimal c ≡ true → float_exponent (c ∷ w) ≡ false
 exponent_apart c w h = rw (small_e_apart c h) refl
@@ -31,7 +31,7 @@ tail_apart c w h = rw (small_e_apart c h, point_apart c h) refl
 
 -- the set `one is_decimal digits` lacks the empty spelling, so `maybe` is opened here
 power_is : (t : List ℕ) → float_power t ≡ one is_decimal digits (drop (if begins_with is_sign t then 1 else 0) t)
-power_is t = grind (arith, sign_power, or-false)
+power_is t = grind arith
 
 mark_is : (t : List ℕ) → begins_with is_small_e t ≡ true → float_exponent t ≡ float_power (drop 1 t)
 mark_is [] h = cc

@@ -1,8 +1,8 @@
 -- A float's text is the longest number, if what stands after it goes on with no number.
-use Rattle.std.proofs.Common.{◌≡◌, ℕ, ◌+◌, List, [], ◌∷◌, ◌++◌, length, Bool, true, false, ◌&&◌, ◌==◌, suc, refl, sym, ◌∙◌, ap, arith, inl, inr}
+use Rattle.std.proofs.Common.{◌≡◌, ℕ, ◌+◌, List, [], ◌∷◌, ◌++◌, length, Bool, true, false, ◌&&◌, ◌==◌, suc, refl, ◌∙◌, ap, arith, inl, inr}
 use Rattle.std.proofs.lemmas.Bool.{and_parts, eqb-true, false≢true, or_cases, or_left, or_right, and_from}
 use Rattle.pp_lexer.specs.Longest.{longest}
-use Rattle.pp_lexer.specs.Numbers.{is_zero, is_x, is_point, is_e, is_sign, is_decimal, digits, exponent, fraction, decimal_tail, is_number, begins_number}
+use Rattle.pp_lexer.specs.Numbers.{is_zero, is_x, is_point, is_e, is_sign, is_decimal, digits, exponent, fraction, decimal_tail, is_number}
 use Rattle.pp_lexer.specs.NumberValue.{float_exponent, float_tail, is_float_text}
 use Rattle.pp_lexer.specs.inner.NumberValue.{float_power}
 use Rattle.pp_lexer.specs.inner.Numbers.{signed_digits}
@@ -33,7 +33,7 @@ one_many P (c ∷ w) h = or_right (P (c ∷ w)) (is_decimal c && many is_decimal
 
 -- an exponent or a point is no digit
 tail_no_digit : (c : ℕ) (w : List ℕ) → float_tail (c ∷ w) ≡ true → is_decimal c ≡ false
-tail_no_digit c w h = grind (arith, false≢true, tail_apart)
+tail_no_digit c w h = grind (arith, tail_apart)
 
 module _ (cs : List ℕ) (e : NoMore cs) where
   digits_full : (w : List ℕ) → digits w ≡ true → longest digits (w ++ cs) ≡ length w
@@ -73,10 +73,10 @@ module _ (cs : List ℕ) (e : NoMore cs) where
       ]
 
   point_full : (w : List ℕ) → one is_point (many is_decimal float_exponent) w ≡ true → longest decimal_tail (w ++ cs) ≡ length w
-  point_full w h = grind (arith, false≢true, and_parts, decimal_tail_len, fraction_full)
+  point_full w h = grind (arith, decimal_tail_len, fraction_full)
 
   tail_full : (w : List ℕ) → float_tail w ≡ true → longest decimal_tail (w ++ cs) ≡ length w
-  tail_full w h = grind (arith, or_cases, decimal_tail_none, exponent_begins, exponent_full, point_full)
+  tail_full w h = grind (arith, or_cases, decimal_tail_none, exponent_full, point_full)
 
   rest_full : (w : List ℕ) → many is_decimal float_tail w ≡ true → longest (many is_decimal decimal_tail) (w ++ cs) ≡ length w
   rest_full [] h = digits_len cs e.decimal [] refl ∙ ap (λ k. 0 + k) (decimal_tail_none cs e.point ∙ exponent_none cs e.mark)
@@ -117,4 +117,4 @@ module _ (cs : List ℕ) (e : NoMore cs) where
           ∙ rest_full (c ∷ w) (or_right (float_tail (c ∷ w)) (is_decimal c && many is_decimal float_tail w) (and_from (is_decimal c) _ d h))
 
   pub float_full : (w : List ℕ) → is_float_text w ≡ true → longest is_number (w ++ cs) ≡ length w
-  float_full w h = grind (arith, false≢true, or_cases, and_parts, digit_full, or_right, and_from, one_begins, point_number_len, fraction_full, one_many)
+  float_full w h = grind (arith, or_cases, and_parts, digit_full, or_right, and_from, one_begins, point_number_len, fraction_full, one_many)

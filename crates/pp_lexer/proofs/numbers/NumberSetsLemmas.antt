@@ -123,7 +123,7 @@ tail_part =
     (one_part is_point is_point (many is_decimal float_exponent) fraction (same is_point) fraction_part))
 
 digits_part : IsPart (one is_decimal (many is_decimal float_tail)) is_decimal_number
-digits_part = grind (arith, one_part, same, many_part, tail_part)
+digits_part = grind (arith, many_part, tail_part)
 
 point_part : IsPart (one is_point (one is_decimal (many is_decimal float_exponent))) is_point_number
 point_part =

@@ -12,10 +12,10 @@ use Rattle.pp_lexer.proofs.words.LongestLemmas.{within_same, longest_same, longe
 
 -- neither of the two characters is a digit
 pub either_apart : (a b radix : ℕ) → is_digit a radix ≡ false → is_digit b radix ≡ false → (c : ℕ) → is_digit c radix ≡ true → ((c == a) || (c == b)) ≡ false
-either_apart a b radix na nb c h = grind (arith, or_cases, eqb-true, false≢true)
+either_apart a b radix na nb c h = grind (arith, eqb-true, false≢true)
 
 one_apart : (a radix : ℕ) → is_digit a radix ≡ false → (c : ℕ) → is_digit c radix ≡ true → (c == a) ≡ false
-one_apart a radix na c h = grind (arith, eqb-true, false≢true)
+one_apart a radix na c h = grind arith
 
 pub small_e_apart : (c : ℕ) → is_decimal c ≡ true → (c == 101) ≡ false
 small_e_apart = one_apart 101 10 refl
@@ -30,7 +30,7 @@ pub hex_point_apart : (c : ℕ) → is_hex c ≡ true → is_point c ≡ false
 hex_point_apart = one_apart 46 16 refl
 
 zero_digit : (c : ℕ) → is_decimal c ≡ false → is_zero c ≡ false
-zero_digit c h = grind (arith, eqb-true, false≢true)
+zero_digit c h = grind arith
 
 pub exponent_apart : (c : ℕ) (w : List ℕ) → is_decimal c ≡ true → exponent (c ∷ w) ≡ false
 exponent_apart c w h = rw (e_apart c h) refl
@@ -42,7 +42,7 @@ pub decimal_tail_apart : (c : ℕ) (w : List ℕ) → is_decimal c ≡ true → 
 decimal_tail_apart c w h = rw (e_apart c h, point_apart c h) refl
 
 pub sign_apart : (c : ℕ) (w : List ℕ) → is_sign c ≡ true → digits (c ∷ w) ≡ false
-sign_apart c w h = grind (arith, or_cases, eqb-true)
+sign_apart c w h = grind arith
 
 pub fraction_len : (t : List ℕ) → longest fraction t ≡ front_len is_decimal t + longest exponent (drop (front_len is_decimal t) t)
 fraction_len = longest-many is_decimal exponent refl exponent_apart
@@ -95,7 +95,7 @@ pub hex_tail_none : (t : List ℕ) → begins_with is_point t ≡ false → long
 hex_tail_none = optional_none is_point fraction refl
 
 pub decimal_tail_len : (t : List ℕ) → begins_with is_point t ≡ true → longest decimal_tail t ≡ 1 + longest fraction (drop 1 t)
-decimal_tail_len t h = grind (arith, eqb-true, longest_step)
+decimal_tail_len t h = grind (arith, longest_step)
 
 pub decimal_tail_none : (t : List ℕ) → begins_with is_point t ≡ false → longest decimal_tail t ≡ longest exponent t
 unfolding longest
@@ -123,7 +123,7 @@ point_number_len (c ∷ d ∷ t) b h =
 
 decimal_digit_number : (c : ℕ) (w : List ℕ) → is_decimal c ≡ true → is_zero c ≡ false → is_number (c ∷ w) ≡ many is_decimal decimal_tail (c ∷ w)
 unfolding longest is_number
-decimal_digit_number c w d z = grind (arith, point_apart, or-false, many_pass, decimal_tail_apart)
+decimal_digit_number c w d z = grind (arith, point_apart, or-false, decimal_tail_apart)
 
 -- a digit other than `0`
 pub digit_number_len : (t : List ℕ) → begins_number t ≡ true → begins_with is_point t ≡ false → begins_with is_zero t ≡ false

@@ -1,20 +1,20 @@
 -- Floats at the front of a plain text.
-use Rattle.std.proofs.Common.{◌≡◌, ℕ, zero, suc, ◌+◌, ◌-◌, ◌<◌, ◌≤◌, List, [], ◌∷◌, ◌++◌, length, take, drop, get_or, Bool, true, false, not, ◌&&◌, ◌||◌, ◌==◌, append_assoc, length-append, add-zero, refl, sym, ◌∙◌, ap, arith, Ok, None, pos}
+use Rattle.std.proofs.Common.{◌≡◌, ℕ, suc, ◌+◌, ◌-◌, ◌<◌, ◌≤◌, List, [], ◌∷◌, ◌++◌, length, take, drop, get_or, Bool, true, false, not, ◌&&◌, ◌==◌, append_assoc, length-append, add-zero, refl, sym, ◌∙◌, ap, arith, Ok, None, pos}
 use Rattle.std.proofs.Math.Bool.{and-false}
 use Rattle.std.specs.List.{list_all, list_any}
 use Rattle.std.specs.Str.{IsUtf8}
 use Rattle.std.proofs.Math.Seq.{take-append_seam}
-use Rattle.std.proofs.lemmas.Bool.{and_parts, eqb-true, false≢true, or_left, or_right, and_from, not-true}
+use Rattle.std.proofs.lemmas.Bool.{and_parts, false≢true, or_left, or_right, and_from, not-true}
 use Rattle.std.proofs.lemmas.Bool.Decides.{nat_tests}
 use Rattle.std.proofs.lemmas.List.{drop-take, length-take-le, take-take}
 use Rattle.pp_lexer.specs.declared.lexer.item.TokenValue.TheVariants.{Float}
 use Rattle.pp_lexer.specs.inner.Fronts.{is_plain}
-use Rattle.pp_lexer.specs.Numbers.{is_zero, is_x, is_point, is_e, is_sign, is_decimal, digits, is_number, begins_number}
-use Rattle.pp_lexer.specs.NumberValue.{is_h, is_f, is_float, is_float_text, float_tail, float_exponent, width_refusal, number_outcome, float_outcome, begins_hex}
-use Rattle.pp_lexer.specs.inner.NumberValue.{float_power, is_small_e}
+use Rattle.pp_lexer.specs.Numbers.{is_zero, is_x, is_sign, is_decimal, digits, is_number, begins_number}
+use Rattle.pp_lexer.specs.NumberValue.{is_h, is_f, is_float, is_float_text, float_tail, float_exponent, width_refusal, float_outcome, begins_hex}
+use Rattle.pp_lexer.specs.inner.NumberValue.{float_power}
 use Rattle.pp_lexer.specs.inner.PlainWords.{continues_number, Stops, IsSuffixed, IsPlainWord}
 use Rattle.pp_lexer.specs.PlainItems.{without_suffix}
-use Rattle.pp_lexer.specs.Spellings.{nothing, one, many}
+use Rattle.pp_lexer.specs.Spellings.{one, many}
 use Rattle.pp_lexer.specs.Surroundings.{begins_with}
 use Rattle.pp_lexer.specs.Words.{is_blank, word_at}
 use Rattle.pp_lexer.proofs.characters.PlainFrontsLemmas.{split_at, take_seam}
@@ -30,7 +30,7 @@ use Rattle.pp_lexer.proofs.words.WordsLemmas.{no_number_here}
 -- A float's text, with what stands after it
 
 float_ends : (f : ℕ) (cs : List ℕ) → is_f f ≡ true → NoMore (f ∷ cs)
-float_ends f cs h = grind (arith, either_letter)
+float_ends f cs h = grind arith
 
 float_letter : (f : ℕ) (cs : List ℕ) → is_f f ≡ true → width_refusal is_h (f ∷ cs) ≡ None
 float_letter f cs h = either_letter (λ c. width_refusal is_h (c ∷ cs) ≡ None) f 102 70 h refl refl
@@ -67,10 +67,10 @@ decimal_no_blank : Implies is_decimal no_blank
 decimal_no_blank c h = grind (arith, nat_tests)
 
 float_some : (n : ℕ) (text : List ℕ) → is_float_text (take n text) ≡ true → 0 < n
-float_some n text h = grind (arith, false≢true)
+float_some n text h = grind arith
 
 first_passes : (p : ℕ → Bool) (n : ℕ) (text : List ℕ) → 0 < n → n ≤ length text → list_all p (take n text) ≡ true → p (get_or text 0 0) ≡ true
-first_passes p n text h k e = grind (arith, and_parts)
+first_passes p n text h k e = grind arith
 
 without_more : (c : ℕ) (w : List ℕ) → without_suffix (w ++ c ∷ []) ≡ w
 without_more c w =
@@ -119,17 +119,17 @@ module _ (text : List ℕ) (n : ℕ) (u : IsUtf8 text) (le : n ≤ length text) 
 -- Exponents by their bytes
 
 digits_some : (w : List ℕ) → list_all is_decimal w ≡ true → 0 < length w → one is_decimal digits w ≡ true
-digits_some w h k = grind (arith, and_parts, and_from, all_many)
+digits_some w h k = grind (arith, all_many)
 
 pub unsigned_power : (n : ℕ) (text : List ℕ) → n ≤ length text → list_all is_decimal (take n text) ≡ true → 0 < n → float_power (take n text) ≡ true
-unsigned_power n text le h some = grind (arith, or_left, digits_some, length-take-le)
+unsigned_power n text le h some = grind (arith, digits_some)
 
 take_after : (n c : ℕ) (text : List ℕ) → take (n + 1) (c ∷ text) ≡ c ∷ take n text
 take_after n c text = let k : n + 1 ≡ suc n = omega arith in ap (λ m. take m (c ∷ text)) k
 
 pub signed_power : (n : ℕ) (text : List ℕ) → 0 < length text → is_sign (get_or text 0 0) ≡ true → n ≤ length (drop 1 text)
     → list_all is_decimal (take n (drop 1 text)) ≡ true → 0 < n → float_power (take (n + 1) text) ≡ true
-signed_power n text h k e l u = grind (arith, take_after, or_right, and_from, digits_some, length-take-le)
+signed_power n text h k e l u = grind (arith, take_after, digits_some, length-take-le)
 
 pub exponent_text : (n : ℕ) (text : List ℕ) → 0 < length text → get_or text 0 0 ≡ 101 → float_power (take n (drop 1 text)) ≡ true
     → float_exponent (take (n + 1) text) ≡ true
@@ -193,7 +193,7 @@ no_hex (c ∷ a ∷ v) y d some =
     ap (λ t. is_zero c && t) no ∙ and-false (is_zero c)
 
 whole_float : (v x : List ℕ) → list_all is_decimal v ≡ true → 0 < length v → float_exponent x ≡ true → 0 < length x → is_float (v ++ x) ≡ true
-whole_float v x h k e l = grind (arith, eqb-true, and_parts, any_there, no_hex)
+whole_float v x h k e l = grind (arith, any_there, no_hex)
 
 -- digits, and an exponent
 pub whole_front : (text : List ℕ) (n k : ℕ) → 0 < n → n ≤ length text → list_all is_decimal (take n text) ≡ true → 0 < k → k ≤ length (drop n text)

@@ -1,21 +1,21 @@
 -- Hexadecimal integers at the front of a plain text.
-use Rattle.std.proofs.Common.{◌≡◌, ℕ, suc, ◌+◌, ◌*◌, ◌^◌, ◌<◌, ◌≤◌, List, [], ◌∷◌, ◌++◌, length, take, drop, get_or, Bool, true, false, append_assoc, add-zero, refl, sym, ◌∙◌, ap, arith, Ok, Some, None, pos, nat_lt, if◌then◌else◌}
+use Rattle.std.proofs.Common.{◌≡◌, ℕ, ◌+◌, ◌*◌, ◌^◌, ◌<◌, ◌≤◌, List, [], ◌∷◌, ◌++◌, length, take, drop, get_or, Bool, true, false, append_assoc, add-zero, refl, sym, ◌∙◌, ap, arith, Ok, Some, pos}
 use Rattle.std.specs.List.{list_all, list_any}
 use Rattle.std.specs.Char.{digit_value}
 use Rattle.std.specs.Str.{IsUtf8}
 use Rattle.std.specs.Str.Parse.{digits_value_after}
 use Rattle.std.proofs.lemmas.Int.Digits.{digits_value_more}
-use Rattle.std.proofs.lemmas.Bool.{and_parts, lt-ltb, and_from}
+use Rattle.std.proofs.lemmas.Bool.{and_parts, and_from}
 use Rattle.std.proofs.lemmas.Bool.Decides.{nat_tests}
 use Rattle.std.proofs.lemmas.List.{length-take-le}
 use Rattle.pp_lexer.specs.declared.lexer.item.TokenValue.TheVariants.{Integer}
 use Rattle.pp_lexer.specs.inner.Fronts.{is_plain}
 use Rattle.pp_lexer.specs.inner.Numbers.{hex_tail}
-use Rattle.pp_lexer.specs.inner.NumberValue.{is_float_mark, integer_of}
+use Rattle.pp_lexer.specs.inner.NumberValue.{is_float_mark}
 use Rattle.pp_lexer.specs.inner.PlainWords.{continues_number, Stops, IsSuffixed, BeginsHex, IsPlainWord}
 use Rattle.pp_lexer.specs.Longest.{longest, front_len}
 use Rattle.pp_lexer.specs.Numbers.{is_x, is_hex, is_point, is_number}
-use Rattle.pp_lexer.specs.NumberValue.{is_u, is_s, begins_hex, begins_octal, whole, integer_value, integer_outcome, number_outcome}
+use Rattle.pp_lexer.specs.NumberValue.{is_u, is_s, begins_hex, whole, integer_value, integer_outcome, number_outcome}
 use Rattle.pp_lexer.specs.Spellings.{many}
 use Rattle.pp_lexer.specs.Surroundings.{begins_with}
 use Rattle.pp_lexer.specs.Words.{is_blank, word_at}
@@ -70,7 +70,7 @@ marks true x w e l h = either_letter (λ c. list_any (is_float_mark true) (48 �
 
 -- the digits are those of the base
 hex_whole : (n : ℕ) (w : List ℕ) → n < 2 ^ 64 → 0 < length w → list_all is_hex w ≡ true → digits_value_after 16 0 w ≡ n → whole 16 w ≡ Some n
-hex_whole n w h k e l = grind (arith, lt-ltb, and_from)
+hex_whole n w h k e l = grind arith
 
 hex_integer : (n : ℕ) (u w : List ℕ) (signed : Bool) → begins_hex u ≡ true → drop 2 u ≡ w → whole 16 w ≡ Some n
     → integer_value signed u ≡ Ok (Integer (record { value = n; signed = signed; width = pos 32 }))

@@ -1,20 +1,17 @@
 -- Decimal integers at the front of a plain text.
-use Rattle.std.proofs.Common.{◌≡◌, ℕ, zero, suc, ◌+◌, ◌-◌, ◌*◌, ◌^◌, ◌<◌, ◌≤◌, List, [], ◌∷◌, ◌++◌, length, take, drop, get_or, Bool, true, false, ◌&&◌, ◌||◌, ◌==◌, append_assoc, length-drop, add-one, add-zero, refl, sym, ◌∙◌, ap, subst, arith, inl, inr, Ok, None, pos}
+use Rattle.std.proofs.Common.{◌≡◌, ℕ, zero, suc, ◌+◌, ◌-◌, ◌*◌, ◌^◌, ◌<◌, ◌≤◌, List, [], ◌∷◌, ◌++◌, length, take, drop, get_or, Bool, true, false, ◌&&◌, ◌||◌, ◌==◌, append_assoc, length-drop, add-one, add-zero, refl, sym, ◌∙◌, ap, arith, Ok, None, pos}
 use Rattle.std.specs.List.{list_all}
 use Rattle.std.specs.Str.{IsUtf8}
 use Rattle.std.specs.Str.Parse.{digits_value_after}
 use Rattle.std.specs.Char.{digit_value}
-use Rattle.std.specs.Int.{IsInRange}
 use Rattle.std.proofs.lemmas.Int.Digits.{digits_value_more}
-use Rattle.std.proofs.lemmas.Str.{digit_value_digit}
-use Rattle.std.proofs.lemmas.Str.Parse.{digit_from_value}
-use Rattle.std.proofs.lemmas.Bool.{and_parts, eqb-true, or_cases, and_from, ltb-true}
+use Rattle.std.proofs.lemmas.Bool.{and_parts, eqb-true, and_from}
 use Rattle.std.proofs.lemmas.Bool.Decides.{nat_tests}
 use Rattle.std.proofs.lemmas.List.{length-take-le, drop_at}
 use Rattle.pp_lexer.specs.declared.lexer.item.TokenValue.TheVariants.{Integer}
 use Rattle.pp_lexer.specs.inner.Fronts.{is_plain}
-use Rattle.pp_lexer.specs.Longest.{longest, front_len}
-use Rattle.pp_lexer.specs.Numbers.{is_zero, is_x, is_point, is_e, is_decimal, decimal_tail, exponent, fraction, is_number, begins_number}
+use Rattle.pp_lexer.specs.Longest.{longest}
+use Rattle.pp_lexer.specs.Numbers.{is_zero, is_x, is_point, is_e, is_decimal, decimal_tail, fraction, is_number, begins_number}
 use Rattle.pp_lexer.specs.NumberValue.{is_l, is_h, is_s, is_f, is_u, begins_octal, width_refusal, number_outcome, number_at}
 use Rattle.pp_lexer.specs.inner.PlainWords.{continues_number, Stops, IsSuffixed, IsPlainWord}
 use Rattle.pp_lexer.specs.Spellings.{many}
@@ -37,28 +34,28 @@ no_decimal : (c : ℕ) → continues_number c ≡ false → is_decimal c ≡ fal
 no_decimal c h = grind (arith, nat_tests)
 
 pub no_point : (c : ℕ) → continues_number c ≡ false → is_point c ≡ false
-no_point c h = grind (arith, nat_tests)
+no_point c h = grind arith
 
 no_e : (c : ℕ) → continues_number c ≡ false → is_e c ≡ false
-no_e c h = grind (arith, nat_tests)
+no_e c h = grind arith
 
 no_x : (c : ℕ) → continues_number c ≡ false → is_x c ≡ false
-no_x c h = grind (arith, nat_tests)
+no_x c h = grind arith
 
 no_l : (c : ℕ) → continues_number c ≡ false → is_l c ≡ false
-no_l c h = grind (arith, nat_tests)
+no_l c h = grind arith
 
 pub no_h : (c : ℕ) → continues_number c ≡ false → is_h c ≡ false
-no_h c h = grind (arith, nat_tests)
+no_h c h = grind arith
 
 pub no_s : (c : ℕ) → continues_number c ≡ false → is_s c ≡ false
-no_s c h = grind (arith, nat_tests)
+no_s c h = grind arith
 
 pub no_f : (c : ℕ) → continues_number c ≡ false → is_f c ≡ false
-no_f c h = grind (arith, nat_tests)
+no_f c h = grind arith
 
 pub no_u : (c : ℕ) → continues_number c ≡ false → is_u c ≡ false
-no_u c h = grind (arith, nat_tests)
+no_u c h = grind arith
 
 -- how long a number is, by its digits
 
@@ -70,7 +67,7 @@ module _ (cs : List ℕ) (h : begins_with is_decimal cs ≡ false) where
   digits_len w d = grind (arith, front_len-append, decimal_len, drop_front)
 
   pub fraction_of : (w : List ℕ) → list_all is_decimal w ≡ true → begins_with is_e cs ≡ false → longest fraction (w ++ cs) ≡ length w
-  fraction_of w d e = grind (arith, front_len-append, fraction_len, drop_front, exponent_none, add-zero)
+  fraction_of w d e = grind (arith, front_len-append, fraction_len, drop_front, exponent_none)
 
   no_x_after : (w : List ℕ) → list_all is_decimal w ≡ true → begins_with is_x cs ≡ false → begins_with is_x (w ++ cs) ≡ false
   no_x_after [] d x = x
@@ -112,14 +109,14 @@ digits_word cs w h k e = grind (arith, and_parts, decimal_tail_none, exponent_no
 -- a suffix letter, each also as a capital
 
 pub either_letter : (P : ℕ → Type 0) (c a b : ℕ) → ((c == a) || (c == b)) ≡ true → P a → P b → P c
-either_letter P c a b h x y = grind (arith, or_cases, eqb-true)
+either_letter P c a b h x y = grind arith
 
 unsigned_ends : (u : ℕ) (cs : List ℕ) → is_u u ≡ true → NoMore (u ∷ cs)
-unsigned_ends u cs h = grind (arith, either_letter)
+unsigned_ends u cs h = grind arith
 
 module _ (cs : List ℕ) (h : begins_with continues_number cs ≡ false) where
   pub ended : NoMore cs
-  ended = grind (arith, ends_class, no_decimal, no_x, no_point, no_e)
+  ended = grind (arith, no_decimal, no_x, no_point, no_e)
 
   pub no_refusal : (is_short : ℕ → Bool) → ((c : ℕ) → continues_number c ≡ false → is_short c ≡ false) → width_refusal is_short cs ≡ None
   no_refusal is_short f = rw (ends_class is_l no_l cs h, ends_class is_short f cs h) refl
@@ -150,7 +147,7 @@ length_whole n xs = take_whole (length xs - n) (drop n xs) (omega (arith, length
 
 -- the value of one digit more
 digit_is : (c : ℕ) → is_decimal c ≡ true → (48 ≤ c) × (digit_value c ≡ c - 48)
-digit_is c h = grind (arith, digit_from_value, ltb-true, digit_value_digit)
+digit_is c h = grind arith
 
 pub all_at : (p : ℕ → Bool) (n : ℕ) (xs : List ℕ) → n < length xs → list_all p xs ≡ true → p (get_or xs n 0) ≡ true
 all_at p n [] l h = absurd (omega arith)
@@ -172,7 +169,7 @@ decimal_no_blank : (c : ℕ) → is_decimal c ≡ true → is_blank c ≡ false
 decimal_no_blank c h = grind (arith, nat_tests)
 
 first_decimal : (n : ℕ) (text : List ℕ) → 0 < n → n ≤ length text → list_all is_decimal (take n text) ≡ true → is_decimal (get_or text 0 0) ≡ true
-first_decimal n text h k e = grind (arith, and_parts)
+first_decimal n text h k e = grind arith
 
 -- one digit, or no zero first
 no_octal : (n : ℕ) (text : List ℕ) → n ≤ length text → (get_or text 0 0 ≡ 48 → n ≤ 1) → begins_octal (take n text) ≡ false

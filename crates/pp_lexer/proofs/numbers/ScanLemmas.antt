@@ -1,14 +1,13 @@
 -- What one part of the scanner takes, and then the next.
-use Rattle.std.proofs.Common.{◌≡◌, ℕ, ◌+◌, ◌<◌, length, List, [], ◌∷◌, drop, Bool, true, false, sym, ◌∙◌, ap, arith, if◌then◌else◌, Some, None, option_map}
+use Rattle.std.proofs.Common.{◌≡◌, ℕ, ◌+◌, ◌<◌, length, List, drop, Bool, true, false, sym, ◌∙◌, ap, arith, if◌then◌else◌, Some, None, option_map}
 use Rattle.pp_lexer.specs.Longest.{longest, front_len}
 use Rattle.pp_lexer.specs.Numbers.{is_sign, digits}
 use Rattle.pp_lexer.specs.inner.Numbers.{signed_digits}
-use Rattle.pp_lexer.specs.Reading.{letters, first_of, first_char, advanced}
-use Rattle.pp_lexer.specs.declared.lexer.char_iterator.Spot.{Spot}
+use Rattle.pp_lexer.specs.Reading.{first_char}
 use Rattle.pp_lexer.specs.inner.Scan.{Scan, upcoming, further, Takes}
 use Rattle.pp_lexer.specs.Spellings.{nothing, many}
 use Rattle.pp_lexer.specs.Surroundings.{begins_with}
-use Rattle.pp_lexer.proofs.characters.AdvancedLemmas.{letters-advanced, advanced-advanced, advanced-zero, front_advanced, front_stopped, front_ended}
+use Rattle.pp_lexer.proofs.characters.AdvancedLemmas.{letters-advanced, advanced-advanced, advanced-zero, front_ended}
 use Rattle.pp_lexer.proofs.words.LongestLemmas.{longest_all}
 use Rattle.pp_lexer.proofs.numbers.NumbersLemmas.{signed_len}
 
@@ -57,7 +56,7 @@ signed_after b t e = signed_len t ∙ ap (λ x. (if x then 1 else 0) + longest d
 -- a digit is taken: where the digits end stays the same
 pub digit_taken : (p : ℕ → Bool) (c : ℕ) (s s1 : Scan) → Some c ≡ option_map (λ x. x.c) (first_char s.reading) → p c ≡ true → s1 ≡ further 1 s
     → further (front_len p (upcoming s1)) s1 ≡ further (front_len p (upcoming s)) s
-digit_taken p c s s1 f h m = grind (arith, front_advanced, upcoming-further, further-further)
+digit_taken p c s s1 f h m = grind (arith, upcoming-further, further-further)
 
 pub no_more : (p : ℕ → Bool) (s : Scan) → None ≡ option_map (λ x. x.c) (first_char s.reading) → further (front_len p (upcoming s)) s ≡ s
 no_more p s f = ap (λ k. further k s) (front_ended p s.reading f) ∙ further-zero s

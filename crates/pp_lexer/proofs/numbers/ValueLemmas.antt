@@ -1,9 +1,7 @@
 -- The digits of a whole number, one by one.
-use Rattle.std.proofs.Common.{◌≡◌, ℕ, ◌+◌, ◌*◌, ◌^◌, ◌<◌, ◌≤◌, List, [], ◌∷◌, true, false, ◌&&◌, nat_lt, refl, sym, ◌∙◌, ap, arith, Some, None, if◌then◌else◌}
+use Rattle.std.proofs.Common.{◌≡◌, ℕ, ◌+◌, ◌*◌, ◌^◌, ◌≤◌, List, [], ◌∷◌, false, arith, Some, None}
 use Rattle.std.proofs.Math.Nat.{mul-le-mul_left}
-use Rattle.std.proofs.lemmas.Bool.{lt-ltb, le-ltb, and_right}
-use Rattle.std.specs.List.{list_all}
-use Rattle.std.specs.Char.{is_digit, digit_value}
+use Rattle.std.specs.Char.{digit_value}
 use Rattle.std.specs.Str.Parse.{digits_value_after}
 use Rattle.pp_lexer.specs.Spellings.{nothing, next_of}
 use Rattle.pp_lexer.specs.NumberValue.{whole}
@@ -17,7 +15,7 @@ grows base n (c ∷ cs) h =
     omega (arith, i, m)
 
 pub whole_over : (base n c : ℕ) (cs : List ℕ) → 2 ≤ base → 2 ^ 64 ≤ n * base + digit_value c → whole_after base n (c ∷ cs) ≡ None
-whole_over base n c cs h over = grind (arith, grows, le-ltb, and_right)
+whole_over base n c cs h over = grind (arith, grows)
 
 -- no value, since the number grows too large at this digit
 pub whole_too_large : (base v c : ℕ) (text word : List ℕ) → 2 ≤ base → Some c ≡ next_of text → whole_after base v text ≡ whole_after base 0 word

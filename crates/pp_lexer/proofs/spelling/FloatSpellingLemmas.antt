@@ -1,13 +1,12 @@
 -- A float's text is read as itself.
-use Rattle.std.proofs.Common.{◌≡◌, ℕ, List, [], ◌∷◌, ◌++◌, length, Bool, true, not, ◌&&◌, ◌==◌, add-zero, refl, sym, ◌∙◌, ap, inl, inr, map, filter, Ok, Err, None, pos, if◌then◌else◌, arith}
+use Rattle.std.proofs.Common.{◌≡◌, ℕ, List, [], ◌∷◌, ◌++◌, length, Bool, true, not, ◌&&◌, ◌==◌, refl, ◌∙◌, ap, map, filter, Ok, None, pos, if◌then◌else◌, arith}
 use Rattle.std.specs.List.{list_all}
-use Rattle.std.proofs.lemmas.Bool.{and_parts, or_cases, eqb-true, eq-eqb, and_from}
+use Rattle.std.proofs.lemmas.Bool.{and_parts, eqb-true, eq-eqb, and_from}
 use Rattle.pp_lexer.specs.declared.token.Float.{Float as FloatLiteral}
-use Rattle.pp_lexer.specs.declared.token.PreprocessorError.TheVariants.{FloatParsingError}
 use Rattle.pp_lexer.specs.declared.lexer.item.TokenValue.TheVariants.{Float}
-use Rattle.pp_lexer.specs.Numbers.{is_x, is_point, is_sign, is_decimal}
-use Rattle.pp_lexer.specs.NumberValue.{is_l, is_h, is_f, float_text, is_float_text, float_value, float_outcome, is_float, number_outcome, width_refusal}
-use Rattle.pp_lexer.specs.inner.NumberValue.{is_small_e, small_e}
+use Rattle.pp_lexer.specs.Numbers.{is_x, is_decimal}
+use Rattle.pp_lexer.specs.NumberValue.{is_l, is_h, float_text, is_float_text, float_value, is_float, width_refusal}
+use Rattle.pp_lexer.specs.inner.NumberValue.{small_e}
 use Rattle.pp_lexer.specs.Words.{word_at}
 use Rattle.pp_lexer.proofs.numbers.NumbersLemmas.{either_apart, e_apart}
 use Rattle.pp_lexer.proofs.numbers.NumberSetsLemmas.{made_float_text, float_text_number}
@@ -43,7 +42,7 @@ no_refusal cs b = rw (break_begins is_l refl cs b, break_begins is_h refl cs b) 
 
 float_word : (w cs : List ℕ) → is_float_text w ≡ true → is_float w ≡ true → IsBreak cs
     → word_at (w ++ cs) ≡ record { value = Ok (Float (record { text = w; width = pos 32 })); taken = length w }
-float_word w cs h f b = grind (arith, spelled_number, float_text_number, number_ends, no_refusal, value_same, break_begins, add-zero)
+float_word w cs h f b = grind (arith, spelled_number, float_text_number, number_ends, no_refusal, value_same, break_begins)
 
 -- a float is read as itself
 pub spelled_float : (f : FloatLiteral) (cs : List ℕ) → is_float_text f.text ≡ true → is_float f.text ≡ true → f.width ≡ pos 32 → IsBreak cs

@@ -16,7 +16,6 @@ use Rattle.pp_lexer.specs.declared.token.Punct.{Punct as Punctuator}
 use Rattle.pp_lexer.specs.declared.token.Punct.TheVariants.{AddAssign}
 use Rattle.pp_lexer.specs.declared.token.Token.{Token}
 use Rattle.pp_lexer.specs.declared.token.TokenValue.{TokenValue}
-use Rattle.pp_lexer.specs.declared.token.TokenValue.TheVariants.{Ident, Integer, Float, Punct, Version, Extension, Pragma}
 use Rattle.pp_lexer.proofs.values.PreorderLemmas.{none_kept}
 
 -- a punctuator is ASCII, and its bytes are its characters
@@ -68,7 +67,7 @@ bytes_of_words (t ∷ ts) = grind (arith, encodes-append, spaced, bytes_of_words
 -- a directive's word, and each of its tokens after a space
 pub directive_bytes : (word : List ℕ) (ts : List Token) (entries : List Entry) → IsUtf8 word → preorder ts ≡ entries
     → word ++ flat_map token_bytes ts ≡ encode_utf8_all (with_tokens (chars word) entries)
-directive_bytes word ts entries u e = grind (arith, encodes-append, filter, encodes-chars, words_of_entries, bytes_of_words)
+directive_bytes word ts entries u e = grind (arith, encodes-append, encodes-chars, words_of_entries, bytes_of_words)
 
 -- one more of the tokens after a space
 pub one_more : (word : List ℕ) (ts : List Token) (i : ℕ) (t : Token) → i < length ts → t ≡ get_or ts i t

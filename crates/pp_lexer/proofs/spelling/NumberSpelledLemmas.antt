@@ -1,23 +1,18 @@
 -- What the lexer gives of a number can be spelled.
-use Rattle.std.proofs.Common.{◌≡◌, ℕ, ◌^◌, ◌<◌, List, [], ◌∷◌, drop, Bool, true, false, not, ◌&&◌, ◌==◌, nat_lt, refl, ◌∙◌, ap, arith, inl, inr, pos, Ok, Err, Option, Some, None, if◌then◌else◌}
-use Rattle.std.specs.Char.{is_digit}
+use Rattle.std.proofs.Common.{◌≡◌, ℕ, ◌^◌, ◌<◌, List, [], ◌∷◌, drop, Bool, true, false, not, refl, ◌∙◌, ap, arith, inl, inr, Option, Some, None, if◌then◌else◌}
 use Rattle.std.specs.List.{list_all, list_any}
-use Rattle.std.specs.Str.Parse.{digits_value_after}
-use Rattle.std.proofs.lemmas.Bool.{and_parts, and_right, or_cases, or_right, eqb-true, ltb-true, not-true}
+use Rattle.std.proofs.lemmas.Bool.{or_cases, or_right}
 use Rattle.pp_lexer.specs.declared.token.PreprocessorError.{PreprocessorError}
-use Rattle.pp_lexer.specs.declared.token.PreprocessorError.TheVariants.{FloatParsingError}
-use Rattle.pp_lexer.specs.declared.lexer.item.TokenValue.TheVariants.{Float}
-use Rattle.pp_lexer.specs.Numbers.{is_zero, is_x, is_point, is_e}
-use Rattle.pp_lexer.specs.NumberValue.{is_h, is_s, is_u, begins_hex, is_float, float_text, is_float_text, float_value, float_outcome, whole, base_of, digits_of, integer_value, integer_outcome, width_refusal, number_outcome}
+use Rattle.pp_lexer.specs.Numbers.{is_x}
+use Rattle.pp_lexer.specs.NumberValue.{is_h, is_s, is_u, begins_hex, is_float, float_text, float_value, float_outcome, whole, base_of, digits_of, integer_value, integer_outcome, width_refusal, number_outcome}
 use Rattle.pp_lexer.specs.inner.NumberValue.{is_float_mark, integer_of, unsigned_suffix_len, unless_refused, small_e}
 use Rattle.pp_lexer.specs.Outcome.{Answer}
 use Rattle.pp_lexer.specs.Respelling.{IsSpelled}
-use Rattle.pp_lexer.specs.Spellings.{after_first}
 use Rattle.pp_lexer.specs.Surroundings.{begins_with}
 
 -- a number that is read is below 2^64
 whole_small : (base : ℕ) (ds : List ℕ) (n : ℕ) → whole base ds ≡ Some n → n < 2 ^ 64
-whole_small base ds n h = grind (arith, ltb-true)
+whole_small base ds n h = grind arith
 
 integer_spelled : (signed : Bool) (o : Option ℕ) → ((n : ℕ) → o ≡ Some n → n < 2 ^ 64) → IsSpelled (integer_of signed o)
 integer_spelled signed None h = tt
@@ -34,10 +29,10 @@ no_x_kept [] = refl
 no_x_kept (c ∷ w) = grind (arith, no_x_kept w)
 
 no_hex : (w : List ℕ) → list_all (λ c. not (is_x c)) w ≡ true → begins_hex w ≡ false
-no_hex w h = grind (arith, and_right, and_parts, not-true)
+no_hex w h = grind arith
 
 marked : (hex : Bool) (c : ℕ) (w : List ℕ) → is_float_mark hex c ≡ true → list_any (is_float_mark false) (float_text (c ∷ w)) ≡ true
-marked hex c w h = grind (arith, or_cases, eqb-true, and_parts)
+marked hex c w h = grind arith
 
 mark_kept : (hex : Bool) (w : List ℕ) → list_any (is_float_mark hex) w ≡ true → list_any (is_float_mark false) (float_text w) ≡ true
 mark_kept hex [] h = cc

@@ -1,19 +1,18 @@
 -- The spellings of values, with spaces between them, are read back as these values.
-use Rattle.std.proofs.Common.{◌≡◌, ℕ, zero, suc, List, [], ◌∷◌, ◌++◌, map, length, drop, Bool, true, false, ◌&&◌, ◌||◌, append-nil, refl, sym, ◌∙◌, ap, Ok, Err, Result, if◌then◌else◌, arith}
+use Rattle.std.proofs.Common.{◌≡◌, ℕ, zero, suc, List, [], ◌∷◌, ◌++◌, map, length, drop, false, append-nil, refl, sym, ◌∙◌, ap, Ok, Result, if◌then◌else◌, arith}
 use Rattle.std.specs.Prelude.{All}
 use Rattle.std.specs.Str.{encode_utf8_all}
 use Rattle.std.proofs.lemmas.List.{drop_at}
 use Rattle.std.proofs.lemmas.List.Elements.{All-head, All-tail}
 use Rattle.std.proofs.lemmas.Simd.{map-map}
 use Rattle.pp_lexer.specs.declared.token.PreprocessorError.{PreprocessorError}
-use Rattle.pp_lexer.specs.declared.token.PreprocessorError.TheVariants.{UnexpectedCharacter}
 use Rattle.pp_lexer.specs.declared.token.TokenValue.{TokenValue}
-use Rattle.pp_lexer.specs.declared.token.TokenValue.TheVariants.{Ident, Integer, Float, Punct, Version, Extension, Pragma}
+use Rattle.pp_lexer.specs.declared.token.TokenValue.TheVariants.{Ident}
 use Rattle.pp_lexer.specs.declared.lexer.item.TokenValue.{TokenValue as LexerTokenValue}
 use Rattle.pp_lexer.specs.declared.lexer.item.TokenValue.TheVariants.{NewLine}
 use Rattle.pp_lexer.specs.declared.lexer.char_iterator.Spot.{Spot}
 use Rattle.pp_lexer.specs.inner.PlainWords.{is_newline_value}
-use Rattle.pp_lexer.specs.Items.{Item, is_newline, is_blank_or_comment, start_of_line, item_at, items_of}
+use Rattle.pp_lexer.specs.Items.{Item, item_at, items_of}
 use Rattle.pp_lexer.specs.Lexed.{Seen, seen}
 use Rattle.pp_lexer.specs.Outcome.{Outcome}
 use Rattle.pp_lexer.specs.Reading.{letters}
@@ -22,7 +21,7 @@ use Rattle.pp_lexer.specs.Segments.{Kind, blank, comment, item, Segment, kind_of
 use Rattle.pp_lexer.specs.inner.Segments.{is_mark}
 use Rattle.pp_lexer.specs.Spelling.{spelling, spelled_text}
 use Rattle.pp_lexer.specs.Spots.{spots_of}
-use Rattle.pp_lexer.specs.Words.{is_blank, is_word, word_at}
+use Rattle.pp_lexer.specs.Words.{is_blank, word_at}
 use Rattle.pp_lexer.proofs.numbers.DecimalLemmas.{spelled_integer}
 use Rattle.pp_lexer.proofs.spelling.FloatSpellingLemmas.{spelled_float}
 use Rattle.pp_lexer.proofs.items.ItemsLemmas.{items_from, items_at_start}
@@ -72,12 +71,12 @@ module _ (before : List Segment) (s : Spot) (ss : List Spot) where
   items_first : (k : Kind) → kind_of s ss ≡ k → items_from before (segments (s ∷ ss)) ≡ item_at before (segment_at s ss) k ++ items_from
       (segment_at s ss ∷ before) (segments (drop (taken_by s ss) (s ∷ ss)))
   unfolding items_from
-  items_first k e = grind (arith, items_from, segments_first)
+  items_first k e = grind (arith, segments_first)
 
 last_newline : (g : Segment) (before : List Segment) (v : LexerTokenValue) → g.kind ≡ item (Ok v) → is_newline_value v ≡ false
     → values_in (items_from (g ∷ before) (segments [])) ≡ Ok NewLine ∷ []
 unfolding items_from
-last_newline g before v e n = grind (arith, items_from, segments_none)
+last_newline g before v e n = grind (arith, segments_none)
 
 no_newline : (v : TokenValue) → is_newline_value (lexer_value v) ≡ false
 no_newline (Ident name) = refl

@@ -1,11 +1,11 @@
 -- A spelled text is made of characters of Unicode, without line breaks, backslashes and comments.
-use Rattle.std.proofs.Common.{◌≡◌, ℕ, ◌<◌, ◌^◌, List, [], ◌∷◌, ◌++◌, Bool, true, false, not, ◌&&◌, ◌||◌, ◌==◌, refl, ap, arith, inl, inr, codes, if◌then◌else◌}
+use Rattle.std.proofs.Common.{◌≡◌, ℕ, ◌<◌, ◌^◌, List, [], ◌∷◌, ◌++◌, Bool, true, false, not, ◌&&◌, ◌||◌, ◌==◌, refl, arith, codes, if◌then◌else◌}
 use Rattle.std.specs.Prelude.{All}
 use Rattle.std.specs.Fmt.{decimal}
 use Rattle.std.specs.List.{list_all}
 use Rattle.std.specs.Str.{all_scalars}
 use Rattle.std.proofs.Math.Utf8.{scalar, low_scalar}
-use Rattle.std.proofs.lemmas.Bool.{and_parts, or_cases, eqb-true, and_from, not-true}
+use Rattle.std.proofs.lemmas.Bool.{and_parts, and_from, not-true}
 use Rattle.std.proofs.lemmas.List.Elements.{All-head, All-tail}
 use Rattle.unicode_ident.specs.Ident.{is_xid_continue}
 use Rattle.unicode_ident.proofs.IdentLemmas.{is_xid_continue-ascii}
@@ -16,9 +16,8 @@ use Rattle.pp_lexer.specs.declared.token.TokenValue.{TokenValue}
 use Rattle.pp_lexer.specs.declared.token.TokenValue.TheVariants.{Ident, Integer, Float, Punct, Version, Extension, Pragma}
 use Rattle.pp_lexer.specs.Identifiers.{is_start, is_identifier}
 use Rattle.pp_lexer.specs.Lines.{is_line_break}
-use Rattle.pp_lexer.specs.Numbers.{is_point, is_sign, is_decimal}
+use Rattle.pp_lexer.specs.Numbers.{is_decimal}
 use Rattle.pp_lexer.specs.NumberValue.{is_float_text}
-use Rattle.pp_lexer.specs.inner.NumberValue.{is_small_e}
 use Rattle.pp_lexer.specs.Punctuators.{punctuator}
 use Rattle.pp_lexer.specs.Respelling.{IsSpellable}
 use Rattle.pp_lexer.specs.Spelling.{integer_literal, spelling, spelled_text}
@@ -27,7 +26,7 @@ use Rattle.pp_lexer.specs.Surroundings.{begins_with}
 use Rattle.pp_lexer.proofs.numbers.DecimalLemmas.{decimal_text}
 use Rattle.pp_lexer.proofs.numbers.NumberSetsLemmas.{made_float_text}
 use Rattle.pp_lexer.proofs.characters.PlainPhasesLemmas.{is_second, IsPlain, plain-space}
-use Rattle.pp_lexer.proofs.words.SetsLemmas.{Implies, IsMadeOf, is_other, missing, made_nothing, made_one, made_many}
+use Rattle.pp_lexer.proofs.words.SetsLemmas.{Implies, IsMadeOf, is_other, made_nothing, made_one, made_many}
 use Rattle.pp_lexer.proofs.words.WordsLemmas.{digit_low, ascii_no_start}
 
 -- a character that begins no line break, continuation or comment
@@ -35,7 +34,7 @@ abbrev is_calm : ℕ → Bool
 is_calm c = is_other 10 c && (is_other 13 c && (is_other 92 c && is_other 47 c))
 
 calm_class : (p : ℕ → Bool) → p 10 ≡ false → p 13 ≡ false → p 92 ≡ false → p 47 ≡ false → Implies p is_calm
-calm_class p a b d e c h = grind (arith, and_from, is_other, missing)
+calm_class p a b d e c h = grind arith
 
 calm_char : (a b d e other : Bool) → (not a && (not b && (not d && not e))) ≡ true → ((a || b) ≡ false) × (d ≡ false) × ((e && other) ≡ false)
 calm_char a b d e other h = grind arith
@@ -128,7 +127,7 @@ pub record IsClean (w : List ℕ) : Type 0 where
   pub scalars : all_scalars w ≡ true
 
 safe_clean : (w : List ℕ) → list_all is_safe w ≡ true → IsClean w
-safe_clean w h = grind (arith, calm_plain, all_implied, and_parts, scalar, scalars_all)
+safe_clean w h = grind (arith, calm_plain, all_implied, scalar, scalars_all)
 
 spelling_clean : (v : TokenValue) → IsSpellable v → IsClean (spelling v)
 spelling_clean (Ident name) h = record { plain = calm_plain name (identifier_calm name h.0); scalars = h.1 }

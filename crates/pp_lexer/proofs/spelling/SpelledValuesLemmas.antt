@@ -1,27 +1,21 @@
 -- What the lexer gives of a source can be spelled.
-use Rattle.std.proofs.Common.{◌≡◌, ℕ, zero, suc, List, [], ◌∷◌, ◌++◌, length, take, drop, Bool, true, false, refl, sym, ◌∙◌, ap, subst, Ok, Err, Option, Some, None, option_map, if◌then◌else◌, arith}
+use Rattle.std.proofs.Common.{◌≡◌, ℕ, zero, suc, List, [], ◌∷◌, ◌++◌, length, take, drop, true, refl, sym, ◌∙◌, ap, subst, arith}
 use Rattle.std.specs.Prelude.{All, ⊤}
 use Rattle.std.specs.List.{list_all}
 use Rattle.std.specs.Str.{IsUtf8, all_scalars}
 use Rattle.std.proofs.Math.Utf8.{scalar}
 use Rattle.std.proofs.lemmas.Bool.{and_parts, and_from}
-use Rattle.std.proofs.lemmas.List.Elements.{All-nil, All-cons}
+use Rattle.std.proofs.lemmas.List.Elements.{All-cons}
 use Rattle.std.proofs.lemmas.Simd.{map-map}
-use Rattle.pp_lexer.specs.declared.lexer.item.TokenValue.TheVariants.{Hash, NewLine, Ident, Punct}
 use Rattle.pp_lexer.specs.declared.lexer.char_iterator.Spot.{Spot}
-use Rattle.pp_lexer.specs.Identifiers.{is_identifier}
-use Rattle.pp_lexer.specs.Items.{Item, start_of_line, item_at, final_newline, items_of}
+use Rattle.pp_lexer.specs.Items.{Item, item_at, final_newline, items_of}
 use Rattle.pp_lexer.specs.Lexed.{Seen, seen}
-use Rattle.pp_lexer.specs.Longest.{longest}
-use Rattle.pp_lexer.specs.Numbers.{is_number}
-use Rattle.pp_lexer.specs.NumberValue.{number_outcome}
-use Rattle.pp_lexer.specs.Punctuators.{is_hash, punct_of, punctuation_value, punctuation_outcome}
+use Rattle.pp_lexer.specs.Punctuators.{punctuation_value, punctuation_outcome}
 use Rattle.pp_lexer.specs.Reading.{letters}
 use Rattle.pp_lexer.specs.Respelling.{IsSpelled, item_value, read_values}
 use Rattle.pp_lexer.specs.Segments.{Kind, blank, comment, item, Segment, kind_of, taken_by, segment_at, segments_within, segments}
-use Rattle.pp_lexer.specs.inner.Segments.{is_mark}
 use Rattle.pp_lexer.specs.Spots.{spots_of}
-use Rattle.pp_lexer.specs.Words.{is_blank, is_newline_word, is_word, word_outcome, word_at}
+use Rattle.pp_lexer.specs.Words.{word_outcome, word_at}
 use Rattle.pp_lexer.proofs.characters.CharactersLemmas.{source_scalar}
 use Rattle.pp_lexer.proofs.spelling.NumberSpelledLemmas.{number_spelled}
 use Rattle.pp_lexer.proofs.items.ItemsLemmas.{items_from, items_at_start}
@@ -32,7 +26,7 @@ punctuation_spelled : (n : ℕ) (w : List ℕ) → IsSpelled (punctuation_outcom
 punctuation_spelled n w = grind arith
 
 word_spelled : (w after : List ℕ) → all_scalars w ≡ true → IsSpelled (word_outcome w after).value
-word_spelled w after h = grind (arith, number_spelled, punctuation_spelled)
+word_spelled w after h = grind (arith, number_spelled)
 
 take_scalar : (n : ℕ) (w : List ℕ) → list_all scalar w ≡ true → list_all scalar (take n w) ≡ true
 take_scalar zero w h = refl
@@ -61,10 +55,10 @@ kind_spelled s ss h = grind (arith, place_spelled)
 
 item_spelled : (before : List Segment) (g : Segment) (k : Kind) (is : List Item) → KindIsSpelled k → All IsSpelled (values_in is)
     → All IsSpelled (values_in (item_at before g k ++ is))
-item_spelled before g k is h e = grind (arith, All-cons, values_in)
+item_spelled before g k is h e = grind arith
 
 newline_spelled : (before : List Segment) → All IsSpelled (values_in (final_newline before))
-newline_spelled before = grind (arith, All-nil, values_in, All-cons)
+newline_spelled before = grind (arith, All-cons)
 
 segments_spelled : (n : ℕ) (before : List Segment) (ss : List Spot) → list_all scalar (letters ss) ≡ true
     → All IsSpelled (values_in (items_from before (segments_within n ss)))

@@ -1,20 +1,18 @@
 -- An identifier, a number or a punctuator with a space or the end after it is the word that stands there.
-use Rattle.std.proofs.Common.{◌≡◌, ℕ, ◌<◌, List, [], ◌∷◌, ◌++◌, length, take, drop, Bool, true, false, refl, sym, ◌∙◌, ap, subst, arith, Ok, Option, Some, None, is_some, option_map, if◌then◌else◌}
+use Rattle.std.proofs.Common.{◌≡◌, ℕ, ◌<◌, List, [], ◌∷◌, ◌++◌, length, take, Bool, true, false, refl, sym, ◌∙◌, ap, subst, arith, Ok, Option, Some, None, is_some, option_map, if◌then◌else◌}
 use Rattle.std.specs.List.{list_all}
-use Rattle.std.proofs.Math.Seq.{take-append_seam}
 use Rattle.std.proofs.lemmas.Bool.{or_right, false≢true}
 use lib.Pointwise.{bytes_decides}
 use Rattle.unicode_ident.specs.Ident.{is_xid_continue}
 use Rattle.unicode_ident.proofs.IdentLemmas.{is_xid_continue-ascii}
 use Rattle.pp_lexer.specs.declared.token.Punct.{Punct as Punctuator}
-use Rattle.pp_lexer.specs.declared.token.Punct.TheVariants.{AddAssign, Dot}
+use Rattle.pp_lexer.specs.declared.token.Punct.TheVariants.{AddAssign}
 use Rattle.pp_lexer.specs.declared.lexer.item.TokenValue.TheVariants.{Hash, Ident, Punct}
 use Rattle.pp_lexer.specs.Identifiers.{is_start, is_identifier, begins_identifier}
 use Rattle.pp_lexer.specs.Longest.{longest}
 use Rattle.pp_lexer.specs.Numbers.{is_decimal, is_number, begins_number}
 use Rattle.pp_lexer.specs.NumberValue.{number_outcome, number_at}
 use Rattle.pp_lexer.specs.Punctuators.{punctuator, punct_of, is_hash, is_punctuator, is_punctuation, punctuation_value, punctuation_outcome, punctuation_at}
-use Rattle.pp_lexer.specs.Spellings.{nothing, many}
 use Rattle.pp_lexer.specs.Surroundings.{begins_with}
 use Rattle.pp_lexer.specs.Words.{word_at}
 use Rattle.pp_lexer.specs.inner.Words.{is_line_end}
@@ -50,7 +48,7 @@ some_of P (c ∷ w) h e = omega arith
 -- no identifier has a character that neither begins nor continues one
 pub identifier_lacks : (k : ℕ) → is_start k ≡ false → is_xid_continue k ≡ false → Lacks k is_identifier
 unfolding is_identifier
-identifier_lacks k s c = grind (arith, made_one, is_other, missing, made_many, made_nothing)
+identifier_lacks k s c = grind (arith, made_one, missing, made_many, made_nothing)
 
 identifier_some : (w : List ℕ) → is_identifier w ≡ true → 0 < length w
 unfolding is_identifier
@@ -64,7 +62,7 @@ spelled_identifier w cs e b = by (begins_identifier (w ++ cs)) refl
     ends = ends_at_break is_identifier (identifier_lacks 32 (ascii_no_start 32 refl refl) (is_xid_continue-ascii 32 (omega arith))) cs b
 
     by : (t : Bool) → begins_identifier (w ++ cs) ≡ t → word_at (w ++ cs) ≡ record { value = Ok (Ident w); taken = length w }
-    by t h = grind (arith, false≢true, no_identifier_front, take-append_seam, taken_before, identifier_some, ends, longest_before, identifier_first)
+    by t h = grind (arith, no_identifier_front, taken_before, identifier_some, ends, longest_before, identifier_first)
 
 -- Numbers
 
@@ -75,7 +73,7 @@ number_some w e = some_of is_number w refl e
 -- a number that ends here is read by its spelling and what stands after it
 pub spelled_number : (w cs : List ℕ) → is_number w ≡ true → EndsBefore is_number cs → word_at (w ++ cs) ≡ number_outcome w cs
 unfolding number_at
-spelled_number w cs e ends = grind (arith, false≢true, no_number_here, take-append_seam, taken_before, number_some, after_before, number_first)
+spelled_number w cs e ends = grind (arith, no_number_here, taken_before, number_some, after_before, number_first)
 
 -- a number ends before a space
 pub number_ends : (cs : List ℕ) → IsBreak cs → EndsBefore is_number cs

@@ -3,7 +3,7 @@ use Rattle.std.proofs.Common.{◌≡◌, ap, rules, arith}
 use Rattle.std.specs.Bool.{Decides}
 use Rattle.std.specs.Cmp.Lexicographic.{bytes_decides}
 use Rattle.std.proofs.lemmas.Bool.Decides.{Decides-and, Decides-like}
-use Rattle.pp_lexer.specs.EntryEq.{beq_decides, integer_decides, punct_decides, location_decides, entries_decide}
+use Rattle.pp_lexer.specs.EntryEq.{beq_decides, integer_decides, punct_decides, entries_decide}
 use Rattle.pp_lexer.proofs.values.DerivedEq.{enum_decides, bare_decides, one_decides}
 use Rattle.pp_lexer.specs.contracts.token.FloatPartialEq.TheImpl.{eq-value as float_eq}
 use Rattle.pp_lexer.specs.contracts.token.VersionPartialEq.TheImpl.{eq-value as version_eq}
@@ -66,7 +66,7 @@ value_decides =
     )
 
 pub token_decides : (a b : Token) → Decides (token_eq.it a b) (a ≡ b)
-token_decides a b = grind (arith, Decides-like, Decides-and, value_decides)
+token_decides a b = grind (arith, value_decides)
 
 unexpected_decides : (x y : TokenValue × Unit {0}) → Decides (value_eq.it x.0 y.0) (x ≡ y)
 unexpected_decides = one_decides _ value_decides
@@ -88,4 +88,4 @@ lexer_value_decides =
     )
 
 pub lexer_token_decides : (a b : LexerToken) → Decides (lexer_token_eq.it a b) (a ≡ b)
-lexer_token_decides a b = grind (arith, Decides-like, Decides-and, lexer_value_decides)
+lexer_token_decides a b = grind (arith, lexer_value_decides)

@@ -12,7 +12,6 @@ use Rattle.pp_lexer.specs.EntryEq.{entry_eq, entries_decide}
 use Rattle.pp_lexer.proofs.values.EqualityLemmas.{token_decides}
 use Rattle.pp_lexer.specs.declared.token.Token.{Token}
 use Rattle.pp_lexer.specs.declared.token.TokenValue.{TokenValue}
-use Rattle.pp_lexer.specs.declared.token.TokenValue.TheVariants.{Ident, Integer, Float, Punct, Version, Extension, Pragma}
 
 -- the entries up to the next token of this level, one level up
 children : List Entry → List Entry
@@ -86,7 +85,7 @@ none_kept [] ts = refl
 none_kept (e ∷ es) ts = rw (deeper-is_outermost e) (none_kept es ts)
 
 count_by-deeper : (e : Entry) (es : List Entry) → count_by is_outermost (deeper e ∷ es) ≡ count_by is_outermost es
-count_by-deeper e es = grind (arith, deeper-is_outermost, sum_by-cons)
+count_by-deeper e es = grind arith
 
 none_outermost : (es : List Entry) (ts : List Token) → count_by is_outermost (map deeper es ++ preorder ts) ≡ count_by is_outermost (preorder ts)
 none_outermost [] ts = refl

@@ -4,8 +4,7 @@ use Rattle.std.specs.Prelude.{Result, Ok, Err, is_ok, OnOk, OnErr, if◌then◌e
 use Rattle.std.specs.Bool.{Decides}
 use Rattle.std.specs.Char.{IsScalar}
 use Rattle.std.specs.Str.{chars, IsUtf8}
-use Rattle.std.proofs.lemmas.Str.{chars-append, chars-nil, chars_past_char, IsUtf8-encode, IsUtf8-nil, encodes-chars}
-use Rattle.std.proofs.lemmas.Bool.{eqb-true}
+use Rattle.std.proofs.lemmas.Str.{chars-append, chars-nil, chars_past_char, IsUtf8-encode, encodes-chars}
 use Rattle.std.proofs.lemmas.List.{append-nil}
 use lib.Utf8.{encode, encodes}
 use Rattle.std.specs.Cmp.Lexicographic.{pointwise, bytes_decides}
@@ -35,4 +34,4 @@ chars_tested xs ys u v =
 
 pub chars-empty : (bs : List ℕ) → IsUtf8 bs → Decides (length bs == 0) (chars bs ≡ [])
 chars-empty [] u = (λ _. chars-nil, λ _. refl)
-chars-empty (b ∷ bs) u = grind (arith, eqb-true, chars_same, IsUtf8-nil, chars-nil)
+chars-empty (b ∷ bs) u = grind (arith, chars_same, chars-nil)

@@ -1,8 +1,8 @@
 -- A spelling with a character after it that no spelling has, or with the end there, is the longest.
-use Rattle.std.proofs.Common.{◌≡◌, ℕ, zero, suc, ◌<◌, ◌≤◌, List, [], ◌∷◌, ◌++◌, length, take, drop, Bool, true, false, ◌&&◌, not, append-nil, length-append, refl, sym, ◌∙◌, ap, arith}
+use Rattle.std.proofs.Common.{◌≡◌, ℕ, zero, suc, ◌<◌, ◌≤◌, List, [], ◌∷◌, ◌++◌, length, take, drop, Bool, true, false, ◌&&◌, not, append-nil, length-append, refl, ◌∙◌, ap, arith}
 use Rattle.std.specs.List.{list_all}
 use Rattle.std.proofs.Math.Seq.{take-append_seam}
-use Rattle.std.proofs.lemmas.Bool.{and_right, eq-eqb, false≢true}
+use Rattle.std.proofs.lemmas.Bool.{and_right, eq-eqb}
 use Rattle.std.proofs.lemmas.List.{drop_at}
 use Rattle.pp_lexer.specs.Longest.{longest}
 use Rattle.pp_lexer.proofs.words.LongestLemmas.{longest_is}
@@ -20,7 +20,7 @@ has_it c (d ∷ w) cs (suc k) l = and_right (is_other c d) (list_all (is_other c
 
 module _ (P : List ℕ → Bool) (w : List ℕ) (some : 0 < length w) (good : P w ≡ true) where
   no_longer : (cs : List ℕ) → EndsBefore P cs → (k : ℕ) → length w < k → k ≤ length (w ++ cs) → P (take k (w ++ cs)) ≡ false
-  no_longer cs h k e l = grind (arith, append-nil, false≢true, has_it)
+  no_longer cs h k e l = grind (arith, append-nil, has_it)
 
   -- the spelling is the longest there
   pub longest_before : (cs : List ℕ) → EndsBefore P cs → longest P (w ++ cs) ≡ length w

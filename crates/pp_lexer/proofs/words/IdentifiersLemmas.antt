@@ -1,5 +1,5 @@
 -- The longest identifier is a first character and all that may continue it.
-use Rattle.std.proofs.Common.{◌≡◌, ℕ, suc, List, [], ◌∷◌, take, true, refl, sym, ◌∙◌, ap, Some, option_map, arith}
+use Rattle.std.proofs.Common.{◌≡◌, ℕ, suc, List, ◌∷◌, take, true, refl, ◌∙◌, ap, Some, option_map, arith}
 use Rattle.unicode_ident.specs.Ident.{is_xid_continue}
 use Rattle.pp_lexer.specs.declared.lexer.char_iterator.Spot.{Spot}
 use Rattle.pp_lexer.specs.Identifiers.{is_start, is_identifier, begins_identifier}

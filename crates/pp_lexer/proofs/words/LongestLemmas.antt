@@ -1,5 +1,5 @@
 -- The longest front of a set that is said segment by segment.
-use Rattle.std.proofs.Common.{◌≡◌, ℕ, zero, suc, ◌+◌, ◌<◌, ◌≤◌, ◌⊎◌, inl, inr, List, [], ◌∷◌, length, take, drop, Bool, true, false, ◌||◌, refl, sym, ◌∙◌, ap, arith, zero-add}
+use Rattle.std.proofs.Common.{◌≡◌, ℕ, zero, suc, ◌+◌, ◌<◌, ◌≤◌, ◌⊎◌, inl, inr, List, [], ◌∷◌, length, take, drop, Bool, true, false, refl, sym, ◌∙◌, ap, arith, zero-add}
 use Rattle.std.proofs.lemmas.Bool.{cases_eq, false≢true}
 use Rattle.std.proofs.lemmas.List.{take-take}
 use Rattle.pp_lexer.specs.Longest.{longest_within, longest, front_len}
@@ -80,7 +80,7 @@ module _ (p : ℕ → Bool) (tail : List ℕ → Bool) (ends : tail [] ≡ true)
   -- a word of the set: the characters that pass, and then a word of what follows
   pub many_is : (w : List ℕ) → many p tail w ≡ tail (drop (front_len p w) w)
   many_is [] = refl
-  many_is (c ∷ w) = grind (arith, many_pass, many_stop, many_is w)
+  many_is (c ∷ w) = grind (arith, many_is w)
 
 pub longest_nothing : (cs : List ℕ) → longest nothing cs ≡ 0
 unfolding longest

@@ -3,7 +3,7 @@ use Rattle.std.proofs.Common.{◌≡◌, ℕ, suc, ◌+◌, ◌<◌, ◌≤◌, 
 use Rattle.std.proofs.Math.Bool.{and-false, and-true, and_self}
 use Rattle.std.specs.List.{list_all}
 use Rattle.std.specs.Str.{chars, IsUtf8, IsAscii}
-use Rattle.std.proofs.lemmas.Bool.{and_parts, and_right, or_parts, or_cases, eqb-true, eq-eqb, ne_eqb, eqb-false, false≢true, or_from, and_from, not-true, ltb-true}
+use Rattle.std.proofs.lemmas.Bool.{and_parts, and_right, or_parts, or_cases, eqb-true, false≢true, or_from, and_from, not-true, ltb-true}
 use Rattle.std.proofs.lemmas.Str.{IsCharBoundary-after_ascii}
 use Rattle.std.proofs.lemmas.Str.Ascii.{IsAscii-cons}
 use Rattle.unicode_ident.proofs.IdentLemmas.{is_xid_start-ascii}
@@ -59,14 +59,14 @@ record First (c : ℕ) : Type 0 where
   no_hash : (c == 35) ≡ false
 
 first_of : (c : ℕ) (cs : List ℕ) (p : Punctuator) → punct_of (c ∷ cs) ≡ Some p → First c
-first_of c cs p h = grind (arith, and_parts, spelling_fits, ltb-true, not-true)
+first_of c cs p h = grind (arith, spelling_fits, ltb-true, not-true)
 
 passes_of : (c : ℕ) (cs : List ℕ) (p : Punctuator) → punct_of (c ∷ cs) ≡ Some p → passes c cs ≡ true
 passes_of c cs p h = (and_parts (first_fits c) (passes c cs) (spelling_fits (c ∷ cs) p h)).1
 
 -- no punctuator has such a character after another
 unspelled : (c d : ℕ) (ds : List ℕ) → is_plain d ≡ false → is_some (punct_of (c ∷ d ∷ ds)) ≡ false
-unspelled c d ds n = grind (arith, and_parts, passes_of, false≢true)
+unspelled c d ds n = grind (arith, passes_of)
 
 unspelled_third : (c d e : ℕ) → is_plain e ≡ false → is_some (punct_of (c ∷ d ∷ e ∷ [])) ≡ false
 unspelled_third c d e n = grind (arith, and_parts, passes_of, false≢true)
@@ -77,7 +77,7 @@ nothing_of (Some p) h = cc
 
 -- a newline or a mark continues nothing
 break_after : (c d : ℕ) → is_plain d ≡ false → is_decimal d ≡ false → ((d == 47) || (d == 42)) ≡ false → continues_punct c d ≡ false
-break_after c d n k m = grind (arith, or_from, unspelled, and_right)
+break_after c d n k m = grind (arith, unspelled)
 
 -- what stands there
 
@@ -111,7 +111,7 @@ one_of c d q h = by (punct_of (c ∷ [])) refl (is_punctuator-closed (c ∷ d �
     by (Some p) e t = (p, e)
 
 second_no_decimal : (c d : ℕ) (ds : List ℕ) (q : Punctuator) → punct_of (c ∷ d ∷ ds) ≡ Some q → is_decimal d ≡ false
-second_no_decimal c d ds q h = grind (arith, and_parts, passes_of, not-true)
+second_no_decimal c d ds q h = grind (arith, and_parts, passes_of)
 
 pair_at : (c d : ℕ) (cs : List ℕ) (q : Punctuator) → punct_of (c ∷ d ∷ []) ≡ Some q → begins_with (continues_pair c d) cs ≡ false
     → word_at (c ∷ d ∷ cs) ≡ record { value = Ok (Punct q); taken = 2 }
@@ -219,7 +219,7 @@ record Lone (c : ℕ) : Type 0 where
   alone : (d : ℕ) → continues_punct c d ≡ false
 
 or_this : (c k : ℕ) (more : Bool) → Lone k → (more ≡ true → Lone c) → (if c == k then true else more) ≡ true → Lone c
-or_this c k more this other h = grind (arith, eqb-true)
+or_this c k more this other h = grind arith
 
 lone_of : (c : ℕ) → is_lone c ≡ true → Lone c
 unfolding punct_of
@@ -321,11 +321,11 @@ triple_word (c ∷ d ∷ e ∷ text) q x u some h k =
 -- What the code's tables hold
 
 swapped : (a b : ℕ) → (a == b) ≡ (b == a)
-swapped a b = grind (arith, eq-eqb, eqb-true, ne_eqb, eqb-false)
+swapped a b = grind arith
 
 -- no number is two that differ
 apart : (c d k : ℕ) → (d == c) ≡ false → ((k == c) && (k == d)) ≡ false
-apart c d k h = grind (arith, eqb-true, swapped)
+apart c d k h = grind arith
 
 pub single_is : (c : ℕ) → punct_of (c ∷ []) ≡ single c
 unfolding punct_of
@@ -361,7 +361,7 @@ single_is c = simp (
 
 pub before_equals_is : (c : ℕ) → punct_of (c ∷ 61 ∷ []) ≡ before_equals c
 unfolding punct_of
-before_equals_is c = grind (arith, and-false, and-true, map_choice, swapped)
+before_equals_is c = grind (arith, and-false, map_choice, swapped)
 
 pub doubled_is : (c : ℕ) → (c == 61) ≡ false → punct_of (c ∷ c ∷ []) ≡ doubled c
 unfolding punct_of
@@ -369,7 +369,7 @@ doubled_is c h = grind (arith, swapped, and-false, and-true, map_choice, and_sel
 
 pub pair_none : (c d : ℕ) → (d == 61) ≡ false → (d == c) ≡ false → punct_of (c ∷ d ∷ []) ≡ None
 unfolding punct_of
-pair_none c d h n = grind (arith, swapped, apart, and-false, and-true)
+pair_none c d h n = grind (arith, apart, and-false, and-true)
 
 -- two of the three are of one character twice
 triple_none : (c d e : ℕ) → ((60 == c) && ((60 == d) && (61 == e))) ≡ false → ((62 == c) && ((62 == d) && (61 == e))) ≡ false → punct_of (c ∷ d ∷ e ∷ []) ≡ None
@@ -377,10 +377,10 @@ unfolding punct_of
 triple_none c d e h k = simp (and-false, and-true, h, k)
 
 pub no_triple_third : (c d e : ℕ) → (e == 61) ≡ false → punct_of (c ∷ d ∷ e ∷ []) ≡ None
-no_triple_third c d e h = grind (arith, swapped, and_right, and-false, triple_none)
+no_triple_third c d e h = grind (arith, triple_none)
 
 pub no_triple_second : (c d e : ℕ) → (d == c) ≡ false → punct_of (c ∷ d ∷ e ∷ []) ≡ None
-no_triple_second c d e h = grind (arith, triple_none, apart)
+no_triple_second c d e h = grind (arith, triple_none)
 
 pub no_triple_first : (c d e : ℕ) → (c == 60) ≡ false → (c == 62) ≡ false → punct_of (c ∷ d ∷ e ∷ []) ≡ None
 no_triple_first c d e h k =
@@ -395,7 +395,7 @@ shift_assigns c d e h k = grind arith
 pub stops_single : (text : List ℕ) → Stops (λ _. false) text 1 → (1 < length text → punct_of (get_or text 0 0 ∷ get_or text 1 0 ∷ []) ≡ None)
     → (1 < length text → ((is_point (get_or text 0 0) && is_decimal (get_or text 1 0)) || begins_comment (get_or text 0 0)
     (get_or text 1 0)) ≡ false) → Stops (continues_punct (get_or text 0 0)) text 1
-stops_single text s none other = grind (arith, or_from)
+stops_single text s none other = grind arith
 
 pub stops_pair : (text : List ℕ) → Stops (λ _. false) text 2 → (2 < length text → punct_of (get_or text 0 0 ∷ get_or text 1 0 ∷ get_or text 2 0 ∷ []) ≡ None)
     → Stops (continues_pair (get_or text 0 0) (get_or text 1 0)) text 2

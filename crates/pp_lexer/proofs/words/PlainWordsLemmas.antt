@@ -1,5 +1,5 @@
 -- Words at the front of a plain text, by the byte after them, and identifiers.
-use Rattle.std.proofs.Common.{◌≡◌, ℕ, zero, suc, ◌+◌, ◌<◌, ◌≤◌, List, [], ◌∷◌, ◌++◌, length, take, drop, get_or, Bool, true, false, ◌&&◌, ◌||◌, ◌==◌, refl, sym, ◌∙◌, ap, subst, arith, Ok}
+use Rattle.std.proofs.Common.{◌≡◌, ℕ, zero, suc, ◌<◌, ◌≤◌, List, [], ◌∷◌, ◌++◌, length, take, drop, get_or, Bool, true, false, ◌&&◌, ◌||◌, ◌==◌, refl, sym, ◌∙◌, ap, arith, Ok}
 use Rattle.std.specs.List.{list_all}
 use Rattle.std.specs.Str.{IsUtf8, IsAscii, IsCharBoundary}
 use Rattle.std.proofs.lemmas.Bool.{and_parts, false≢true}
@@ -11,9 +11,8 @@ use Rattle.unicode_ident.proofs.IdentLemmas.{is_xid_start-ascii, is_xid_continue
 use Rattle.pp_lexer.specs.declared.lexer.item.TokenValue.{TokenValue}
 use Rattle.pp_lexer.specs.declared.lexer.item.TokenValue.TheVariants.{Ident}
 use Rattle.pp_lexer.specs.inner.Fronts.{spots_from, is_plain}
-use Rattle.pp_lexer.specs.Identifiers.{is_start, is_identifier}
+use Rattle.pp_lexer.specs.Identifiers.{is_start}
 use Rattle.pp_lexer.specs.inner.PlainWords.{is_newline_value, begins, continues, Stops, IsFront, IsPlainWord}
-use Rattle.pp_lexer.specs.Longest.{longest}
 use Rattle.pp_lexer.specs.Reading.{letters}
 use Rattle.pp_lexer.specs.Surroundings.{begins_with}
 use Rattle.pp_lexer.specs.Words.{is_blank, word_at}
@@ -52,10 +51,10 @@ pub continues_plain : (b : ℕ) → continues b ≡ true → is_plain b ≡ true
 continues_plain b h = grind (arith, nat_tests)
 
 begins_continues : (b : ℕ) → begins b ≡ true → continues b ≡ true
-begins_continues b h = grind (arith, nat_tests)
+begins_continues b h = grind arith
 
 begins_no_blank : (b : ℕ) → begins b ≡ true → is_blank b ≡ false
-begins_no_blank b h = grind (arith, nat_tests)
+begins_no_blank b h = grind arith
 
 begins_start : (b : ℕ) → begins b ≡ true → is_start b ≡ true
 begins_start b h = ap (λ t. t || (b == 95)) (is_xid_start-ascii b (plain_parts b (continues_plain b (begins_continues b h))).small) ∙ h
@@ -75,7 +74,7 @@ identifier_at c w cs b h k = grind (arith, begins_start, longest_identifier, fro
 identifier_of : (c : ℕ) (w v cs : List ℕ) (n : ℕ) → v ≡ c ∷ w → length v ≡ n → begins c ≡ true → list_all continues v ≡ true
     → begins_with is_xid_continue cs ≡ false
     → word_at (v ++ cs) ≡ record { value = Ok (Ident v); taken = n }
-identifier_of c w v cs n e l b h k = grind (arith, identifier_at, and_parts)
+identifier_of c w v cs n e l b h k = grind (arith, identifier_at)
 
 -- an identifier has a character
 continued_some : (n : ℕ) (text : List ℕ) → 0 < length text → begins (get_or text 0 0) ≡ true → (n < length text → continues (get_or text n 0) ≡ false) → 0 < n

@@ -1,12 +1,12 @@
 -- What stands where neither an identifier nor a number begins.
-use Rattle.std.proofs.Common.{◌≡◌, ℕ, zero, suc, ◌<◌, ◌≤◌, List, [], ◌∷◌, length, take, true, false, ◌==◌, refl, sym, ◌∙◌, ap, arith, Option, Some, None, option_map, is_some, Ok, Err}
-use Rattle.std.proofs.lemmas.Bool.{ne_eqb, eqb-true, eqb-false, false≢true}
+use Rattle.std.proofs.Common.{◌≡◌, ℕ, zero, suc, ◌<◌, ◌≤◌, List, [], ◌∷◌, length, take, true, false, ◌==◌, refl, sym, ◌∙◌, arith, Option, Some, None, option_map, Ok, Err}
+use Rattle.std.proofs.lemmas.Bool.{ne_eqb, eqb-false}
 use Rattle.pp_lexer.specs.Surroundings.{begins_with}
 use Rattle.pp_lexer.specs.declared.token.Punct.{Punct as Punctuator}
 use Rattle.pp_lexer.specs.declared.token.PreprocessorError.TheVariants.{UnexpectedCharacter}
 use Rattle.pp_lexer.specs.declared.lexer.item.TokenValue.TheVariants.{Hash, Punct}
 use Rattle.pp_lexer.specs.Longest.{longest}
-use Rattle.pp_lexer.specs.Punctuators.{punct_of, is_punctuator, is_hash, is_punctuation, punctuation_value, punctuation_outcome, punctuation_at}
+use Rattle.pp_lexer.specs.Punctuators.{punct_of, is_punctuator, is_hash, is_punctuation, punctuation_outcome, punctuation_at}
 use Rattle.pp_lexer.proofs.words.LongestLemmas.{longest_is, longest_in, longest_same, longest_empty}
 use Rattle.pp_lexer.proofs.words.PunctuatorsLemmas.{none_here}
 
@@ -28,13 +28,13 @@ hash_longest cs = longest_is is_punctuation (35 ∷ cs) 1 (omega arith) refl (om
 
 pub at_hash : (cs : List ℕ) → begins_with (λ c. c == 35) cs ≡ true → punctuation_at cs ≡ record { value = Ok Hash; taken = 1 }
 unfolding punctuation_at
-at_hash cs h = grind (arith, false≢true, eqb-true, hash_longest)
+at_hash cs h = grind (arith, hash_longest)
 
 no_hash : (c : ℕ) (w : List ℕ) → (c == 35) ≡ false → is_hash (c ∷ w) ≡ false
 no_hash c w h = rw (ne_eqb 35 c (λ e. eqb-false c 35 h (sym e))) refl
 
 no_hash_front : (cs : List ℕ) (n : ℕ) → begins_with (λ c. c == 35) cs ≡ false → is_hash (take n cs) ≡ false
-no_hash_front cs n h = grind (arith, no_hash)
+no_hash_front cs n h = grind arith
 
 -- elsewhere the longest punctuator decides
 pub punct_longest : (cs : List ℕ) → begins_with (λ c. c == 35) cs ≡ false → longest is_punctuation cs ≡ longest is_punctuator cs
@@ -45,7 +45,7 @@ punct_longest (c ∷ cs) h = longest_same is_punctuation is_punctuator c cs (λ 
 at_found : (cs : List ℕ) (o : Option Punctuator) → begins_with (λ c. c == 35) cs ≡ false → o ≡ punct_of (take (longest is_punctuator cs) cs)
     → punctuation_at cs ≡ punctuation_outcome (longest is_punctuator cs) (option_map Punct o)
 unfolding punctuation_at
-at_found cs o h f = grind (arith, punct_longest, no_hash_front)
+at_found cs o h f = grind (arith, punct_longest)
 
 pub at_punct : (cs : List ℕ) (p : Punctuator) → begins_with (λ c. c == 35) cs ≡ false → Some p ≡ punct_of (take (longest is_punctuator cs) cs)
     → punctuation_at cs ≡ record { value = Ok (Punct p); taken = longest is_punctuator cs }
@@ -58,4 +58,4 @@ at_nothing cs h f = at_found cs None h f
 -- where no punctuator is found, none is passed
 pub none_passed : (cs : List ℕ) → None ≡ punct_of (take (longest is_punctuator cs) cs) → longest is_punctuator cs ≡ 0
 unfolding is_punctuator
-none_passed cs f = grind (arith, longest_in, false≢true)
+none_passed cs f = grind (arith, longest_in)

@@ -88,7 +88,7 @@ unfolding is_punctuator
 is_punctuator-closed w n h = let p = some_found w h in ap (λ v. is_some (punct_of (take (suc n) v))) (sym p.1) ∙ front_of p.0 n
 
 too_long : (w : List ℕ) → 3 < length w → is_punctuator w ≡ false
-too_long w l = grind (arith, some_found, short)
+too_long w l = grind (arith, some_found)
 
 -- what the next characters say of the longest punctuator
 pub record IsLongest (cs : List ℕ) (n : ℕ) (found : Option Punctuator) : Type 0 where

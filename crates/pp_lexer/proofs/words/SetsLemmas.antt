@@ -30,7 +30,7 @@ missing p k h c e = ap not (ne_eqb c k (λ s. false≢true (sym h ∙ ap p (sym 
 
 -- a union lies where both sets lie
 pub union_part : (P Q R : List ℕ → Bool) → IsPart P R → IsPart Q R → IsPart (λ w. P w || Q w) R
-union_part P Q R h k w e = grind (arith, or_cases)
+union_part P Q R h k w e = grind arith
 
 -- what lies in a set lies in its union with another
 pub left_part : (P Q R : List ℕ → Bool) → IsPart P Q → IsPart P (λ w. Q w || R w)
@@ -60,11 +60,11 @@ module _ (p q : ℕ → Bool) (P Q : List ℕ → Bool) (chars : Implies p q) (t
 
   -- one character or none, and what follows
   pub maybe_part : IsPart (maybe p P) (maybe q Q)
-  maybe_part w e = grind (arith, or_cases, or_left, or_right, one_part)
+  maybe_part w e = grind arith
 
 -- a spelling or nothing
 pub optional_part : (P Q : List ℕ → Bool) → IsPart P Q → IsPart (optional P) (optional Q)
-optional_part P Q h w e = grind (arith, or_cases, or_left, or_right)
+optional_part P Q h w e = grind arith
 
 -- characters that pass, by the parts
 module _ (p : ℕ → Bool) where

@@ -6,7 +6,6 @@ use Rattle.pp_lexer.specs.Longest.{longest}
 use Rattle.pp_lexer.specs.Punctuators.{punct_of, is_punctuator}
 use Rattle.pp_lexer.specs.Reading.{Reading, letters, first_of, past, after_first, advanced_of}
 use Rattle.pp_lexer.proofs.characters.AdvancedLemmas.{advanced_zero}
-use Rattle.pp_lexer.proofs.words.LongestLemmas.{longest_empty}
 use Rattle.pp_lexer.proofs.words.PunctuatorsLemmas.{IsLongest, no_punct, one_at_end, one_alone, two_at_end, two_alone, three_of}
 
 pub record IsTaken (ss : List Spot) (last : Spot) (r : Option Punctuator) (new : Reading) : Type 0 where
@@ -26,19 +25,19 @@ along ss last r x y e h = record { value = h.value; state = e ∙ h.state }
 module _ (last : Spot) (new : Reading) where
   pub taken_none : (ss : List Spot) → next_is None ss → new ≡ record { rest = ss; last = last } → IsTaken ss last None new
   unfolding punct_of
-  taken_none ss h k = grind (arith, longest_empty)
+  taken_none ss h k = grind arith
 
   pub taken_bad : (c : ℕ) (ss : List Spot) → next_is (Some c) ss → punct_of (c ∷ []) ≡ None → new ≡ record { rest = ss; last = last } → IsTaken ss last None new
-  taken_bad c ss h k e = grind (arith, along, taken_of, no_punct)
+  taken_bad c ss h k e = grind (arith, no_punct)
 
   module _ (c : ℕ) (p : Punctuator) (one : punct_of (c ∷ []) ≡ Some p) where
     pub taken_one_end : (ss : List Spot) → next_is (Some c) ss → next_is None (past ss last).rest → new ≡ past ss last → IsTaken ss last (Some p) new
-    taken_one_end ss h k e = grind (arith, along, taken_of, one_at_end)
+    taken_one_end ss h k e = grind (arith, one_at_end)
 
     module _ (d : ℕ) where
       pub taken_one : (ss : List Spot) → next_is (Some c) ss → next_is (Some d) (past ss last).rest → punct_of (c ∷ d ∷ []) ≡ None
           → new ≡ past ss last → IsTaken ss last (Some p) new
-      taken_one ss h k e l = grind (arith, along, taken_of, one_alone)
+      taken_one ss h k e l = grind (arith, one_alone)
 
       module _ (q : Punctuator) (two : punct_of (c ∷ d ∷ []) ≡ Some q) where
         pub taken_two_end : (ss : List Spot) → next_is (Some c) ss → next_is (Some d) (past ss last).rest
@@ -46,7 +45,7 @@ module _ (last : Spot) (new : Reading) where
             → IsTaken ss last (Some q) new
         taken_two_end [] f g h n = cc
         taken_two_end (s ∷ []) f g h n = cc
-        taken_two_end (s ∷ t ∷ []) f g h n = grind (arith, along, taken_of, two_at_end)
+        taken_two_end (s ∷ t ∷ []) f g h n = grind (arith, two_at_end)
         taken_two_end (s ∷ t ∷ u ∷ ss) f g h n = cc
 
         module _ (e : ℕ) where

@@ -1,5 +1,5 @@
 -- The longest front in a union of sets is the longer of the two.
-use Rattle.std.proofs.Common.{◌≡◌, ℕ, zero, suc, ◌≤◌, max, List, take, length, Bool, true, false, ◌||◌, refl, arith}
+use Rattle.std.proofs.Common.{◌≡◌, ℕ, zero, suc, ◌≤◌, max, List, length, Bool, ◌||◌, refl, arith}
 use Rattle.pp_lexer.specs.Longest.{longest_within, longest}
 
 within_le : (P : List ℕ → Bool) (cs : List ℕ) (n : ℕ) → longest_within P cs n ≤ n

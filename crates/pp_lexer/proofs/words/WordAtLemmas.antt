@@ -7,7 +7,7 @@ use Rattle.pp_lexer.specs.declared.token.PreprocessorError.TheVariants.{Unexpect
 use Rattle.pp_lexer.specs.Identifiers.{is_identifier, begins_identifier}
 use Rattle.pp_lexer.specs.Longest.{longest}
 use Rattle.pp_lexer.specs.Numbers.{is_number, begins_number}
-use Rattle.pp_lexer.specs.NumberValue.{is_float, number_outcome, number_at}
+use Rattle.pp_lexer.specs.NumberValue.{number_outcome, number_at}
 use Rattle.pp_lexer.specs.Punctuators.{punct_of, is_punctuation, punctuation_value, punctuation_outcome, punctuation_at}
 use Rattle.pp_lexer.specs.Surroundings.{begins_with}
 use Rattle.pp_lexer.specs.Words.{is_newline_word, is_word, word_outcome, word_at}

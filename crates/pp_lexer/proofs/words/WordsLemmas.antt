@@ -2,14 +2,13 @@
 use Rattle.std.proofs.Common.{◌≡◌, ◌≢◌, ℕ, zero, suc, ◌<◌, ◌≤◌, inl, inr, max, List, [], ◌∷◌, take, Bool, true, false, ◌&&◌, ◌||◌, ◌==◌, refl, sym, ◌∙◌, ap, subst, arith, Option, Some, None, unwrap_or, nat_lt}
 use Rattle.std.specs.Char.{is_ascii_alphabetic, digit_value}
 use Rattle.std.proofs.lemmas.Bool.{ne_eqb, eqb-true, false≢true, ltb-true, or_cases, and_parts}
-use Rattle.std.proofs.lemmas.Bool.Decides.{nat_tests}
 use Rattle.std.proofs.lemmas.Str.Parse.{digit_from_value}
 use Rattle.unicode_ident.proofs.IdentLemmas.{is_xid_start-ascii}
 use Rattle.pp_lexer.specs.declared.token.Punct.{Punct as Punctuator}
 use Rattle.pp_lexer.specs.declared.token.Punct.TheVariants.{AddAssign, Dot}
 use Rattle.pp_lexer.specs.Identifiers.{is_start, is_identifier, begins_identifier}
 use Rattle.pp_lexer.specs.Longest.{longest}
-use Rattle.pp_lexer.specs.Numbers.{is_decimal, is_point, is_hex_number, is_number, begins_number}
+use Rattle.pp_lexer.specs.Numbers.{is_decimal, is_point, is_number, begins_number}
 use Rattle.pp_lexer.specs.Punctuators.{punctuator, punct_of, is_punctuation}
 use Rattle.pp_lexer.specs.Spellings.{nothing, after_first, next_of}
 use Rattle.pp_lexer.specs.Surroundings.{begins_with}
@@ -25,7 +24,7 @@ use Rattle.pp_lexer.proofs.words.UnionLemmas.{longest_union}
 -- Characters
 
 no_letter : (c : ℕ) → c ≤ 64 → is_ascii_alphabetic c ≡ false
-no_letter c h = grind (arith, nat_tests)
+no_letter c h = grind arith
 
 -- no digit, point or newline begins an identifier
 low_no_start : (c : ℕ) → c ≤ 64 → is_start c ≡ false
@@ -41,7 +40,7 @@ pub start_apart : (c d : ℕ) → is_start c ≡ true → d ≤ 64 → c ≢ d
 start_apart c d s h e = false≢true (sym (low_no_start d h) ∙ ap is_start (sym e) ∙ s)
 
 pub start_no_digit : (c : ℕ) → is_start c ≡ true → is_decimal c ≡ false
-start_no_digit c s = grind (arith, digit_low, false≢true, low_no_start)
+start_no_digit c s = grind (arith, low_no_start)
 
 -- Punctuators
 
@@ -198,7 +197,7 @@ identifier_begins (c ∷ cs) h = record {
 
 newline_begins : (cs : List ℕ) → begins_with is_line_end cs ≡ true → (begins_identifier cs ≡ false) × (begins_number cs ≡ false)
     × (longest is_punctuation cs ≡ 0)
-newline_begins cs h = grind (arith, false≢true, eqb-true, low_no_start, none_of, punct_no_line_end)
+newline_begins cs h = grind (arith, eqb-true, low_no_start, none_of, punct_no_line_end)
 
 -- The longest word is the longest of the class
 
@@ -234,4 +233,4 @@ blank_at c cs low b n d p =
     longest_other_word (c ∷ cs) n (low_no_start c low) (rw (d, p) refl) ∙ none_of is_blank refl punct_no_blank (c ∷ cs) b
 
 pub longest_blank : (c : ℕ) (cs : List ℕ) → is_blank c ≡ true → longest is_word (c ∷ cs) ≡ 0
-longest_blank c cs h = grind (arith, or_cases, blank_at, eqb-true)
+longest_blank c cs h = grind (arith, blank_at, eqb-true)

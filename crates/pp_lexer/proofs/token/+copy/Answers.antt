@@ -1,4 +1,4 @@
-use Rattle.std.proofs.Common.{◌≡◌, [], ◌∷◌, List, refl, ◌∙◌, false, true, arith}
+use Rattle.std.proofs.Common.{◌≡◌, [], ◌∷◌, List, refl, arith}
 use Rattle.pp_lexer.specs.Preorder.{preorder}
 use Rattle.pp_lexer.specs.declared.token.Token.{Token}
 use Rattle.pp_lexer.proofs.token.+copy.Goals as goal

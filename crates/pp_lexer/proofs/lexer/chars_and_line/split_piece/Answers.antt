@@ -1,6 +1,5 @@
-use Rattle.std.proofs.Common.{◌≡◌, ◌++◌, rules, arith}
+use Rattle.std.proofs.Common.{arith}
 use Rattle.pp_lexer.proofs.characters.LinesLemmas.{first_plain, first_line_feed, first_return}
-use lib.Utf8.{encode}
 use Rattle.pp_lexer.proofs.lexer.chars_and_line.split_piece.Goals as goal
 
 pub returns-in-10 : goal.returns-in-10

@@ -1,6 +1,6 @@
-use Rattle.std.proofs.Common.{◌≡◌, ◌∙◌, ap, not, drop, if◌then◌else◌, arith}
-use Rattle.pp_lexer.specs.NumberValue.{is_u, is_s, width_refusal, integer_value}
-use Rattle.pp_lexer.specs.inner.NumberValue.{unsigned_suffix_len, unless_refused}
+use Rattle.std.proofs.Common.{◌≡◌, drop, if◌then◌else◌, arith}
+use Rattle.pp_lexer.specs.NumberValue.{is_u}
+use Rattle.pp_lexer.specs.inner.NumberValue.{unsigned_suffix_len}
 use Rattle.pp_lexer.specs.Reading.{Reading, letters, advanced}
 use Rattle.pp_lexer.specs.Surroundings.{begins_with}
 use Rattle.pp_lexer.proofs.characters.AdvancedLemmas.{letters-advanced}

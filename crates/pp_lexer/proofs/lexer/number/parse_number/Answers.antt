@@ -1,8 +1,7 @@
-use Rattle.std.proofs.Common.{Ok, ◌≡◌, sym, ◌∙◌, ap, subst, take, inl, arith}
+use Rattle.std.proofs.Common.{◌≡◌, sym, ◌∙◌, ap, take, arith}
 use Rattle.pp_lexer.specs.Longest.{longest}
 use Rattle.pp_lexer.specs.Numbers.{is_number}
 use Rattle.pp_lexer.specs.inner.NumberValue.{float_suffix_len, unsigned_suffix_len}
-use Rattle.pp_lexer.specs.Outcome.{IsGiven}
 use Rattle.pp_lexer.specs.Reading.{letters, advanced}
 use Rattle.pp_lexer.proofs.numbers.NumberAtLemmas.{at_float, at_integer, letters_after, after_suffix}
 use Rattle.pp_lexer.proofs.lexer.number.parse_number.Goals as goal

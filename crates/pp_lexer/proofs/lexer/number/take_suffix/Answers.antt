@@ -1,5 +1,4 @@
-use Rattle.std.proofs.Common.{sym, ◌∙◌, ap, if◌then◌else◌, arith}
-use Rattle.pp_lexer.specs.Reading.{after_first, advanced}
+use Rattle.std.proofs.Common.{arith}
 use Rattle.pp_lexer.proofs.characters.AdvancedLemmas.{advanced-zero, after_first-one}
 use Rattle.pp_lexer.proofs.lexer.number.take_suffix.Goals as goal
 

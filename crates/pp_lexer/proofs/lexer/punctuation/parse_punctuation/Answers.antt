@@ -1,6 +1,6 @@
-use Rattle.std.proofs.Common.{◌≡◌, sym, ◌∙◌, ap, take, Option, arith}
+use Rattle.std.proofs.Common.{sym, ◌∙◌, ap, take, Option, arith}
 use Rattle.pp_lexer.specs.declared.token.Punct.{Punct as Punctuator}
-use Rattle.pp_lexer.specs.Reading.{Reading, letters, after_first, advanced}
+use Rattle.pp_lexer.specs.Reading.{Reading, letters}
 use Rattle.pp_lexer.specs.Longest.{longest}
 use Rattle.pp_lexer.specs.Punctuators.{is_punctuator, punct_of}
 use Rattle.pp_lexer.proofs.characters.AdvancedLemmas.{advanced-zero, after_first-one, after_first-advanced}
@@ -24,8 +24,5 @@ returns-in-Some-clause-value c =
 pub returns-in-Some-clause-state : goal.returns-in-Some-clause-state
 returns-in-Some-clause-state c = grind (arith, at_punct)
 
-pub returns-clause-value : goal.returns-clause-value
-returns-clause-value c = grind (arith, at_nothing)
-
-pub returns-clause-state : goal.returns-clause-state
-returns-clause-state c = grind (arith, at_nothing, none_passed, advanced-zero, after_first-one, after_first-advanced)
+pub returns : goal.returns
+returns c = grind (arith, at_nothing, none_passed, advanced-zero, after_first-one, after_first-advanced)

@@ -6,7 +6,7 @@ use Rattle.pp_lexer.proofs.characters.StraightLemmas.{EndsBlockAlike, cut_after_
 use Rattle.pp_lexer.proofs.lexer.replace_comments.skip_starless.Goals as goal
 
 pub range_from-requires : goal.range_from-requires
-range_from-requires c = grind (arith, cut_after_starless)
+range_from-requires c = grind arith
 
 pub returns : goal.returns
 returns c =

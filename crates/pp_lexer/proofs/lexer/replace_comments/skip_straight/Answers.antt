@@ -1,7 +1,4 @@
-use Rattle.std.proofs.Common.{◌≡◌, ◌≤◌, sym, ◌∙◌, ap, subst, length, take, true, arith}
-use Rattle.std.specs.List.{list_all}
-use Rattle.std.specs.Str.{IsUtf8}
-use Rattle.pp_lexer.specs.inner.Fronts.{is_straight}
+use Rattle.std.proofs.Common.{ap, arith}
 use Rattle.pp_lexer.proofs.characters.StraightLemmas.{cut_after_straight, straight_passed}
 use Rattle.pp_lexer.proofs.lexer.replace_comments.skip_straight.Goals as goal
 

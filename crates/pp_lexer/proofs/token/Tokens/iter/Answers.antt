@@ -1,4 +1,4 @@
-use Rattle.std.proofs.Common.{◌∙◌, sym, ap, length, arith}
+use Rattle.std.proofs.Common.{arith}
 use Rattle.pp_lexer.proofs.values.PreorderLemmas.{count_by-preorder}
 use Rattle.pp_lexer.proofs.token.Tokens.iter.Goals as goal
 

@@ -1,12 +1,11 @@
-use Rattle.std.proofs.Common.{◌++◌, refl, ap, ◌∙◌, arith, sym}
-use Rattle.std.specs.List.{flat_map}
+use Rattle.std.proofs.Common.{refl, arith}
 use Rattle.std.proofs.lemmas.List.{append-nil, take_all}
 use Rattle.std.proofs.Output.{has_written_append, has_written_of_eq}
-use Rattle.pp_lexer.proofs.spelling.ItemTextLemmas.{token_bytes, directive_bytes, one_more}
+use Rattle.pp_lexer.proofs.spelling.ItemTextLemmas.{directive_bytes, one_more}
 use Rattle.pp_lexer.proofs.token.spelling.write_directive.Goals as goal
 
 pub loop-token-init : goal.loop-token-init
-loop-token-init g c = grind (arith, has_written_of_eq, append-nil)
+loop-token-init g c = grind (arith, append-nil)
 
 pub loop-token-preserved : goal.loop-token-preserved
 loop-token-preserved g c = λ plain.
@@ -18,4 +17,4 @@ loop-token-preserved g c = λ plain.
     (has_written_append _ _ _ _ _ _ so_far (has_written_append _ _ _ _ _ _ space word))
 
 pub returns : goal.returns
-returns g c = grind (arith, has_written_of_eq, token_bytes, take_all, directive_bytes)
+returns g c = grind (arith, take_all, directive_bytes)

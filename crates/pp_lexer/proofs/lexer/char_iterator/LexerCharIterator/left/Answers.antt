@@ -1,4 +1,4 @@
-use Rattle.std.proofs.Common.{ap, ◌∙◌, sym, arith}
+use Rattle.std.proofs.Common.{arith}
 use Rattle.pp_lexer.proofs.characters.FrontsLemmas.{left_of}
 use Rattle.pp_lexer.proofs.lexer.char_iterator.LexerCharIterator.left.Goals as goal
 

@@ -1,5 +1,4 @@
-use Rattle.std.proofs.Common.{ap, arith, length}
-use Rattle.pp_lexer.specs.Reading.{spots}
+use Rattle.std.proofs.Common.{arith}
 use Rattle.pp_lexer.proofs.characters.SpotsLemmas.{length-spots_of-le}
 use Rattle.pp_lexer.proofs.lexer.char_iterator.LexerCharIterator.new.Goals as goal
 

@@ -1,5 +1,4 @@
-use Rattle.std.proofs.Common.{◌≡◌, ◌-◌, length, refl, arith}
-use Rattle.std.specs.Str.{chars}
+use Rattle.std.proofs.Common.{arith}
 use Rattle.pp_lexer.proofs.characters.LinesLemmas.{lines_are}
 use Rattle.pp_lexer.proofs.lexer.chars_and_line.CharsAndLine.new.Goals as goal
 

@@ -1,5 +1,4 @@
-use Rattle.std.proofs.Common.{◌≡◌, true, sym, ◌∙◌, ap, arith}
-use Rattle.std.specs.Char.{is_digit}
+use Rattle.std.proofs.Common.{◌∙◌, ap, arith}
 use Rattle.pp_lexer.specs.inner.Scan.{further}
 use Rattle.pp_lexer.proofs.numbers.ScanLemmas.{digit_taken, fewer_left}
 use Rattle.pp_lexer.proofs.lexer.number.scan.take_digits.Goals as goal

@@ -2,11 +2,11 @@ use Rattle.std.proofs.Common.{if◌then◌else◌, arith}
 use Rattle.pp_lexer.specs.Numbers.{is_decimal, is_e, exponent, digits}
 use Rattle.pp_lexer.specs.inner.Numbers.{signed_digits}
 use Rattle.pp_lexer.proofs.numbers.NumbersLemmas.{exponent_len, exponent_none}
-use Rattle.pp_lexer.proofs.numbers.ScanLemmas.{then_takes, either_then, either_stop, all_taken, signed_after}
+use Rattle.pp_lexer.proofs.numbers.ScanLemmas.{then_takes, either_then, all_taken, signed_after}
 use Rattle.pp_lexer.proofs.lexer.number.scan.take_exponent.Goals as goal
 
 pub returns-then-not-take_either : goal.returns-then-not-take_either
-returns-then-not-take_either c = grind (arith, either_stop, exponent_none)
+returns-then-not-take_either c = grind (arith, exponent_none)
 
 pub returns : goal.returns
 returns c =

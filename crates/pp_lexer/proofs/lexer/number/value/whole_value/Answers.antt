@@ -1,5 +1,4 @@
-use Rattle.std.proofs.Common.{◌∙◌, ◌≤◌, ◌+◌, ◌*◌, ◌^◌, arith, sym}
-use Rattle.std.specs.Char.{digit_value}
+use Rattle.std.proofs.Common.{arith}
 use Rattle.pp_lexer.proofs.numbers.ValueLemmas.{whole_too_large}
 use Rattle.pp_lexer.proofs.lexer.number.value.whole_value.Goals as goal
 

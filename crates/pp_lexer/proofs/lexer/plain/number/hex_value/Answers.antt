@@ -1,5 +1,4 @@
-use Rattle.std.proofs.Common.{◌∙◌, ap, refl, arith}
-use Rattle.std.specs.Str.Parse.{digits_value}
+use Rattle.std.proofs.Common.{refl, arith}
 use Rattle.pp_lexer.proofs.numbers.PlainNumbersLemmas.{take_whole}
 use Rattle.pp_lexer.proofs.numbers.PlainHexLemmas.{hex_more}
 use Rattle.pp_lexer.proofs.lexer.plain.number.hex_value.Goals as goal

@@ -1,6 +1,5 @@
-use Rattle.std.proofs.Common.{◌≡◌, ◌∙◌, ◌∷◌, [], ap, sym, arith}
+use Rattle.std.proofs.Common.{sym, arith}
 use Rattle.std.proofs.lemmas.Bool.{ne_eqb}
-use Rattle.pp_lexer.specs.Punctuators.{punct_of}
 use Rattle.pp_lexer.proofs.words.PlainPunctuationLemmas.{before_equals_is, doubled_is, pair_none}
 use Rattle.pp_lexer.proofs.lexer.plain.punctuation.pair.Goals as goal
 

@@ -16,4 +16,4 @@ pub returns-in-62 : goal.returns-in-62
 returns-in-62 c = sym ((shift_assigns c.args.first c.args.second c.args.third (omega arith) (omega arith)).1 (omega arith))
 
 pub returns-in_default : goal.returns-in_default
-returns-in_default c = grind (arith, no_triple_first, ne_eqb)
+returns-in_default c = grind (arith, no_triple_first)

@@ -1,4 +1,4 @@
-use Rattle.std.proofs.Common.{◌<◌, arith, refl, length}
+use Rattle.std.proofs.Common.{arith}
 use Rattle.std.proofs.lemmas.Option.{slice_get_read}
 use Rattle.pp_lexer.proofs.values.PreorderLemmas.{count_by-preorder}
 use Rattle.pp_lexer.proofs.token.list.TokensIndexUsize.index.Goals as goal

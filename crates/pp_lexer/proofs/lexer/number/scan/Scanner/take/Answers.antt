@@ -1,6 +1,4 @@
-use Rattle.std.proofs.Common.{◌≡◌, ap, ◌∙◌, ◌+◌, arith}
-use Rattle.pp_lexer.specs.Reading.{advanced}
-use Rattle.pp_lexer.specs.inner.Scan.{Scan, further}
+use Rattle.std.proofs.Common.{arith}
 use Rattle.pp_lexer.proofs.characters.AdvancedLemmas.{after_first-one}
 use Rattle.pp_lexer.proofs.lexer.number.scan.Scanner.take.Goals as goal
 
