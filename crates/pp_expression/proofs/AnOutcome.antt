@@ -1,5 +1,5 @@
 -- A line has an outcome, a value or a first fault: a parser with turns enough for its symbols finds one of the two.
-use Rattle.std.proofs.Common.{◌≡◌, ℕ, zero, suc, ◌+◌, ◌*◌, ◌≤◌, ◌<◌, List, [], ◌∷◌, drop, length, Option, Some, None, Result, Ok, Err, ℤ, refl, arith}
+use Rattle.std.proofs.Common.{◌≡◌, ℕ, zero, suc, ◌+◌, ◌*◌, ◌≤◌, ◌<◌, List, [], ◌∷◌, drop, length, Option, Some, Result, Ok, Err, ℤ, refl, arith}
 use Rattle.std.specs.Prelude.{MatchResult}
 use Rattle.std.proofs.Math.Decide.{dec_lt}
 use Rattle.pp_expression.specs.declared.symbol.Symbol.{Symbol}
@@ -40,21 +40,15 @@ fewer (x ∷ xs) = omega arith
 
 taken : (symbols : List Symbol) (ending : Option ExpressionFault) (x : Symbol) → next_of symbols ending ≡ Ok (Some x)
     → length (drop 1 symbols) + 1 ≡ length symbols
-taken (y ∷ ys) ending x h = omega arith
-taken [] None x h = cc
-taken [] (Some e) x h = cc
+taken symbols ending x h = grind arith
 
 sign_taken : (symbols : List Symbol) (ending : Option ExpressionFault) (o : Unary) → (next_of symbols ending >>= λ ahead. Ok (sign_of ahead)) ≡ Ok (Some o)
     → length (drop 1 symbols) + 1 ≡ length symbols
-sign_taken (y ∷ ys) ending o h = omega arith
-sign_taken [] None o h = cc
-sign_taken [] (Some e) o h = cc
+sign_taken symbols ending o h = grind arith
 
 operator_taken : (level : ℕ) (symbols : List Symbol) (ending : Option ExpressionFault) (o : Binary)
     → (next_of symbols ending >>= λ ahead. Ok (operator_of level ahead)) ≡ Ok (Some o) → length (drop 1 symbols) + 1 ≡ length symbols
-operator_taken level (y ∷ ys) ending o h = omega arith
-operator_taken level [] None o h = cc
-operator_taken level [] (Some e) o h = cc
+operator_taken level symbols ending o h = grind arith
 
 -- ---- an operand
 
@@ -85,17 +79,11 @@ group_read most (Err e) h = h
 
 atom_ends : (n : ℕ) → Suffices n → (line : Line) (a : Option ℕ) → 24 * length line.symbols ≤ n
     → length (drop 1 line.symbols) + 1 ≡ length line.symbols → Ends (length line.symbols) (atom_by (read n) line a)
-atom_ends n enough line (Some k) room one = omega (arith, one)
-atom_ends n enough line None room one =
-    group_read (length line.symbols) (read n (Level 0) (after_next line))
-    (ends_below (length (drop 1 line.symbols)) (length line.symbols) (read n (Level 0) (after_next line)) (omega (arith, one))
-    (enough.level 0 (after_next line) (omega arith) (omega (arith, room, one))))
+atom_ends n h line a k e = grind (arith, ends_below)
 
 atom_kind : (n : ℕ) → Suffices n → (line : Line) (y : Option Symbol) (r : Result (Option ℕ) ExpressionFault) → atom_of y ≡ r → next line ≡ Ok y
     → 24 * length line.symbols ≤ n → Ends (length line.symbols) (at (length line.symbols) 4 r >>= atom_by (read n) line)
-atom_kind n enough line (Some z) (Ok a) out is room = atom_ends n enough line a room (taken line.symbols line.ending z is)
-atom_kind n enough line None (Ok a) out is room = cc
-atom_kind n enough line y (Err e) out is room = omega arith
+atom_kind n h line y r k e l = grind arith
 
 atom_read : (n : ℕ) → Suffices n → (line : Line) (r : Result (Option Symbol) ExpressionFault) → next line ≡ r → 24 * length line.symbols ≤ n
     → Ends (length line.symbols) (at (length line.symbols) 1 r >>= λ y. at (length line.symbols) 4 (atom_of y) >>= atom_by (read n) line)
@@ -104,21 +92,13 @@ atom_read n enough line (Err e) is room = omega arith
 
 operand_read : (n : ℕ) → Suffices n → (line : Line) (r : Result (Option Unary) ExpressionFault) → sign_at line ≡ r → 24 * length line.symbols ≤ n
     → Ends (length line.symbols) (at (length line.symbols) 1 r >>= operand_by (read n) line)
-operand_read n enough line (Ok (Some o)) is room =
-    let one = sign_taken line.symbols line.ending o is in
-    signed_operand (length line.symbols) o (read n Operand (after_next line))
-    (ends_below (length (drop 1 line.symbols)) (length line.symbols) (read n Operand (after_next line)) (omega (arith, one))
-    (enough.operand (after_next line) (omega (arith, room, one))))
-operand_read n enough line (Ok None) is room = atom_read n enough line (next line) refl room
-operand_read n enough line (Err e) is room = omega arith
+operand_read n h line r k e = grind (arith, read, ends_below, atom_read)
 
 -- ---- operators between operands
 
 loop_value : (n : ℕ) → Suffices n → (level : ℕ) (o : Binary) (most : ℕ) (y : ℤ × Line) (r : Result ℤ ExpressionFault) → level ≤ 9 → 24 * most ≤ n
     → length y.1.symbols < most → Ends (most + 1) (at (unread_at o y.1) 2 r >>= λ v. read n (Loop level v) y.1)
-loop_value n enough level o most y (Ok v) h room less =
-    ends_below (length y.1.symbols + 1) (most + 1) (read n (Loop level v) y.1) (omega (arith, less)) (enough.loop level v y.1 h (omega (arith, room, less)))
-loop_value n enough level o most y (Err e) h room less = omega arith
+loop_value n h level o most y r k e l = grind arith
 
 loop_right : (n : ℕ) → Suffices n → (level : ℕ) (o : Binary) (x : ℤ) (most : ℕ) (r : Outcome) → level ≤ 9 → 24 * most ≤ n → Ends most r
     → Ends (most + 1) (r >>= λ y. at (unread_at o y.1) 2 (binary_value o x y.0) >>= λ v. read n (Loop level v) y.1)
@@ -128,19 +108,11 @@ loop_right n enough level o x most (Err e) h room ends = ends
 loop_read : (n : ℕ) → Suffices n → (level : ℕ) (x : ℤ) (line : Line) (r : Result (Option Binary) ExpressionFault) → level ≤ 9
     → operator_at level line ≡ r → 24 * length line.symbols ≤ n
     → Ends (length line.symbols + 1) (at (length line.symbols) 1 r >>= loop_by (read n) level x line)
-loop_read n enough level x line (Ok None) h is room = omega arith
-loop_read n enough level x line (Ok (Some o)) h is room =
-    let one = operator_taken level line.symbols line.ending o is in
-    loop_right n enough level o x (length line.symbols) (read n (Level (level + 1)) (after_next line)) h room
-    (ends_below (length (drop 1 line.symbols)) (length line.symbols) (read n (Level (level + 1)) (after_next line)) (omega (arith, one))
-    (enough.level (level + 1) (after_next line) (omega arith) (omega (arith, room, one))))
-loop_read n enough level x line (Err e) h is room = omega arith
+loop_read n h level x line r k e l = grind (arith, read, ends_below)
 
 level_right : (n : ℕ) → Suffices n → (level most : ℕ) (r : Outcome) → level ≤ 9 → 24 * most + 3 ≤ n → Ends most r
     → Ends most (r >>= λ x. read n (Loop level x.0) x.1)
-level_right n enough level most (Ok x) h room ends =
-    ends_below (length x.1.symbols + 1) most (read n (Loop level x.0) x.1) (omega (arith, ends)) (enough.loop level x.0 x.1 h (omega (arith, room, ends)))
-level_right n enough level most (Err e) h room ends = ends
+level_right n h level most r k e l = grind arith
 
 level_read : (n : ℕ) → Suffices n → (level : ℕ) (line : Line) → level ≤ 10 → 24 * length line.symbols + 22 ≤ suc n + 2 * level
     → Ends (length line.symbols) (step (read n) (Level level) line)
@@ -151,16 +123,8 @@ level_read n enough level line h room = elim (dec_lt level 10) [
 ]
 
 suffices : (n : ℕ) → Suffices n
-suffices zero = record {
-  operand = λ line room. absurd (omega (arith, room));
-  level = λ level line h room. absurd (omega (arith, h, room));
-  loop = λ level x line h room. absurd (omega (arith, room));
-}
-suffices (suc n) = record {
-  operand = λ line room. operand_read n (suffices n) line (sign_at line) refl (omega (arith, room));
-  level = level_read n (suffices n);
-  loop = λ level x line h room. loop_read n (suffices n) level x line (operator_at level line) h refl (omega (arith, room));
-}
+suffices zero = grind arith
+suffices (suc n) = grind (arith, level_read, loop_read, operator_at, suffices n)
 
 -- ---- the outcome of a line
 

@@ -62,14 +62,7 @@ no_operand whole waiting line found a none h = operand_fault whole waiting line 
 -- an operand that was read to its end
 pub operand_read : (level : ℕ) (whole : Line) (waiting : List Pending) (start line : Line) (v : ℤ) → level ≤ 10
     → Awaits whole waiting start → Reads 10 10 start line v → HasOperand level whole waiting line v
-operand_read level whole waiting start line v low a r = record {
-  start = start;
-  awaits = a;
-  binding = 10;
-  wanted = wanted_low waiting;
-  tight = low;
-  reads = reads_stopped 10 10 11 start line v (stops_eleven line) r;
-}
+operand_read level whole waiting start line v low a r = grind (arith, wanted_low, stops_eleven)
 
 pub number_read : (whole : Line) (waiting : List Pending) (line : Line) (n : ℕ) → Awaits whole waiting line
     → located (length line.symbols) (atom_at line) ≡ Ok (Some n) → HasOperand 9 whole waiting (after_next line) (literal n)
@@ -80,14 +73,7 @@ number_read whole waiting line n a h =
 
 pub looser_operand : (level : ℕ) (whole : Line) (waiting : List Pending) (line : Line) (v : ℤ) → level ≤ 9
     → HasOperand 9 whole waiting line v → HasOperand level whole waiting line v
-looser_operand level whole waiting line v low h = record {
-  start = h.start;
-  awaits = h.awaits;
-  binding = h.binding;
-  wanted = h.wanted;
-  tight = omega (arith, h.tight);
-  reads = h.reads;
-}
+looser_operand level whole waiting line v low h = grind arith
 
 -- the whole expression of a level, with nothing of it after the line
 whole_operand : (level : ℕ) (whole : Line) (waiting : List Pending) (line : Line) (v : ℤ) (stop : ℕ) → Stops stop line

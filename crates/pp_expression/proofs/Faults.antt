@@ -1,5 +1,5 @@
 -- A fault seen from further out.
-use Rattle.std.proofs.Common.{◌≡◌, ℕ, ◌+◌, ◌≤◌, List, [], ◌∷◌, length, Option, Some, None, Result, Ok, Err, IsOk, ℤ, refl, ap, arith}
+use Rattle.std.proofs.Common.{◌≡◌, ℕ, ◌+◌, ◌≤◌, List, ◌∷◌, length, Option, Some, None, Result, Ok, Err, IsOk, ℤ, refl, arith}
 use Rattle.pp_lexer.specs.declared.token.Punct.TheVariants as mark
 use Rattle.pp_expression.specs.declared.symbol.Symbol.{Symbol}
 use Rattle.pp_expression.specs.declared.symbol.Symbol.TheVariants as symbol
@@ -28,28 +28,13 @@ here level line left order e fails valued = record {
 -- ---- what the next symbol is
 
 pub at_group : (x : Option Symbol) → atom_of x ≡ Ok None → x ≡ Some (symbol.Punct mark.LeftParen)
-at_group (Some (symbol.Punct mark.LeftParen)) h = refl
-at_group (Some (symbol.Punct _)) h = cc
-at_group (Some (symbol.Number n)) h = cc
-at_group (Some symbol.Fault) h = cc
-at_group (Some symbol.Other) h = cc
-at_group None h = cc
+at_group x h = grind arith
 
 pub at_number : (x : Option Symbol) (n : ℕ) → atom_of x ≡ Ok (Some n) → x ≡ Some (symbol.Number n)
-at_number (Some (symbol.Number m)) n h = let same : m ≡ n = cc in ap (λ (k : ℕ). Some (symbol.Number k)) same
-at_number (Some (symbol.Punct mark.LeftParen)) n h = cc
-at_number (Some (symbol.Punct _)) n h = cc
-at_number (Some symbol.Fault) n h = cc
-at_number (Some symbol.Other) n h = cc
-at_number None n h = cc
+at_number x n h = grind arith
 
 pub at_close : (x : Option Symbol) → closing x ≡ Ok tt → x ≡ Some (symbol.Punct mark.RightParen)
-at_close (Some (symbol.Punct mark.RightParen)) h = refl
-at_close (Some (symbol.Punct _)) h = cc
-at_close (Some (symbol.Number n)) h = cc
-at_close (Some symbol.Fault) h = cc
-at_close (Some symbol.Other) h = cc
-at_close None h = cc
+at_close x h = grind arith
 
 ok_is : {X : Type 0} (r : Result X ExpressionFault) (x : X) → r ≡ Ok x → IsOk r
 ok_is r x e = rw e refl
@@ -58,9 +43,7 @@ ok_is r x e = rw e refl
 
 signs_unread : (symbols : List Symbol) (ending : Option ExpressionFault) (e : ExpressionFault)
     → (next_of symbols ending >>= (λ x. Ok (sign_of x))) ≡ Err e → next_of symbols ending ≡ Err e
-signs_unread (x ∷ xs) ending e h = cc
-signs_unread [] None e h = cc
-signs_unread [] (Some d) e h = cc
+signs_unread symbols ending e h = grind arith
 
 pub sign_unread : (level : ℕ) (line : Line) (e : ExpressionFault) → sign_at line ≡ Err e → IsMet level line (length line.symbols) 1 e
 sign_unread level line e h = here level line (length line.symbols) 1 e (unread e (signs_unread line.symbols line.ending e h)) tt
@@ -175,9 +158,7 @@ looser level old left order e h =
 
 operator_unread : (level : ℕ) (symbols : List Symbol) (ending : Option ExpressionFault) (e : ExpressionFault)
     → (next_of symbols ending >>= (λ x. Ok (operator_of level x))) ≡ Err e → next_of symbols ending ≡ Err e
-operator_unread level (x ∷ xs) ending e h = cc
-operator_unread level [] None e h = cc
-operator_unread level [] (Some d) e h = cc
+operator_unread level symbols ending e h = grind arith
 
 pub not_read_after : (level : ℕ) (old mid : Line) (v : ℤ) (e : ExpressionFault) → level ≤ 9 → Reads level (level + 1) old mid v
     → operator_at level mid ≡ Err e → IsMet level old (length mid.symbols) 1 e

@@ -100,9 +100,7 @@ sign_none line x h s = rw (h, s) refl
 
 pub fails_settles : (level : ℕ) (line : Line) (left order : ℕ) (e : ExpressionFault) → level ≤ 10 → (fails : Fails level line left order e)
     → IsAfterValue fails → Settles (Level level) line (found left order e)
-fails_settles level line left order e h (unread kind is) ok =
-    let s : sign_at line ≡ Err kind = rw is refl in
-    up level line (spot (length line.symbols) 1 kind) h (operand_unread line kind s)
+fails_settles level line left order e h (unread kind is) ok = grind (arith, up, operand_unread)
 fails_settles level line left order e h (wrong x kind is s out) ok =
     up level line (spot (length line.symbols) 4 kind) h (operand_wrong line x kind (sign_none line x is s) is out)
 fails_settles level line left order e h (unread_after t rest kind low begins fits is) ok =
@@ -134,10 +132,7 @@ fails_settles level line left order e h (operated o l r rest x y kind begins fit
 front_settles : (c : Front) (level : ℕ) (here : Line) (e : Halt) → level ≤ 10 → FitsFront level c → HaveValues c
     → Settles (Level (wanted level c)) here (Err e) → Settles (Level level) (onto (front_spelling c) here) (Err e)
 front_settles Here level here e h is ok a = a
-front_settles (InGroup c) level here e h is ok a =
-    let inner = onto (front_spelling c) here in
-    up level (onto (symbol.Punct mark.LeftParen ∷ front_spelling c) here) e h
-    (operand_in_group (onto (symbol.Punct mark.LeftParen ∷ front_spelling c) here) e refl refl (front_settles c 0 here e (omega arith) is ok a))
+front_settles (InGroup c) level here e h is ok a = grind (arith, up, operand_in_group, front_settles c 0 here e (omega arith) is ok a)
 front_settles (InPrefix o c) level here e h is ok a =
     up level (onto (symbol.Punct (unary_punct o) ∷ front_spelling c) here) e h
     (operand_in_sign o (onto (symbol.Punct (unary_punct o) ∷ front_spelling c) here) e (sign_front o (front_spelling c) here)
@@ -159,8 +154,4 @@ wanted_low (InInfix o l c) level h = let low = low_operator o in wanted_low c (l
 
 pub fault_settles : (level : ℕ) (line : Line) (left order : ℕ) (e : ExpressionFault) → level ≤ 10 → IsMet level line left order e
     → Settles (Level level) line (found left order e)
-fault_settles level line left order e low h =
-    let possible = h.possible in
-    rw (line_is line possible.here (front_spelling possible.front) possible.begins)
-    (front_settles possible.front level possible.here (spot left order e) low possible.stands h.front
-    (fails_settles (wanted level possible.front) possible.here left order e (wanted_low possible.front level low) possible.fails h.operand))
+fault_settles level line left order e low h = grind (arith, front_settles, fails_settles, wanted_low)

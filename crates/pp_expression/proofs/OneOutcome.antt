@@ -1,5 +1,5 @@
 -- A line has one outcome: one value, or one first fault.
-use Rattle.std.proofs.Common.{◌≡◌, ℕ, ◌+◌, ◌-◌, ◌≤◌, drop, length, Result, Ok, Err, ℤ, ap, sym, ◌∙◌, arith, inl, inr, length-append}
+use Rattle.std.proofs.Common.{◌≡◌, ℕ, ◌+◌, ◌-◌, ◌≤◌, drop, length, Result, Ok, Err, ℤ, ap, sym, ◌∙◌, arith, length-append}
 use Rattle.std.proofs.Math.Seq.{drop-append_seam}
 use Rattle.pp_expression.specs.declared.symbol.Found.{Found}
 use Rattle.pp_expression.specs.declared.symbol.Value.{Value}
@@ -9,7 +9,7 @@ use Rattle.pp_expression.specs.FirstFault.{Before, IsFirst, IsValue, Evaluates}
 use Rattle.pp_expression.proofs.Run.{Halt, Outcome, Level, Settles, settles_once}
 use Rattle.pp_expression.proofs.Unique.{reads_settles}
 use Rattle.pp_expression.proofs.First.{spot, found}
-use Rattle.pp_expression.proofs.PossibleFaults.{Sooner, earlier, lower, exact, possible_by, no_fault}
+use Rattle.pp_expression.proofs.PossibleFaults.{Sooner, possible_by, no_fault}
 use Rattle.pp_expression.proofs.Sound.{found_met}
 
 -- An expression at the front of a line has one value, and one end.
@@ -24,11 +24,7 @@ one_value level line rest other_rest number other low a b =
 
 -- what is no later than a fault and no sooner is that fault
 not_sooner : (halt bound : Halt) → Before bound.left bound.order halt.left halt.order → Sooner halt bound → halt ≡ bound
-not_sooner halt bound (inl a) (earlier b) = absurd (omega arith)
-not_sooner halt bound (inr a) (earlier b) = absurd (omega (arith, a.0))
-not_sooner halt bound (inl a) (lower b c) = absurd (omega (arith, b))
-not_sooner halt bound (inr a) (lower b c) = absurd (omega (arith, a.1))
-not_sooner halt bound before (exact e) = e
+not_sooner halt bound h k = grind arith
 
 -- The run finds the first fault.
 first_settles : (level : ℕ) (line : Line) (fault : Found) → level ≤ 10 → (first : IsFirst level line fault)

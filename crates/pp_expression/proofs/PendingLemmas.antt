@@ -1,5 +1,5 @@
 -- What is pending, and operators computed within it.
-use Rattle.std.proofs.Common.{◌≡◌, ℕ, zero, suc, ◌+◌, ◌-◌, ◌≤◌, false, List, [], ◌∷◌, Option, Some, None, Result, Ok, Err, IsOk, ℤ, refl, ap, arith}
+use Rattle.std.proofs.Common.{◌≡◌, ℕ, zero, suc, ◌+◌, ◌-◌, ◌≤◌, false, List, [], ◌∷◌, Option, Some, None, Result, Ok, Err, IsOk, ℤ, arith}
 use Rattle.pp_expression.specs.declared.operator.Binary.{Binary}
 use Rattle.pp_expression.specs.declared.operator.Unary.{Unary}
 use Rattle.pp_expression.specs.declared.pending.Operator.{Operator}
@@ -7,10 +7,9 @@ use Rattle.pp_expression.specs.declared.pending.Operator.TheVariants as operator
 use Rattle.pp_expression.specs.declared.pending.Pending.{Pending}
 use Rattle.pp_expression.specs.declared.pending.Pending.TheVariants as pending
 use Rattle.pp_expression.specs.declared.symbol.Symbol.{Symbol}
-use Rattle.pp_expression.specs.declared.symbol.Symbol.TheVariants as symbol
 use Rattle.pp_expression.specs.declared.symbol.ExpressionFault.{ExpressionFault}
 use Rattle.pp_expression.specs.declared.symbol.Found.{Found}
-use Rattle.pp_expression.specs.Operators.{level_of, binary_of}
+use Rattle.pp_expression.specs.Operators.{level_of}
 use Rattle.pp_expression.specs.Answers.{◌>>=◌}
 use Rattle.pp_expression.specs.Lines.{Line, next_of, goes_on, Stops, Reads}
 use Rattle.pp_expression.specs.inner.Parsing.{after_next, binary_sign_of, binary_at, located, IsFault}
@@ -18,7 +17,7 @@ use Rattle.pp_expression.proofs.Levels.{operator_of, operator_at}
 use Rattle.pp_expression.specs.inner.Pending.{operator_level, operation, computed_at, right_level, wanted_in, Awaits, HasOperand}
 use Rattle.pp_expression.proofs.Trees.{operand_stops, read_looser, read_signed, read_operation}
 use Rattle.pp_expression.proofs.Steps as steps
-use Rattle.pp_expression.proofs.Unique.{low_operator, level_same, loosest, stops_above, stops_more}
+use Rattle.pp_expression.proofs.Unique.{low_operator, stops_above, stops_more}
 
 -- ---- levels
 
@@ -34,13 +33,7 @@ reads_looser level top stop old new v le r = reads_looser_by (top - level) level
 -- the same expression, known to be over there in another way
 pub reads_stopped : (level stop other : ℕ) (old new : Line) (v : ℤ) → Stops other new → Reads level stop old new v
     → Reads level other old new v
-reads_stopped level stop other old new v stops r = record {
-  tree = r.tree;
-  begins = r.begins;
-  fits = r.fits;
-  valued = r.valued;
-  stops = stops;
-}
+reads_stopped level stop other old new v stops r = grind arith
 
 fault_looser_by : (d level top : ℕ) (old : Line) (found : Found) → top ≡ level + d → IsFault top old found → IsFault level old found
 fault_looser_by zero level top old found e h = let same : level ≡ top = omega arith in rw same h
@@ -54,9 +47,7 @@ right_low (operator.Prefix unary) = omega arith
 right_low (operator.Infix binary left) = let low = low_operator binary in omega arith
 
 pub wanted_low : (waiting : List Pending) → wanted_in waiting ≤ 10
-wanted_low [] = omega arith
-wanted_low (pending.Group ∷ around) = omega arith
-wanted_low (pending.Operator op ∷ around) = right_low op
+wanted_low waiting = grind (arith, right_low)
 
 -- an operand alone is over without a look at what comes next
 pub stops_eleven : (line : Line) → Stops 11 line
@@ -68,14 +59,7 @@ operator_here : (symbols : List Symbol) (ending : Option ExpressionFault) (o : B
     → (next_of symbols ending >>= (λ x. Ok (binary_sign_of x))) ≡ Ok (Some o)
     → ((next_of symbols ending >>= (λ x. Ok (operator_of (level_of o) x))) ≡ Ok (Some o)) × IsOk (next_of symbols ending)
     × (goes_on (level_of o + 1) symbols ≡ false)
-operator_here (symbol.Punct q ∷ ys) ending o e =
-    let is : binary_of q ≡ Some o = cc in
-    (rw is (ap Ok (level_same (level_of o) o refl)), refl, rw is (loosest (level_of o) o refl))
-operator_here (symbol.Number n ∷ ys) ending o e = cc
-operator_here (symbol.Fault ∷ ys) ending o e = cc
-operator_here (symbol.Other ∷ ys) ending o e = cc
-operator_here [] None o e = cc
-operator_here [] (Some d) o e = cc
+operator_here symbols ending o h = grind arith
 
 pub operator_stands : (line : Line) (o : Binary) → binary_at line ≡ Ok (Some o) → operator_at (level_of o) line ≡ Ok (Some o)
 operator_stands line o e = (operator_here line.symbols line.ending o e).0
@@ -86,12 +70,7 @@ operator_stops line o e = let is = operator_here line.symbols line.ending o e in
 over_here : (symbols : List Symbol) (ending : Option ExpressionFault)
     → (next_of symbols ending >>= (λ x. Ok (binary_sign_of x))) ≡ Ok None
     → IsOk (next_of symbols ending) × (goes_on 0 symbols ≡ false)
-over_here (symbol.Punct q ∷ ys) ending e = let is : binary_of q ≡ None = cc in (refl, rw is refl)
-over_here (symbol.Number n ∷ ys) ending e = (refl, refl)
-over_here (symbol.Fault ∷ ys) ending e = (refl, refl)
-over_here (symbol.Other ∷ ys) ending e = (refl, refl)
-over_here [] None e = (refl, refl)
-over_here [] (Some d) e = cc
+over_here symbols ending h = grind arith
 
 pub end_stops : (line : Line) → binary_at line ≡ Ok None → Stops 0 line
 end_stops line e = let is = over_here line.symbols line.ending e in record { known = λ h. is.0; over = is.1 }

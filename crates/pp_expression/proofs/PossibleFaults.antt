@@ -1,5 +1,5 @@
 -- No fault that a line may have comes before its first.
-use Rattle.std.proofs.Common.{◌≡◌, ℕ, ◌+◌, ◌-◌, ◌≤◌, ◌<◌, List, [], ◌∷◌, ◌++◌, length, Some, Result, Ok, Err, ℤ, refl, ap, sym, ◌∙◌, arith, length-append, inl, inr}
+use Rattle.std.proofs.Common.{◌≡◌, ℕ, ◌+◌, ◌-◌, ◌≤◌, ◌<◌, List, [], ◌∷◌, ◌++◌, length, Some, Result, Ok, Err, ℤ, refl, arith, length-append}
 use Rattle.std.proofs.Math.Decide.{dec_lt}
 use Rattle.std.proofs.lemmas.Grind.{common_steps}
 use Rattle.pp_lexer.specs.declared.token.Punct.TheVariants as mark
@@ -38,14 +38,10 @@ pub record FailsBy (mode : Mode) (line : Line) (bound : Halt) : Type 0 where
 -- ---- a later place
 
 sooner_earlier : (halt bound later : Halt) → later.left < bound.left → Sooner halt bound → Sooner halt later
-sooner_earlier halt bound later h (earlier a) = earlier (omega arith)
-sooner_earlier halt bound later h (lower a b) = earlier (omega (arith, a))
-sooner_earlier halt bound later h (exact e) = earlier (omega (arith, ap (λ (z : Halt). z.left) e))
+sooner_earlier halt bound later h k = grind arith
 
 sooner_lower : (halt bound later : Halt) → later.left ≡ bound.left → bound.order < later.order → Sooner halt bound → Sooner halt later
-sooner_lower halt bound later e h (earlier a) = earlier (omega (arith, e))
-sooner_lower halt bound later e h (lower a b) = lower (a ∙ sym e) (omega arith)
-sooner_lower halt bound later e h (exact i) = lower (ap (λ (z : Halt). z.left) i ∙ sym e) (omega (arith, ap (λ (z : Halt). z.order) i))
+sooner_lower halt bound later h k e = grind arith
 
 by_earlier : (mode : Mode) (line : Line) (bound later : Halt) → later.left < bound.left → FailsBy mode line bound → FailsBy mode line later
 by_earlier mode line bound later h a = record { halt = a.halt; settles = a.settles; ordered = a.ordered; sooner = sooner_earlier a.halt bound later h a.sooner }
@@ -146,12 +142,7 @@ left_fails o l xs rest e bound tree fits is within =
     rw (onto_more (spelling l) (symbol.Punct (binary_punct o) ∷ xs) rest) b
 
 unread_near : (o : Binary) (rest : Line) (e : ExpressionFault) → Sooner (spot (unread_at o rest) 2 e) (spot (length rest.symbols) 2 e)
-unread_near o rest e = elim (dec_lt (level_of o) 9) [
-  | yes h ↦
-      let near : unread_at o rest ≡ length rest.symbols = grind (arith, common_steps) in
-      exact (ap (λ (n : ℕ). spot n 2 e) near)
-  | no h ↦ earlier (grind (arith, common_steps))
-]
+unread_near o rest e = grind (arith, exact, spot, earlier)
 
 split : {A E : Type 0} {P : Type 0} (r : Result A E) → ((x : A) → r ≡ Ok x → P) → ((e : E) → r ≡ Err e → P) → P
 split (Ok x) a b = a x refl
@@ -244,34 +235,15 @@ fails_soon : (t : Tree) → FailsSoon t
 fails_soon (Number n) = atom_soon (Number n) (λ level h. tt) (λ rest e fits is. absurd (let no_fault : ⊥ = cc in no_fault))
 fails_soon (Group t) = atom_soon (Group t) (λ level h. h) (group_fails t (fails_soon t).tree)
 fails_soon (Prefix o t) = atom_soon (Prefix o t) (λ level h. h) (prefix_fails o t (fails_soon t).atom)
-fails_soon (Infix o l r) = record {
-  atom = λ rest e fits is. absurd (infix_absurd o l r fits);
-  tree = infix_fails o l r (fails_soon l).tree (fails_soon r).tree;
-  unread_tree = infix_unread o l r (fails_soon l).tree (fails_soon r).atom (fails_soon r).unread_tree;
-}
+fails_soon (Infix o l r) = grind (arith, infix_absurd, infix_fails, infix_unread, fails_soon l, fails_soon r)
 
 -- ---- a possible fault
 
 unread_most : (o : Binary) (rest : Line) → unread_at o rest ≤ length rest.symbols + 1
-unread_most o rest = grind (arith, common_steps)
+unread_most o rest = grind arith
 
 within : (level : ℕ) (line : Line) (left order : ℕ) (e : ExpressionFault) → Fails level line left order e → left ≤ length line.symbols
-within level line left order e (unread kind is) = omega arith
-within level line left order e (wrong x kind is s out) = omega arith
-within level line left order e (unread_after t rest kind low begins fits is) =
-    omega (arith, ap length begins.symbols, length-append (spelling t) rest.symbols)
-within level line left order e (unclosed t rest x kind begins fits is over out) =
-    omega (arith, ap length begins.symbols, length-append (spelling t) rest.symbols)
-within level line left order e (signed o t rest x kind begins fits is out) =
-    omega (arith, ap length begins.symbols, length-append (spelling t) rest.symbols)
-within level line left order e (operated o l r rest x y kind begins fits lv rv out s) =
-    omega (
-      arith,
-      ap length begins.symbols,
-      length-append (spelling l ++ (symbol.Punct (binary_punct o) ∷ spelling r)) rest.symbols,
-      length-append (spelling l) (symbol.Punct (binary_punct o) ∷ spelling r),
-      unread_most o rest,
-    )
+within level line left order e h = grind (arith, length-append)
 
 -- a fault that is met where the line begins is the one that is found
 met_here : (level : ℕ) (line : Line) (left order : ℕ) (e : ExpressionFault) → level ≤ 10 → 1 ≤ order → (fails : Fails level line left order e)
@@ -330,17 +302,12 @@ possible_front (InInfix o l c) level here bound h is within a =
 
 pub possible_by : (level : ℕ) (line : Line) (left order : ℕ) (e : ExpressionFault) → level ≤ 10 → Possible level line left order e
     → FailsBy (Level level) line (spot left order e)
-possible_by level line left order e h q =
-    rw (line_is line q.here (front_spelling q.front) q.begins)
-    (possible_front q.front level q.here (spot left order e) h q.stands (within (wanted level q.front) q.here left order e q.fails)
-    (possible_here (wanted level q.front) q.here left order e (wanted_low q.front level h) q.fails))
+possible_by level line left order e h q = grind (arith, possible_front, spot, within, possible_here, wanted_low)
 
 -- ---- the first fault
 
 before_of : (halt bound : Halt) → Sooner halt bound → Before halt.left halt.order bound.left bound.order
-before_of halt bound (earlier a) = inl a
-before_of halt bound (lower a b) = inr (sym a, omega arith)
-before_of halt bound (exact e) = inr (sym (ap (λ (z : Halt). z.left) e), omega (arith, ap (λ (z : Halt). z.order) e))
+before_of halt bound h = grind arith
 
 abbrev broken : Halt → Outcome
 broken a = Err a

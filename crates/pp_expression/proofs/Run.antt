@@ -1,6 +1,5 @@
 -- A parser with a function for each level, as a function on lines, with turns enough. Each outcome of the definitions is its outcome, so a line has one.
 use Rattle.std.proofs.Common.{◌≡◌, ℕ, zero, suc, ◌+◌, ◌≤◌, false, nat_le, length, Option, Some, None, Result, Ok, Err, ℤ, refl, sym, ◌∙◌, arith, if◌then◌else◌}
-use Rattle.std.proofs.lemmas.Grind.{common_steps}
 use Rattle.pp_lexer.specs.declared.token.Punct.TheVariants as mark
 use Rattle.pp_expression.specs.declared.symbol.Symbol.{Symbol}
 use Rattle.pp_expression.specs.declared.symbol.Symbol.TheVariants as symbol
@@ -76,7 +75,7 @@ pub settles_once : (mode : Mode) (line : Line) (a b : Outcome) → Settles mode 
 settles_once mode line a b x y = sym (x.settled (x.enough + y.enough) (omega arith)) ∙ y.settled (x.enough + y.enough) (omega arith)
 
 pub low : (level : ℕ) → level ≤ 9 → nat_le 10 level ≡ false
-low level h = grind (arith, common_steps)
+low level h = grind arith
 
 -- ---- one turn of each kind
 

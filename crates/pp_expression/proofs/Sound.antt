@@ -1,15 +1,12 @@
 -- What the run gives is a tree's value, or a fault that is met on the line.
-use Rattle.std.proofs.Common.{◌≡◌, ℕ, zero, suc, ◌+◌, ◌≤◌, false, List, [], ◌∷◌, length, Option, Some, None, Result, Ok, Err, IsOk, ℤ, refl, ap, ◌∙◌, arith, ◌⊎◌, inl, inr}
+use Rattle.std.proofs.Common.{◌≡◌, ℕ, zero, suc, ◌+◌, ◌≤◌, false, List, length, Option, Some, None, Result, Ok, Err, IsOk, ℤ, refl, ap, ◌∙◌, arith, ◌⊎◌, inl, inr}
 use Rattle.std.specs.Prelude.{MatchResult}
-use Rattle.std.proofs.Math.Decide.{dec_lt}
-use Rattle.std.proofs.lemmas.Grind.{common_steps}
 use Rattle.pp_lexer.specs.declared.token.Punct.TheVariants as mark
 use Rattle.pp_expression.specs.declared.symbol.Symbol.{Symbol}
 use Rattle.pp_expression.specs.declared.symbol.Symbol.TheVariants as symbol
 use Rattle.pp_expression.specs.declared.operator.Unary.{Unary}
 use Rattle.pp_expression.specs.declared.operator.Binary.{Binary}
 use Rattle.pp_expression.specs.declared.symbol.ExpressionFault.{ExpressionFault}
-use Rattle.pp_expression.specs.Operators.{binary_of}
 use Rattle.pp_expression.specs.Arithmetic.{unary_value, binary_value}
 use Rattle.pp_expression.specs.Answers.{◌>>=◌}
 use Rattle.pp_expression.specs.Lines.{Line, next, next_of, goes_on, Reads}
@@ -20,7 +17,7 @@ use Rattle.pp_expression.proofs.Levels.{of_level, operator_of, operator_at}
 use Rattle.pp_expression.proofs.Trees.{read_number, read_group, read_signed, read_looser, read_operation}
 use Rattle.pp_expression.proofs.Faults.{here, at_group, at_number, at_close, sign_unread, not_begun, in_group, not_closed, in_sign, sign_fails, looser, not_read_after, in_right, operation_fails}
 use Rattle.pp_expression.proofs.Steps.{no_fault_after}
-use Rattle.pp_expression.proofs.Run.{Halt, Outcome, Turn, Operand, Level, Loop, at, atom_by, operand_by, loop_by, step, read, low, Settles}
+use Rattle.pp_expression.proofs.Run.{Halt, Outcome, Turn, Operand, Level, Loop, at, atom_by, operand_by, loop_by, step, read, Settles}
 
 -- a tree of the level with its value, a fault of the line, or too few turns
 abbrev pub Sees : ℕ → Line → Outcome → Type 0
@@ -85,32 +82,20 @@ operand_read turn sound line (Err e) is = inr (sign_unread 10 line e is)
 -- ---- operators between operands
 
 binds_here : (level : ℕ) (m : Option Binary) → binds_from (level + 1) m ≡ false → of_level level m ≡ None → binds_from level m ≡ false
-binds_here level (Some o) h none = grind (arith, common_steps)
+binds_here level (Some o) h none = grind arith
 binds_here level None h none = refl
 
 over_here : (level : ℕ) (symbols : List Symbol) (ending : Option ExpressionFault) → goes_on (level + 1) symbols ≡ false
     → (next_of symbols ending >>= (λ x. Ok (operator_of level x))) ≡ Ok None → goes_on level symbols ≡ false
-over_here level (symbol.Punct q ∷ xs) ending h none = let here : of_level level (binary_of q) ≡ None = cc in binds_here level (binary_of q) h here
-over_here level (symbol.Number n ∷ xs) ending h none = refl
-over_here level (symbol.Fault ∷ xs) ending h none = refl
-over_here level (symbol.Other ∷ xs) ending h none = refl
-over_here level [] ending h none = refl
+over_here level symbols ending h k = grind arith
 
 known_here : (level : ℕ) (symbols : List Symbol) (ending : Option ExpressionFault)
     → (next_of symbols ending >>= (λ x. Ok (operator_of level x))) ≡ Ok None → IsOk (next_of symbols ending)
-known_here level (x ∷ xs) ending none = refl
-known_here level [] None none = refl
-known_here level [] (Some e) none = cc
+known_here level symbols ending h = grind arith
 
 -- a left operand without an operator after it is the whole expression of the level
 finished : (level : ℕ) (start line : Line) (x : ℤ) → Reads level (level + 1) start line x → operator_at level line ≡ Ok None → Reads level level start line x
-finished level start line x reads none = record {
-  tree = reads.tree;
-  begins = reads.begins;
-  fits = reads.fits;
-  valued = reads.valued;
-  stops = record { known = λ h. known_here level line.symbols line.ending none; over = over_here level line.symbols line.ending reads.stops.over none };
-}
+finished level start line x reads none = grind arith
 
 loop_value : (turn : Turn) → IsSound turn → (level : ℕ) (o : Binary) (x : ℤ) (start line : Line) (y : ℤ × Line) (r : Result ℤ ExpressionFault)
     → level ≤ 9 → binary_value o x y.0 ≡ r → operator_at level line ≡ Ok (Some o) → Reads level (level + 1) start line x
@@ -139,11 +124,7 @@ level_right turn sound level line (Ok x) h sees = sound.loop level x.0 line x.1 
 level_right turn sound level line (Err e) h sees = deeper (looser level line e.left e.order e.kind) sees
 
 level_read : (turn : Turn) → IsSound turn → (level : ℕ) (line : Line) → level ≤ 10 → Sees level line (step turn (Level level) line)
-level_read turn sound level line h = elim (dec_lt level 10) [
-  | yes below ↦ rw (low level (omega arith)) (level_right turn sound level line (turn (Level (level + 1)) line) (omega arith)
-      (sound.level (level + 1) line (omega arith)))
-  | no above ↦ let ten : level ≡ 10 = omega (arith, above) in rw ten (sound.operand line)
-]
+level_read turn sound level line h = grind (arith, level_right)
 
 sound : (n : ℕ) → IsSound (read n)
 sound zero = record { operand = λ line. inl refl; level = λ level line h. inl refl; loop = λ level x start line h reads. inl refl }

@@ -1,5 +1,5 @@
 -- Each step of the evaluator, as what it gives.
-use Rattle.std.proofs.Common.{◌≡◌, ℕ, ◌+◌, ◌≤◌, length, Option, Some, None, Result, Ok, Err, ℤ, ap, ◌∙◌, arith}
+use Rattle.std.proofs.Common.{◌≡◌, ℕ, ◌+◌, ◌≤◌, length, Option, Some, None, Result, Ok, Err, ℤ, ap, arith}
 use Rattle.pp_lexer.specs.declared.token.Punct.TheVariants as mark
 use Rattle.pp_expression.specs.declared.symbol.Symbol.{Symbol}
 use Rattle.pp_expression.specs.declared.symbol.Symbol.TheVariants as symbol
@@ -23,11 +23,7 @@ located_ok left (Err e) x h = cc
 
 -- a fault is one without its place
 pub located_err : {A : Type 0} (left : ℕ) (r : Result A ExpressionFault) (e : Found) → located left r ≡ Err e → (r ≡ Err e.kind) × (left ≡ e.left)
-located_err left (Ok y) e h = cc
-located_err left (Err k) e h =
-    let make : Found = record { kind = k; left = left } in
-    let same : make ≡ e = cc in
-    (ap (λ (z : Found). Err z.kind) same, ap (λ (z : Found). z.left) same)
+located_err left r e h = grind arith
 
 -- a fault that is met, at its place
 fault_at : (level : ℕ) (line : Line) (left order : ℕ) (e : Found) → left ≡ e.left → IsMet level line left order e.kind → IsFault level line e
@@ -39,25 +35,16 @@ atom_is : (r : Result (Option Symbol) ExpressionFault) (a : Option ℕ) → (r >
 atom_is r a h = bind_ok r atom_of a h
 
 pub opens : (line : Line) → located (length line.symbols) (atom_at line) ≡ Ok None → next line ≡ Ok (Some (symbol.Punct mark.LeftParen))
-opens line h =
-    let x = atom_is (next line) None (located_ok (length line.symbols) (atom_at line) None h) in
-    x.1 ∙ ap Ok (faults.at_group x.0 x.2)
+opens line h = grind arith
 
 pub numbers : (line : Line) (n : ℕ) → located (length line.symbols) (atom_at line) ≡ Ok (Some n) → next line ≡ Ok (Some (symbol.Number n))
-numbers line n h =
-    let x = atom_is (next line) (Some n) (located_ok (length line.symbols) (atom_at line) (Some n) h) in
-    x.1 ∙ ap Ok (faults.at_number x.0 n x.2)
+numbers line n h = grind arith
 
 pub closes : (line : Line) → located (length line.symbols) (closing_at line) ≡ Ok tt → next line ≡ Ok (Some (symbol.Punct mark.RightParen))
-closes line h =
-    let x = bind_ok (next line) closing tt (located_ok (length line.symbols) (closing_at line) tt h) in
-    x.1 ∙ ap Ok (faults.at_close x.0 x.2)
+closes line h = grind arith
 
 pub no_fault_after : (line mid : Line) (v : ℤ) (e : ExpressionFault) → Reads 0 0 line mid v → next mid ≡ Err e → ⊥
-no_fault_after line mid v e r h =
-    let known = r.stops.known (omega arith) in
-    let never = rw h at known in
-    cc
+no_fault_after line mid v e r h = grind arith
 
 unread_sign : (symbols : Line) (e : ExpressionFault) → next symbols ≡ Err e → sign_at symbols ≡ Ok None → ⊥
 unread_sign line e h s = let none : Err e ≡ Ok None = rw h at s in cc

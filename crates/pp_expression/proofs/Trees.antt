@@ -1,12 +1,10 @@
 -- What stands at the front of a line, and trees read one operator further.
-use Rattle.std.proofs.Common.{◌≡◌, ℕ, ◌+◌, ◌≤◌, false, List, [], ◌∷◌, ◌++◌, drop, Option, Some, None, Ok, ℤ, refl, sym, ap, ◌∙◌, arith, append_assoc}
-use Rattle.std.proofs.lemmas.Grind.{common_steps}
+use Rattle.std.proofs.Common.{◌≡◌, ℕ, ◌+◌, ◌≤◌, false, List, [], ◌∷◌, ◌++◌, drop, Option, Some, None, Ok, ℤ, refl, ap, ◌∙◌, arith, append_assoc}
 use Rattle.pp_lexer.specs.declared.token.Punct.{Punct}
 use Rattle.pp_lexer.specs.declared.token.Punct.TheVariants as mark
 use Rattle.pp_expression.specs.declared.symbol.Symbol.{Symbol}
 use Rattle.pp_expression.specs.declared.symbol.Symbol.TheVariants as symbol
 use Rattle.pp_expression.specs.declared.operator.Unary.{Unary}
-use Rattle.pp_expression.specs.declared.operator.Unary.TheVariants as unary
 use Rattle.pp_expression.specs.declared.operator.Binary.{Binary}
 use Rattle.pp_expression.specs.declared.operator.Binary.TheVariants as binary
 use Rattle.pp_expression.specs.declared.symbol.ExpressionFault.{ExpressionFault}
@@ -25,45 +23,21 @@ same_unary a o e = let h : a ≡ o = cc in ap unary_punct h
 
 unary_inverse : (p : Punct) (o : Unary) → unary_of p ≡ Some o → p ≡ unary_punct o
 unfolding unary_punct
-unary_inverse mark.Plus o e = same_unary unary.Plus o e
-unary_inverse mark.Minus o e = same_unary unary.Minus o e
-unary_inverse mark.Bang o e = same_unary unary.Not o e
-unary_inverse mark.Tilde o e = same_unary unary.Complement o e
-unary_inverse _ o e = cc
+unary_inverse p o h = grind arith
 
 same_binary : (a o : Binary) → Some a ≡ Some o → binary_punct a ≡ binary_punct o
 same_binary a o e = let h : a ≡ o = cc in ap binary_punct h
 
 binary_inverse : (p : Punct) (o : Binary) → binary_of p ≡ Some o → p ≡ binary_punct o
 unfolding binary_punct
-binary_inverse mark.Star o e = same_binary binary.Multiply o e
-binary_inverse mark.Slash o e = same_binary binary.Divide o e
-binary_inverse mark.Percent o e = same_binary binary.Remainder o e
-binary_inverse mark.Plus o e = same_binary binary.Add o e
-binary_inverse mark.Minus o e = same_binary binary.Subtract o e
-binary_inverse mark.LeftShift o e = same_binary binary.ShiftLeft o e
-binary_inverse mark.RightShift o e = same_binary binary.ShiftRight o e
-binary_inverse mark.LeftAngle o e = same_binary binary.Less o e
-binary_inverse mark.RightAngle o e = same_binary binary.Greater o e
-binary_inverse mark.LessEqual o e = same_binary binary.LessEqual o e
-binary_inverse mark.GreaterEqual o e = same_binary binary.GreaterEqual o e
-binary_inverse mark.EqualEqual o e = same_binary binary.Equal o e
-binary_inverse mark.NotEqual o e = same_binary binary.NotEqual o e
-binary_inverse mark.Ampersand o e = same_binary binary.And o e
-binary_inverse mark.Caret o e = same_binary binary.Xor o e
-binary_inverse mark.Pipe o e = same_binary binary.Or o e
-binary_inverse mark.LogicalAnd o e = same_binary binary.LogicalAnd o e
-binary_inverse mark.LogicalOr o e = same_binary binary.LogicalOr o e
-binary_inverse _ o e = cc
+binary_inverse p o h = grind arith
 
 -- the symbols after their first, x
 abbrev pub IsFirstOf : List Symbol → Symbol → Type 0
 IsFirstOf symbols x = symbols ≡ x ∷ drop 1 symbols
 
 pub next_is : (symbols : List Symbol) (ending : Option ExpressionFault) (x : Symbol) → next_of symbols ending ≡ Ok (Some x) → IsFirstOf symbols x
-next_is (y ∷ ys) ending x e = let h : y ≡ x = cc in ap (λ (z : Symbol). z ∷ ys) h
-next_is [] None x e = cc
-next_is [] (Some d) x e = cc
+next_is symbols ending x h = grind arith
 
 sign_at_front : (symbols : List Symbol) (ending : Option ExpressionFault) (o : Unary)
     → (next_of symbols ending >>= (λ x. Ok (sign_of x))) ≡ Ok (Some o) → IsFirstOf symbols (symbol.Punct (unary_punct o))
@@ -81,7 +55,7 @@ pub sign_is : (line : Line) (o : Unary) → sign_at line ≡ Ok (Some o) → IsF
 sign_is line o e = sign_at_front line.symbols line.ending o e
 
 of_level_is : (level : ℕ) (m : Option Binary) (o : Binary) → of_level level m ≡ Some o → (m ≡ Some o) × (level_of o ≡ level)
-of_level_is level (Some a) o e = grind (arith, common_steps)
+of_level_is level (Some a) o e = grind arith
 of_level_is level None o e = cc
 
 operator_at_front : (level : ℕ) (symbols : List Symbol) (ending : Option ExpressionFault) (o : Binary)
@@ -108,15 +82,11 @@ loose binary.Multiply = omega arith
 loose _ = omega arith
 
 binds_none : (m : Option Binary) → binds_from 10 m ≡ false
-binds_none (Some o) = let h = loose o in grind (arith, common_steps)
+binds_none (Some o) = let h = loose o in grind arith
 binds_none None = refl
 
 over_operand : (symbols : List Symbol) → goes_on 10 symbols ≡ false
-over_operand [] = refl
-over_operand (symbol.Number n ∷ xs) = refl
-over_operand (symbol.Fault ∷ xs) = refl
-over_operand (symbol.Other ∷ xs) = refl
-over_operand (symbol.Punct q ∷ xs) = binds_none (binary_of q)
+over_operand symbols = grind (arith, binds_none)
 
 pub operand_stops : (line : Line) → Stops 10 line
 operand_stops line = record { known = λ h. absurd (omega arith); over = over_operand line.symbols }
@@ -133,10 +103,7 @@ begins_next x xs old new first b = record { symbols = first ∙ ap (λ (ys : Lis
 
 -- what comes first, and then the rest
 pub begins_then : (xs ys : List Symbol) (old mid new : Line) → Begins old xs mid → Begins mid ys new → Begins old (xs ++ ys) new
-begins_then xs ys old mid new a b = record {
-  symbols = a.symbols ∙ ap (λ (zs : List Symbol). xs ++ zs) b.symbols ∙ sym (append_assoc xs ys new.symbols);
-  ending = b.ending ∙ a.ending;
-}
+begins_then xs ys old mid new a b = grind (arith, append_assoc)
 
 pub read_number : (old : Line) (n : ℕ) → next old ≡ Ok (Some (symbol.Number n)) → Reads 10 10 old (after_next old) (literal n)
 read_number old n e = record {
@@ -174,13 +141,7 @@ read_signed o old new x v sign r e =
     }
 
 pub read_looser : (level stop : ℕ) (old new : Line) (v : ℤ) → Reads (level + 1) stop old new v → Reads level stop old new v
-read_looser level stop old new v r = record {
-  tree = r.tree;
-  begins = r.begins;
-  fits = fits_looser level r.tree r.fits;
-  valued = r.valued;
-  stops = r.stops;
-}
+read_looser level stop old new v r = grind (arith, fits_looser)
 
 -- the symbols of an operation, from those of its operands
 pub operation_begins : (level : ℕ) (o : Binary) (old mid new : Line) (x y : ℤ) → (left : Reads level (level + 1) old mid x)

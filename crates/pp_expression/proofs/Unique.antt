@@ -1,7 +1,6 @@
 -- A tree's symbols are read as that tree, and a fault's symbols up to that fault.
-use Rattle.std.proofs.Common.{◌≡◌, ℕ, zero, suc, ◌+◌, ◌-◌, ◌≤◌, false, List, [], ◌∷◌, ◌++◌, Option, Some, None, Result, Ok, Err, IsOk, ℤ, refl, sym, ap, ◌∙◌, arith, append_assoc}
+use Rattle.std.proofs.Common.{◌≡◌, ℕ, zero, suc, ◌+◌, ◌-◌, ◌≤◌, false, List, [], ◌∷◌, ◌++◌, Option, Some, None, Result, Ok, Err, IsOk, ℤ, refl, ap, arith, append_assoc}
 use Rattle.std.proofs.Math.Decide.{dec_lt}
-use Rattle.std.proofs.lemmas.Grind.{common_steps}
 use Rattle.pp_lexer.specs.declared.token.Punct.TheVariants as mark
 use Rattle.pp_expression.specs.declared.symbol.Symbol.{Symbol}
 use Rattle.pp_expression.specs.declared.symbol.Symbol.TheVariants as symbol
@@ -41,7 +40,7 @@ pub sign_front : (o : Unary) (xs : List Symbol) (rest : Line) → sign_at (onto 
 sign_front o xs rest = ap Ok (unary_again o)
 
 pub level_same : (level : ℕ) (o : Binary) → level_of o ≡ level → of_level level (Some o) ≡ Some o
-level_same level o e = grind (arith, common_steps)
+level_same level o e = grind arith
 
 pub operator_front : (level : ℕ) (o : Binary) (xs : List Symbol) (rest : Line) → level_of o ≡ level
     → operator_at level (onto (symbol.Punct (binary_punct o) ∷ xs) rest) ≡ Ok (Some o)
@@ -50,15 +49,11 @@ operator_front level o xs rest e = rw (binary_again o) (ap Ok (level_same level 
 -- ---- where an expression is over
 
 binds_more : (level : ℕ) (m : Option Binary) → binds_from level m ≡ false → binds_from (level + 1) m ≡ false
-binds_more level (Some o) h = grind (arith, common_steps)
+binds_more level (Some o) h = grind arith
 binds_more level None h = refl
 
 pub over_more : (level : ℕ) (symbols : List Symbol) → goes_on level symbols ≡ false → goes_on (level + 1) symbols ≡ false
-over_more level [] h = refl
-over_more level (symbol.Number n ∷ xs) h = refl
-over_more level (symbol.Fault ∷ xs) h = refl
-over_more level (symbol.Other ∷ xs) h = refl
-over_more level (symbol.Punct q ∷ xs) h = binds_more level (binary_of q) h
+over_more level symbols h = grind arith
 
 pub stops_more : (level : ℕ) (line : Line) → Stops level line → Stops (level + 1) line
 stops_more level line s = record { known = λ h. s.known (omega arith); over = over_more level line.symbols s.over }
@@ -68,23 +63,18 @@ stops_above zero level top line e s = let same : top ≡ level = omega arith in 
 stops_above (suc d) level top line e s = stops_above d (level + 1) top line (omega arith) (stops_more level line s)
 
 binds_at : (level : ℕ) (m : Option Binary) → binds_from level m ≡ false → of_level level m ≡ None
-binds_at level (Some o) h = grind (arith, common_steps)
+binds_at level (Some o) h = grind arith
 binds_at level None h = refl
 
 none_at : (level : ℕ) (symbols : List Symbol) (ending : Option ExpressionFault) → IsOk (next_of symbols ending) → goes_on level symbols ≡ false
     → (next_of symbols ending >>= (λ x. Ok (operator_of level x))) ≡ Ok None
-none_at level (symbol.Punct q ∷ xs) ending k h = ap Ok (binds_at level (binary_of q) h)
-none_at level (symbol.Number n ∷ xs) ending k h = refl
-none_at level (symbol.Fault ∷ xs) ending k h = refl
-none_at level (symbol.Other ∷ xs) ending k h = refl
-none_at level [] None k h = refl
-none_at level [] (Some d) k h = cc
+none_at level symbols ending h k = grind arith
 
 pub stops_none : (level : ℕ) (line : Line) → level ≤ 9 → Stops level line → operator_at level line ≡ Ok None
 stops_none level line h s = none_at level line.symbols line.ending (s.known h) s.over
 
 pub loosest : (level : ℕ) (o : Binary) → level_of o ≡ level → binds_from (level + 1) (Some o) ≡ false
-loosest level o e = grind (arith, common_steps)
+loosest level o e = grind arith
 
 -- an operand of an operator is over before it
 pub stops_before : (level : ℕ) (o : Binary) (xs : List Symbol) (rest : Line) → level_of o ≡ level
@@ -102,9 +92,7 @@ pub descend : (d level top : ℕ) (line rest : Line) (v : ℤ) → top ≡ level
     → Settles (Level level) line (Ok (v, rest))
 descend zero level top line rest v e h a s = let same : level ≡ top = omega arith in rw same a
 descend (suc d) level top line rest v e h a s =
-    level_goes level line rest v (Ok (v, rest)) (omega arith)
-    (descend d (level + 1) top line rest v (omega arith) h a (stops_more level rest s))
-    (loop_ends level v rest (stops_none level rest (omega arith) s))
+    grind (arith, level_goes, loop_ends, stops_none, descend d (level + 1) top line rest v (omega arith) h a (stops_more level rest s))
 
 pub descend_fault : (d level top : ℕ) (line : Line) (e : Halt) → top ≡ level + d → top ≤ 10 → Settles (Level top) line (Err e)
     → Settles (Level level) line (Err e)
@@ -211,17 +199,11 @@ pub is_read : (t : Tree) → IsRead t
 is_read (Number n) = atom_read (Number n) (λ level h. tt) (λ level h. tt) (number_atom n)
 is_read (Group t) = atom_read (Group t) (λ level h. h) (λ level h. h) (group_atom t (is_read t).whole)
 is_read (Prefix o t) = atom_read (Prefix o t) (λ level h. h) (λ level h. h) (prefix_atom o t (is_read t).atom)
-is_read (Infix o l r) = record {
-  atom = λ rest v fits is. absurd (infix_absurd o l r fits);
-  whole = infix_whole o l r (is_read l).spine (is_read r).whole;
-  spine = infix_spine o l r (is_read l).spine (is_read r).whole;
-}
+is_read (Infix o l r) = grind (arith, infix_absurd, infix_whole, infix_spine, is_read l, is_read r)
 
 -- a line is its symbols and its end
 pub line_is : (line rest : Line) (xs : List Symbol) → Begins line xs rest → line ≡ onto xs rest
-line_is line rest xs begins =
-    let Made : List Symbol → Option ExpressionFault → Line = λ ys e. record { symbols = ys; ending = e } in
-    ap (λ (ys : List Symbol). Made ys line.ending) begins.symbols ∙ ap (λ (e : Option ExpressionFault). Made (xs ++ rest.symbols) e) (sym begins.ending)
+line_is line rest xs begins = grind arith
 
 -- ---- what is read is what the run gives
 
