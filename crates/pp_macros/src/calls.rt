@@ -312,12 +312,7 @@ impl MacroProcessor {
     }
 
     // Looks for the call of a function-like macro after its name. Anything else is held, and the name is given.
-    fn enter_call(
-        &mut self,
-        lexer: &mut dyn MeLexer,
-        read: Read,
-        opened: Rc<Macro>,
-    ) -> Step<Taken>
+    fn enter_call(&mut self, lexer: &mut dyn MeLexer, read: Read, opened: Rc<Macro>) -> Step<Taken>
         requires function { opened.value.definition.function_like ≡ true }
         requires waits { MayWait self.old.below (reader lexer.old) }
         requires known { AreKnown (names_in (definitions_of (reader lexer.old))) self.old }

@@ -36,7 +36,7 @@ pub returns-then-found-clause-takes : goal.returns-then-found-clause-takes
 returns-then-found-clause-takes g c =
     let idle = sym c.is_idle.ensures ∙ c.if-not-is_idle.false in
     let run = painted_run c.args.self.now.here c.args.self.now.below idle _ _ c.args.tokens.now.items _ true c.requires.waits
-        (rw c.if-found.true at (c.in_ok-found.ensures {u = tt})) in
+    (rw c.if-found.true at (c.in_ok-found.ensures {u = tt})) in
     rw (painted _ (names_of c.args.self.now.below) _ (length c.args.tokens.now.items) _ c.paint_from.new.tokens _ c.push_flat.new.tokens.items c.paint_from.ensures
     (idle_names c.args.self.now idle) (c.len-start.ensures ∙ c.args.tokens.now.ok.0) c.deref_mut.ensures.value
     c.push_flat.new.tokens.ok.0 c.paint_from.auto.tokens)
@@ -60,9 +60,9 @@ pub returns-clause-takes : goal.returns-clause-takes
 returns-clause-takes g c =
     let idle = sym c.is_idle.ensures ∙ c.if-not-is_idle.false in
     let run = painted_run c.args.self.now.here c.args.self.now.below idle _ _ c.args.tokens.now.items _ false c.requires.waits
-        (rw c.if-found.false at (c.in_ok-found.ensures {u = tt})) in
+    (rw c.if-found.false at (c.in_ok-found.ensures {u = tt})) in
     let flat = flat_run _ _ _ _ _ _ _ run.0.flat run.0.last.0
-        (painted _ (names_of c.args.self.now.below) _ (length c.args.tokens.now.items) _ c.paint_from.new.tokens _ c.push_flat.new.tokens.items
-        c.paint_from.ensures (idle_names c.args.self.now idle) (c.len-start.ensures ∙ c.args.tokens.now.ok.0) c.deref_mut.ensures.value
-        c.push_flat.new.tokens.ok.0 c.paint_from.auto.tokens ∙ run.0.last.1) in
+    (painted _ (names_of c.args.self.now.below) _ (length c.args.tokens.now.items) _ c.paint_from.new.tokens _ c.push_flat.new.tokens.items
+    c.paint_from.ensures (idle_names c.args.self.now idle) (c.len-start.ensures ∙ c.args.tokens.now.ok.0) c.deref_mut.ensures.value
+    c.push_flat.new.tokens.ok.0 c.paint_from.auto.tokens ∙ run.0.last.1) in
     run_after _ _ _ _ _ _ _ _ _ flat c.push_next-2.ensures.takes c.push_next-2.ensures.kept
