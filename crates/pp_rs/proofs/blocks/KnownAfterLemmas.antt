@@ -23,7 +23,7 @@ use Rattle.pp_macros.proofs.work.DirectiveLineLemmas.{begins_directive, quiet_wo
 use Rattle.pp_rs.proofs.blocks.LastLemmas.{last_split}
 use Rattle.pp_directives.proofs.LinedLemmas.{lined_after}
 use Rattle.pp_rs.proofs.blocks.LinesBeforeLemmas.{AddsLines, directive_adds}
-use Rattle.pp_macros.proofs.work.QuietLemmas.{is_one_item, quiet_item, quiet_one, begins_bare, is_bare}
+use Rattle.pp_macros.proofs.work.QuietLemmas.{is_one_item, quiet_one, begins_bare, is_bare}
 use Rattle.pp_rs.proofs.source.SkippedLemmas.{bare_quiet, quiet_after_word}
 
 -- it is known at this reader

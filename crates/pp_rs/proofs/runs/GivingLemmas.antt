@@ -1,5 +1,5 @@
 -- Tokens that are given to a sink.
-use Rattle.std.proofs.Common.{◌≡◌, ◌∙◌, ◌<◌, ◌≤◌, Bool, true, false, refl, ap, sym, Option, Some, None, Ok, Err, IsTrue, inl, inr, arith}
+use Rattle.std.proofs.Common.{◌≡◌, ◌∙◌, ◌<◌, ◌≤◌, true, false, refl, ap, sym, Option, Some, None, Ok, Err, IsTrue, inl, inr, arith}
 use Rattle.std.specs.Prelude.{OnErr, Result}
 use Rattle.pp_lexer.specs.PreprocessorError.{out_of_memory}
 use Rattle.pp_lexer.specs.TokenValue.{is_ordinary}

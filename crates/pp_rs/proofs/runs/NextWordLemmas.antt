@@ -1,12 +1,10 @@
 -- A call of `next` that asks for a word of plain text first.
-use Rattle.std.proofs.Common.{◌≡◌, ◌∙◌, ◌⊎◌, inl, inr, ◌<◌, ◌≤◌, true, false, refl, sym, Option, Some, None, Ok, Err, IfOk, IfErr, MatchOption, arith}
+use Rattle.std.proofs.Common.{◌≡◌, ◌∙◌, ◌⊎◌, inl, inr, ◌<◌, ◌≤◌, true, false, refl, sym, Option, Some, None, Ok, Err, IfOk, IfErr, arith}
 use Rattle.pp_lexer.specs.PreprocessorError.{out_of_memory}
-use Rattle.pp_lexer.specs.declared.lexer.plain_item.PlainItem.{PlainItem}
 use Rattle.pp_lexer.specs.declared.token.Token.{Token}
-use Rattle.pp_directives.specs.WordTokens.{word_token}
 use Rattle.pp_macros.specs.Item.{Item}
 use Rattle.pp_rs.specs.Kept.{Preprocessing, is_spent, most_items, errors_left, error_place}
-use Rattle.pp_rs.specs.inner.NextWord.{IsPassed, IsNextWord}
+use Rattle.pp_rs.specs.inner.NextWord.{IsPassed}
 use Rattle.pp_rs.specs.Preprocessing.{IsNextItem, IsRefusedItem, IsGivenItem, IsLessLeft, ReportsError, of_lexer, of_its_own}
 
 -- what is reported once nothing was is reported from the start

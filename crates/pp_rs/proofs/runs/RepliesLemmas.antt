@@ -1,6 +1,5 @@
 -- The replies to a list of calls, one after another.
-use Rattle.std.proofs.Common.{◌≡◌, ◌∙◌, ◌<◌, ◌+◌, ℕ, length, take, drop, get_or, append_assoc, Bool, true, false, List, [], ◌∷◌, ◌++◌, map, refl, ap, sym, subst, Ok, Err, Some, None, inl, inr}
-use Rattle.std.specs.Prelude.{MatchBool}
+use Rattle.std.proofs.Common.{◌≡◌, ◌∙◌, ◌<◌, ◌+◌, ℕ, length, take, drop, get_or, append_assoc, true, false, List, [], ◌∷◌, ◌++◌, map, refl, ap, sym, subst, Ok, Err, Some, None, inl, inr}
 use Rattle.std.specs.Str.{chars}
 use Rattle.std.proofs.lemmas.List.{take_more, take-append-drop, map-append}
 use Rattle.pp_lexer.specs.PreprocessorError.{out_of_memory}

@@ -1,9 +1,7 @@
 -- A number sign without a word after it: passing it is a step of the reader.
-use Rattle.std.proofs.Common.{◌≡◌, ◌∙◌, ℕ, suc, ◌+◌, true, false, List, ◌∷◌, refl, ap, sym, subst, None, arith}
-use Rattle.std.specs.List.{cons_option}
-use Rattle.pp_lexer.specs.Lexed.{Seen}
+use Rattle.std.proofs.Common.{◌≡◌, ◌∙◌, ℕ, suc, true, false, ◌∷◌, refl, sym, None}
 use Rattle.pp_model.specs.Sights.{sight_of}
-use Rattle.pp_model.specs.Blocks.{line_at, block_lines}
+use Rattle.pp_model.specs.Blocks.{line_at}
 use Rattle.pp_model.specs.SourceReader.{SourceReader, is_on_directive_line}
 use Rattle.pp_model.specs.Calls.{Fault}
 use Rattle.pp_model.specs.Acts.{pause_at, advanced_by, act}
@@ -11,14 +9,13 @@ use Rattle.pp_model.specs.declared.sight.Sight.{Sight}
 use Rattle.pp_model.specs.declared.sight.Sight.TheVariants as sight
 use Rattle.pp_macros.specs.Item.{Step}
 use Rattle.pp_lexer.specs.declared.token.Token.{Token}
-use Rattle.pp_directives.specs.inner.Lined.{AreLined}
 use Rattle.pp_macros.specs.inner.OpenBlocks.{last_block, is_live_in}
 use Rattle.pp_macros.specs.inner.SourceMoves.{Note, unnoted, directive_line, notes_text, notes_directive}
 use Rattle.pp_macros.specs.inner.Source.{Source, Pauses}
 use Rattle.pp_rs.specs.inner.Stands.{StandsForReader}
 use Rattle.pp_rs.proofs.source.DirectiveBeforeLemmas.{begins_with_hash, AddsDirective, lone_adds, no_word_adds}
 use Rattle.pp_rs.proofs.source.DirectivePlaceLemmas.{one_after, off_line_after_end}
-use Rattle.pp_macros.proofs.work.QuietLemmas.{is_bare, BeginsBare, begins_bare, lone_ends, quiet_item}
+use Rattle.pp_macros.proofs.work.QuietLemmas.{is_bare, begins_bare, lone_ends}
 use Rattle.pp_rs.proofs.source.Simulates.{Simulates}
 use Rattle.pp_rs.proofs.source.SkippedLemmas.{bare_quiet}
 use Rattle.pp_rs.proofs.source.StandsAfterLemmas.{lined_here}

@@ -11,9 +11,9 @@ use Rattle.pp_model.specs.Calls.{Answers, Called, Calls}
 use Rattle.pp_model.specs.Emitting.{with_macro, Emits, itself, object, name_alone, call_refused, call}
 use Rattle.pp_model.specs.SourceReader.{SourceReader, reader_at_start}
 use Rattle.pp_model.specs.Reads.{Steps, Reads, here, later, source_reading}
-use Rattle.pp_model.specs.Run.{start, with_added}
+use Rattle.pp_model.specs.Run.{start}
 use Rattle.pp_model.specs.inner.Run.{after_addition as with_definition}
-use Rattle.pp_model.specs.RunStates.{LeadsTo, nowhere, adding, giving, IsReached}
+use Rattle.pp_model.specs.RunStates.{IsReached}
 use Rattle.pp_model.specs.declared.outcome.Outcome.{Outcome}
 use Rattle.pp_model.specs.declared.read.Taken.{Taken}
 use Rattle.pp_model.proofs.RunLemmas.{each_state}

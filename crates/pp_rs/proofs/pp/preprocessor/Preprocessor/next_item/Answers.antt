@@ -1,5 +1,4 @@
-use Rattle.std.proofs.Common.{◌∙◌, sym, refl, Some, None, Ok, Err, arith}
-use Rattle.pp_rs.specs.inner.NextWord.{IsPassed}
+use Rattle.std.proofs.Common.{◌∙◌, sym, arith}
 use Rattle.pp_rs.proofs.runs.NextLemmas.{next_none}
 use Rattle.pp_rs.proofs.runs.NextWordLemmas.{passed_again, passed_next}
 use Rattle.pp_rs.proofs.runs.PassedLemmas.{passed_nothing}

@@ -1,4 +1,4 @@
-use Rattle.std.proofs.Common.{◌∙◌, Some, None, Ok, Err, arith}
+use Rattle.std.proofs.Common.{◌∙◌, arith}
 use Rattle.pp_rs.proofs.runs.NextWordLemmas.{passed_again, passed_next}
 use Rattle.pp_rs.proofs.pp.preprocessor.Preprocessor.next_other.Goals as goal
 

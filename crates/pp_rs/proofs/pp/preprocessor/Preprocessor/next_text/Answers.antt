@@ -1,5 +1,4 @@
 use Rattle.pp_directives.specs.WordTokens.{word_token}
-use Rattle.pp_rs.specs.Kept.{is_spent}
 use Rattle.pp_rs.proofs.runs.NextWordLemmas.{refused_next, word_comes}
 use Rattle.pp_rs.proofs.runs.PassedLemmas.{passed_nothing}
 use Rattle.pp_rs.proofs.pp.preprocessor.Preprocessor.next_text.Goals as goal
