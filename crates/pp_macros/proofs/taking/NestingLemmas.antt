@@ -1,6 +1,6 @@
 -- What is read and taken over a reader that an expander has with frames around it.
 use Rattle.std.proofs.Common.{◌≡◌, ◌∙◌, inl, inr, ℕ, List, [], ◌∷◌, ◌++◌, refl, sym, ap, subst, Option, Some, None}
-use Rattle.std.specs.Prelude.{if◌then◌else◌, Ok, Err, false, true, unwrap_or}
+use Rattle.std.specs.Prelude.{if◌then◌else◌, Ok, Err, true, unwrap_or}
 use Rattle.pp_lexer.specs.declared.token.TokenValue.{TokenValue}
 use Rattle.pp_lexer.specs.declared.token.TokenValue.TheVariants.{Ident}
 use Rattle.pp_model.specs.Definitions.{Definition}

@@ -1,21 +1,17 @@
 -- The search after a name, as the code makes it.
-use Rattle.std.proofs.Common.{◌≡◌, ◌∙◌, ◌⊎◌, inl, inr, refl, sym, ap, subst, Option, Some, None, true, false, [], ◌∷◌}
-use Rattle.std.specs.Prelude.{Bool, List, Ok, Err, if◌then◌else◌}
+use Rattle.std.proofs.Common.{◌≡◌, ◌∙◌, ◌⊎◌, inl, inr, refl, ap, Option, Some, None, true, false, [], ◌∷◌}
+use Rattle.std.specs.Prelude.{List, Ok, Err}
 use Rattle.pp_lexer.specs.declared.token.Location.{Location}
 use Rattle.pp_model.specs.declared.read.Read.{Read}
-use Rattle.pp_model.specs.Painting.{unpainted}
 use Rattle.pp_model.specs.Calls.{Gathered}
 use Rattle.pp_macros.specs.inner.CallTurns.{Seeks, alone, called, no_call, refused, gathered, paren_of, is_out_of_memory_step}
 use Rattle.pp_macros.specs.Item.{Step}
-use Rattle.pp_macros.specs.inner.Calling.{MacroCall}
 use Rattle.pp_macros.specs.inner.CallTurns as turn
 use Rattle.pp_macros.specs.inner.CallTurns.{TurnsTo, TurnsOrRefuses}
 use Rattle.pp_macros.specs.inner.Seeking as e
 use Rattle.pp_macros.specs.inner.Seeking.{Enters, FollowsToken}
-use Rattle.pp_macros.specs.inner.Turns.{macro_of, macro_of_value, Opens}
+use Rattle.pp_macros.specs.inner.Turns.{macro_of, Opens}
 use Rattle.pp_macros.specs.Halting.{exit_of}
-use Rattle.pp_lexer.specs.declared.token.TokenValue.{TokenValue}
-use Rattle.pp_lexer.specs.declared.token.TokenValue.TheVariants.{Ident}
 use Rattle.pp_macros.specs.inner.Defined.{Macro}
 use Rattle.pp_macros.specs.inner.Frames.{new_frame}
 use Rattle.pp_model.specs.Names.{Name}

@@ -1,4 +1,4 @@
-use Rattle.std.proofs.Common.{◌∙◌, ap, refl, sym, Err}
+use Rattle.std.proofs.Common.{◌∙◌, ap, sym, Err}
 use Rattle.std.proofs.lemmas.Result.{err_from_is_err_and}
 use Rattle.pp_macros.proofs.taking.ExpanderLemmas.{none_held}
 use Rattle.pp_macros.proofs.taking.NestingLemmas.{held_fetched, step_fetched, moves_wait}

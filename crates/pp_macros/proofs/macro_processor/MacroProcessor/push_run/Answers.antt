@@ -7,7 +7,7 @@ use Rattle.pp_model.specs.declared.read.Read.{Read}
 use Rattle.pp_macros.specs.inner.Frames.{names_of}
 use Rattle.pp_macros.specs.inner.Reading.{painted_from}
 use Rattle.pp_macros.proofs.defined_names.GrowLemmas.{run_grow}
-use Rattle.pp_macros.proofs.open_frames.KnownLemmas.{flat_known, known_more}
+use Rattle.pp_macros.proofs.open_frames.KnownLemmas.{known_more}
 use Rattle.pp_macros.proofs.taking.NestingLemmas.{idle_names}
 use Rattle.pp_macros.proofs.taking.PaintedRunLemmas.{painted_run}
 use Rattle.pp_macros.proofs.taking.RunLemmas.{run_now, run_after, run_refused, flat_run}
