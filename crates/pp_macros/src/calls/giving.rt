@@ -171,9 +171,6 @@ impl MacroProcessor {
         ensures holds { IfOk result (λ given. IfSome given (λ token. HoldsOrdinary token.value)) }
         ensures refused { OnErr result (RefusesWithin (seen_by self.old.below (L.reader lexer.now)) self.old.here) }
     {
-        if self.is_idle() {
-            return Ok(None);
-        }
         match self.advance(lexer)? {
             Some(_) => self.make_token().map(Some),
             None => Ok(None),
