@@ -340,7 +340,7 @@ impl MacroProcessor {
         }
     }
 
-    // Closes the innermost frame. It is a function of its own, since most steps close none.
+    // Closes the innermost frame: its macro is open once less, and its lists are kept to be used again.
     #[inline(always)]
     fn close(&mut self)
         requires { is_some (outermost_frame_line self.old.here.frames) ≡ true }
