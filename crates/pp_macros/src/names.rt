@@ -21,7 +21,7 @@ use std::rc::Rc;
 
 /// The number of a name: how many names were defined before it.
 #[derive(Clone, Copy)]
-pub struct NameId(usize);
+pub struct NameId(u32);
 
 impl Model for NameId {
     ghost use Rattle.std.specs.Prelude.{ℕ};
@@ -39,7 +39,7 @@ impl NameId {
     pub fn number(self) -> usize
         ensures { result ≡ self }
     {
-        self.0
+        self.0 as usize
     }
 }
 
@@ -108,7 +108,7 @@ impl Definitions {
             ≡ opened_by name (meaning_of self.now name) }
         ensures numbered { IfSome result (λ m. AreNumbered (names_in self.now) (numbered_by m.now.value)) }
     {
-        self.macros.get(id.0)?.as_ref()
+        self.macros.get(id.number())?.as_ref()
     }
 
     /// The macro of the name, if it is defined.
@@ -136,7 +136,8 @@ impl Definitions {
         Ok(Rc::new(self.alloc, Macro::new(name, id, define, self))?)
     }
 
-    /// Defines the name, replacing any definition of it. If an allocation fails, nothing changes.
+    /// Defines the name, replacing any definition of it. If an allocation fails, or if `Texts` takes no more
+    /// names, nothing changes.
     pub fn set(&mut self, name: Text, define: Define) -> Result<(), AllocError>
         ensures ok { OnOk result (IsChanged name (Some define) self.old self.new) }
         ensures err { OnErr result (self.new ≡ self.old) }
@@ -144,11 +145,11 @@ impl Definitions {
         let text = Rc::new(self.alloc, name)?;
         if let Some(id) = self.find(text.as_str()) {
             let new = self.shared(text, id, define)?;
-            self.macros[id.0] = Some(new);
+            self.macros[id.number()] = Some(new);
             return Ok(());
         }
         self.macros.reserve(1)?;
-        let id = NameId(self.macros.len());
+        let id = NameId(self.names.count());
         let new = self.shared(text.clone()?, id, define)?;
         self.names.push(text)?;
         self.macros.push_reserved(Some(new));
@@ -161,7 +162,7 @@ impl Definitions {
         ensures names { names_in self.new ≡ names_in self.old }
     {
         if let Some(id) = self.find(name) {
-            self.macros[id.0] = None;
+            self.macros[id.number()] = None;
         }
     }
 }

@@ -1,7 +1,7 @@
 //! The table in which texts are found by their hash.
 
 ghost use Rattle.std.specs.Prelude.{◌≡◌, ◌<◌, ◌++◌, ◌∷◌, [], List, false, position, vec_len, length, OnOk, OnErr, IfOk};
-ghost use Rattle.std.specs.Prelude.{MatchOption};
+ghost use Rattle.std.specs.Prelude.{MatchOption, ◌^◌};
 ghost use Rattle.std.specs.Str.{chars};
 ghost use Rattle.pp_model.specs.Names.{Name, is_in, is_same_name};
 ghost use Rattle.pp_macros.specs.inner.NamePlaces.{hash_of, place_index, IsCrowded, IsFree, AreDistinct, FindsNames};
@@ -19,13 +19,13 @@ const NEAR: usize = 8;
 #[derive(Clone, Copy)]
 pub struct Place {
     hash: u32,
-    number: usize,
+    number: u32,
 }
 
 // A place without a text.
 const FREE: Place = Place {
     hash: 0,
-    number: usize::MAX,
+    number: u32::MAX,
 };
 
 /// A table in which texts are found by their hash.
@@ -35,7 +35,7 @@ const FREE: Place = Place {
 #[derive(Drop)]
 pub struct Table {
     places: Vec<Place>,
-    others: BTreeMap<String, usize>,
+    others: BTreeMap<String, u32>,
     ghost some: { 0 < vec_len places },
 }
 
@@ -65,6 +65,7 @@ impl Table {
     #[inline(never)]
     pub fn of(alloc: Global, places: usize, texts: &[Rc<Text>]) -> Result<Self, AllocError>
         requires some { 0 < places }
+        requires few { length texts.now < 2 ^ 32 }
         requires distinct { AreDistinct (names_of texts.now) }
         ensures { IfOk result (λ table. FindsNames table.places.items table.others.entries (names_of texts.now)) }
     {
@@ -98,7 +99,7 @@ impl Table {
 
     /// The number of the text.
     #[inline(always)]
-    pub fn find(&self, texts: &[Rc<Text>], name: &str) -> Option<usize>
+    pub fn find(&self, texts: &[Rc<Text>], name: &str) -> Option<u32>
         requires distinct { AreDistinct (names_of texts.now) }
         requires finds { FindsNames self.now.places.items self.now.others.entries (names_of texts.now) }
         ensures { result ≡ position (is_same_name (chars name.now)) (names_of texts.now) }
@@ -106,10 +107,11 @@ impl Table {
         let hash = hash_of(name);
         for after in 0..NEAR {
             let place = self.places[self.index(hash, after)];
-            if place.number >= texts.len() {
+            let number = place.number as usize;
+            if number >= texts.len() {
                 return None;
             }
-            if place.hash == hash && is_text(&texts[place.number], name) {
+            if place.hash == hash && is_text(&texts[number], name) {
                 return Some(place.number);
             }
         }
@@ -117,7 +119,7 @@ impl Table {
     }
 
     // The first free place for a text with this hash, in a table of `count` texts.
-    fn free_place(&self, hash: u32, count: usize) -> Option<usize>
+    fn free_place(&self, hash: u32, count: u32) -> Option<usize>
         ensures { MatchOption result
             (IsCrowded self.now.places.items hash count)
             (IsFree self.now.places.items hash count) }
@@ -133,6 +135,7 @@ impl Table {
 
     /// Adds a new text after these. If an allocation fails, these are found as before.
     pub fn put(&mut self, alloc: Global, texts: &[Rc<Text>], name: &str) -> Result<(), AllocError>
+        requires few { length texts.now < 2 ^ 32 }
         requires new { is_in (chars name.now) (names_of texts.now) ≡ false }
         requires finds { FindsNames self.old.places.items self.old.others.entries (names_of texts.now) }
         ensures ok { OnOk result
@@ -141,7 +144,7 @@ impl Table {
             (FindsNames self.new.places.items self.new.others.entries (names_of texts.now)) }
     {
         let hash = hash_of(name);
-        let number = texts.len();
+        let number = texts.len() as u32;
         match self.free_place(hash, number) {
             Some(place) => {
                 self.places[place] = Place { hash, number };

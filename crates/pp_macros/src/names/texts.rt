@@ -1,7 +1,7 @@
 //! Texts with numbers, each found by its hash.
 
 ghost use Rattle.std.specs.Prelude.{◌≡◌, ◌++◌, ◌∷◌, [], false, position, OnOk, OnErr, IfSome};
-ghost use Rattle.std.specs.Prelude.{IsTrue, Some, ◌<◌};
+ghost use Rattle.std.specs.Prelude.{IsTrue, Some, ◌<◌, ◌^◌, length};
 ghost use Rattle.std.specs.Str.{chars};
 ghost use Rattle.pp_model.specs.Names.{is_in, is_same_name};
 ghost use Rattle.pp_macros.specs.inner.NamePlaces.{AreDistinct, names_of};
@@ -16,6 +16,9 @@ use std::rc::Rc;
 
 // Up to this many texts are compared one by one.
 const FEW: usize = 8;
+
+// At most this many texts are there, so that the number of each takes 32 bits.
+const MOST: usize = 4294967295;
 
 // The number of places of the first table.
 const FIRST_PLACES: usize = 32;
@@ -36,7 +39,7 @@ pub struct Texts {
 }
 
 impl Model for Texts {
-    ghost use Rattle.std.specs.Prelude.{List};
+    ghost use Rattle.std.specs.Prelude.{◌<◌, ◌^◌, List, length};
     ghost use Rattle.pp_model.specs.Names.{Name};
     ghost use Rattle.pp_macros.specs.inner.Marks.{AreMarked};
     ghost use Rattle.pp_macros.specs.inner.NamePlaces.{AreDistinct, names_of};
@@ -47,26 +50,28 @@ impl Model for Texts {
     ghost view = { λ t. names_of t.texts.items };
 
     ghost invariant = { λ t. AreDistinct (names_of t.texts.items) × IsTableOf (names_of t.texts.items) t.table
-        × AreMarked t.marks (names_of t.texts.items) };
+        × AreMarked t.marks (names_of t.texts.items) × (length t.texts.items < 2 ^ 32) };
 }
 
 // The number of the text, found without a table.
 #[inline(always)]
 fn number_among(texts: &[Rc<Text>], name: &str) -> Option<usize>
-    ensures { result ≡ position (λ text. is_same_name (chars name.now) text.value) texts.now }
+    ensures is { result ≡ position (λ text. is_same_name (chars name.now) text.value) texts.now }
+    ensures inside { IfSome result (λ number. number < length texts.now) }
 {
     texts.iter().position(|text| is_text(text, name))
 }
 
 // The number of the text.
 #[inline(always)]
-fn number_of(table: &Option<Table>, texts: &[Rc<Text>], name: &str) -> Option<usize>
+fn number_of(table: &Option<Table>, texts: &[Rc<Text>], name: &str) -> Option<u32>
+    requires few { length texts.now < 2 ^ 32 }
     requires distinct { AreDistinct (names_of texts.now) }
     requires finds { IsTableOf (names_of texts.now) table.now }
     ensures { result ≡ position (is_same_name (chars name.now)) (names_of texts.now) }
 {
     match table {
-        None => number_among(texts, name),
+        None => Some(number_among(texts, name)? as u32),
         Some(table) => table.find(texts, name),
     }
 }
@@ -86,6 +91,7 @@ fn places_wanted(table: &Option<Table>, count: usize) -> Option<usize>
 
 // Makes a new table of the texts, if one more text needs it.
 fn grow(table: &mut Option<Table>, alloc: Global, texts: &[Rc<Text>]) -> Result<(), AllocError>
+    requires few { length texts.now < 2 ^ 32 }
     requires distinct { AreDistinct (names_of texts.now) }
     requires finds { IsTableOf (names_of texts.now) table.old }
     ensures { IsTableOf (names_of texts.now) table.new }
@@ -103,6 +109,7 @@ fn put(
     texts: &[Rc<Text>],
     name: &str,
 ) -> Result<(), AllocError>
+    requires few { length texts.now < 2 ^ 32 }
     requires new { is_in (chars name.now) (names_of texts.now) ≡ false }
     requires finds { IsTableOf (names_of texts.now) table.old }
     ensures ok { OnOk result (IsTableOf (names_of texts.now ++ chars name.now ∷ []) table.new) }
@@ -127,9 +134,16 @@ impl Texts {
         }
     }
 
+    /// How many texts there are: the number of the next one.
+    pub fn count(&self) -> u32
+        ensures { result ≡ length self.now }
+    {
+        self.texts.len() as u32
+    }
+
     /// The number of the text.
     #[inline(always)]
-    pub fn find(&self, name: &str) -> Option<usize>
+    pub fn find(&self, name: &str) -> Option<u32>
         ensures { result ≡ position (is_same_name (chars name.now)) self.now }
     {
         if !self.marks.has(name) {
@@ -141,18 +155,22 @@ impl Texts {
     // The number of the text. It is a function of its own, so that a text whose mark is missing is known without a
     // call.
     #[inline(never)]
-    fn find_marked(&self, name: &str) -> Option<usize>
+    fn find_marked(&self, name: &str) -> Option<u32>
         ensures { result ≡ position (is_same_name (chars name.now)) self.now }
     {
         number_of(&self.table, &self.texts, name)
     }
 
-    /// Adds a text that isn't there. If an allocation fails, nothing changes.
+    /// Adds a text that isn't there. There are 4,294,967,295 texts at most: one more is refused. If it is, or if an
+    /// allocation fails, nothing changes.
     pub fn push(&mut self, text: Rc<Text>) -> Result<(), AllocError>
         requires { is_in text.value self.old ≡ false }
         ensures ok { OnOk result (self.new ≡ self.old ++ text.value ∷ []) }
         ensures err { OnErr result (self.new ≡ self.old) }
     {
+        if self.texts.len() >= MOST {
+            return Err(AllocError);
+        }
         self.texts.reserve(1)?;
         grow(&mut self.table, self.alloc, &self.texts)?;
         put(&mut self.table, self.alloc, &self.texts, text.as_str())?;

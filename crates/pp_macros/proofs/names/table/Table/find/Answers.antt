@@ -12,9 +12,9 @@ use Rattle.pp_macros.proofs.names.table.Table.find.Goals.{else-place-hash-via-th
 
 pub returns-then-is_text : goal.returns-then-is_text
 returns-then-is_text c =
-    sym (only_at (names_of c.args.texts.now) c.index-place.result.now.number (chars c.args.name.now) c.index-texts-place.result.value c.requires.distinct
-    (rw (length-names_of c.args.texts.now) c.if-place-texts.false)
-    (name_read c.args.texts.now c.index-place.result.now.number c.index-texts-place.result c.if-place-texts.false c.index-texts-place.is)
+    sym (only_at (names_of c.args.texts.now) c.index-place.result.now.number (chars c.args.name.now) c.index-texts-number.result.value c.requires.distinct
+    (rw (length-names_of c.args.texts.now) c.if-number-texts.false)
+    (name_read c.args.texts.now c.index-place.result.now.number c.index-texts-number.result c.if-number-texts.false c.index-texts-number.is)
     (rw c.deref.ensures at (sym c.is_text.ensures ∙ c.if-is_text.true)))
 
 pub loop-after-preserved : goal.loop-after-preserved
@@ -23,9 +23,9 @@ loop-after-preserved c =
     c.loop-after.after c.index.result c.index-place.result.now c.loop-after.invariant c.index.ensures.is c.index.ensures.inside c.index-place.ensures
     (elim c.else-place-hash.branch [
       | else-place-hash-via-then-place-hash+else-is_text w ↦
-          other_text (names_of c.args.texts.now) (chars c.args.name.now) w.index-texts-place.result.value c.index-place.result.now c.hash_of-hash.result
-          (rw (length-names_of c.args.texts.now) c.if-place-texts.false)
-          (name_read c.args.texts.now c.index-place.result.now.number w.index-texts-place.result c.if-place-texts.false w.index-texts-place.is)
+          other_text (names_of c.args.texts.now) (chars c.args.name.now) w.index-texts-number.result.value c.index-place.result.now c.hash_of-hash.result
+          (rw (length-names_of c.args.texts.now) c.if-number-texts.false)
+          (name_read c.args.texts.now c.index-place.result.now.number w.index-texts-number.result c.if-number-texts.false w.index-texts-number.is)
           (rw w.deref.ensures at (sym w.is_text.ensures ∙ w.if-is_text.false))
       | else-place-hash-via-else-place-hash w ↦ λ number e. other_hash c.index-place.result.now c.hash_of-hash.result w.if-place-hash.false number
     ])
