@@ -1,14 +1,16 @@
 -- What holds of an expander over a source between any two calls, unless memory ran out.
-use Rattle.std.specs.Prelude.{◌≡◌, false, List, [], Option, Some, Err, ⊤}
+use Rattle.std.specs.Prelude.{◌≡◌, true, false, Bool, List, [], Option, Some, Err, ⊤}
 use Rattle.pp_model.specs.declared.read.Read.{Read}
 use Rattle.pp_macros.specs.inner.Frames.{Frame}
 use Rattle.pp_macros.specs.Item.{Step}
+use Rattle.pp_macros.specs.inner.Idle.{is_idle}
 use Rattle.pp_macros.specs.inner.Left.{IsSound}
 use Rattle.pp_macros.specs.inner.Expander.{Expander}
 use Rattle.pp_macros.specs.inner.Reader.{Reader, of_source, of_list}
 use Rattle.pp_macros.specs.inner.Source.{Source, unreported_of}
 use Rattle.pp_macros.specs.inner.Unreported.{IsReportedBut}
 use Rattle.pp_macros.specs.declared.step.StepExit.TheVariants.{Finished}
+use Rattle.pp_directives.specs.inner.PlainText.{IsInText}
 
 -- a source with no item left, and no open block
 abbrev pub NothingIn : Reader → Type 0
@@ -33,3 +35,9 @@ pub record IsFit (expander : Expander) (source : Source) : Type 0 where
 -- each error of the lexer that was read was reported, except for one that is held
 abbrev pub IsReported : Expander → Source → Type 0
 IsReported expander source = IsReportedBut expander.held (unreported_of source)
+
+-- the next token is read from live text: no macro is open and nothing is held, and memory didn't run out
+pub record IsInLiveText (expander : Expander) (source : Source) (spent : Bool) : Type 0 where
+  pub idle : is_idle expander ≡ true
+  pub text : IsInText source
+  pub unspent : spent ≡ false

@@ -1,5 +1,5 @@
 -- The next token as a word of plain text, before memory is taken for it.
-use Rattle.std.specs.Prelude.{◌≡◌, ◌≢◌, ◌<◌, ◌≤◌, ◌∷◌, [], List, ℕ, true, false, is_some, Option, Some, None, Ok}
+use Rattle.std.specs.Prelude.{◌≡◌, ◌≢◌, ◌<◌, ◌≤◌, ◌∷◌, [], List, ℕ, true, is_some, Option, Some, None, Ok}
 use Rattle.std.specs.Prelude.{MatchOption, position}
 use Rattle.std.specs.Str.{IsAscii}
 use Rattle.pp_lexer.specs.declared.lexer.plain.Form.TheVariants.{Hash}
@@ -8,16 +8,15 @@ use Rattle.pp_lexer.specs.declared.token.Token.{Token}
 use Rattle.pp_model.specs.Names.{Name, is_same_name}
 use Rattle.pp_model.specs.declared.outcome.Outcome.{Outcome}
 use Rattle.pp_directives.specs.WordTokens.{word_token}
-use Rattle.pp_directives.specs.inner.PlainText.{IsInText}
 use Rattle.pp_macros.specs.inner.Defined.{Defined, Macro, AreNumbered, meaning_of, names_in, numbered_by, opened_by}
 use Rattle.pp_macros.specs.inner.Expander.{Expander}
 use Rattle.pp_macros.specs.inner.Frames.{new_frame}
-use Rattle.pp_macros.specs.inner.Idle.{is_idle}
 use Rattle.pp_macros.specs.Item.{Item}
 use Rattle.pp_model.specs.CallLine.{item_line}
 use Rattle.pp_rs.specs.Comes.{State, Comes}
 use Rattle.pp_rs.specs.Kept.{Preprocessing, Stands, IsAhead, is_spent, most_items, errors_left, error_place, call_line}
 use Rattle.pp_rs.specs.Preprocessing.{IsNextItem}
+use Rattle.pp_rs.specs.inner.Fit.{IsInLiveText}
 
 -- the preprocessor stands for a state, and what comes next in that state also comes next in this one, from the same
 -- call
@@ -41,11 +40,9 @@ pub record IsPlain (word : PlainItem) : Type 0 where
   pub no_hash : word.form ≢ Hash
   pub ascii : IsAscii word.spelling.now
 
--- the next token is read from live text: no macro is open and nothing is held, and memory didn't run out
-pub record ReadsText (p : Preprocessing) : Type 0 where
-  pub idle : is_idle p.expander ≡ true
-  pub text : IsInText p.source
-  pub unspent : p.spent ≡ false
+-- the next token is read from live text
+abbrev pub ReadsText : Preprocessing → Type 0
+ReadsText p = IsInLiveText p.expander p.source p.spent
 
 -- the next token is this word, which no macro gives, and the text goes on
 pub record IsWord (old : Preprocessing) (word : PlainItem) (new : Preprocessing) : Type 0 where

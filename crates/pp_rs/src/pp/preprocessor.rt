@@ -48,11 +48,13 @@ pub struct Preprocessor<'a> {
     place: Location,
     // The line of the outermost macro that was open before the last turn. If a step is held, that turn gave a name.
     name_line: Option<u32>,
+    // Whether the next token is known to be read from live text. Most tokens are, and nothing else is then asked.
+    in_text: bool,
 }
 
 impl<'a> Model for Preprocessor<'a> {
-    ghost use Rattle.std.specs.Prelude.{◌≡◌, [], false};
-    ghost use Rattle.pp_rs.specs.inner.Fit.{IsFit, IsReported};
+    ghost use Rattle.std.specs.Prelude.{◌≡◌, [], true, false};
+    ghost use Rattle.pp_rs.specs.inner.Fit.{IsFit, IsReported, IsInLiveText};
     ghost use Rattle.pp_rs.specs.Kept.{Preprocessing};
 
     ghost Value = { Preprocessing };
@@ -66,7 +68,8 @@ impl<'a> Model for Preprocessor<'a> {
     } };
 
     ghost invariant = { λ p. (p.spent ≡ false → IsFit p.expander.here p.source × IsReported p.expander.here p.source)
-        × (p.expander.below ≡ []) };
+        × (p.expander.below ≡ [])
+        × (p.in_text ≡ true → IsInLiveText p.expander.here p.source p.spent) };
 }
 
 // The error. `OutOfMemory` always gets the same place.
@@ -139,15 +142,25 @@ impl<'a> Preprocessor<'a> {
             spent: false,
             place: NOWHERE,
             name_line: None,
+            in_text: false,
         }
     }
 
-    // Whether the next token is one of live text: no macro is open, nothing is held, and memory didn't run out.
+    // Whether the next token is one of live text: no macro is open, and nothing is held. It notes that it is.
     #[inline(always)]
-    pub(crate) fn is_in_text(&self) -> bool
-        ensures { IsTrue result → ReadsText self.now }
+    pub(crate) fn is_in_text(&mut self) -> bool
+        requires { is_spent self.old ≡ false }
+        ensures reads { IsTrue result → ReadsText self.new }
+        ensures same { self.new ≡ self.old }
     {
-        !self.spent && self.expander.is_idle() && self.source.is_in_text()
+        if self.in_text {
+            return true;
+        }
+        if !self.expander.is_idle() || !self.source.is_in_text() {
+            return false;
+        }
+        self.in_text = true;
+        true
     }
 
     // Whether memory ran out for an item.
@@ -164,6 +177,7 @@ impl<'a> Preprocessor<'a> {
         ensures { self.new ≡ record self.old { spent = true } }
     {
         self.spent = true;
+        self.in_text = false;
     }
 
     // The next word of live text before memory is taken for it, if it is given as it is in the source. It passes
@@ -181,6 +195,7 @@ impl<'a> Preprocessor<'a> {
                 Some((word, Some(id))) => {
                     let definitions = self.source.definitions();
                     let line = word.location.line;
+                    self.in_text = false;
                     match open_numbered(&mut self.expander, definitions, id, line) {
                         Ok(()) => return Ok(None),
                         Err(refused) => {
@@ -208,7 +223,7 @@ impl<'a> Preprocessor<'a> {
         match word_token(self.alloc, word) {
             Ok(token) => Ok(token),
             Err(_) => {
-                self.spent = true;
+                self.spend();
                 Err(out_of_memory())
             }
         }
@@ -238,6 +253,7 @@ impl<'a> Preprocessor<'a> {
         requires { is_spent self.old ≡ false }
         ensures { IsNextGiven self.old result self.new }
     {
+        self.in_text = false;
         match self.expander.give_next(&self.source) {
             Ok(Some(token)) => Some(Ok(token)),
             Ok(None) => None,
@@ -255,6 +271,7 @@ impl<'a> Preprocessor<'a> {
         requires { is_spent self.old ≡ false }
         ensures { IsNextStep self.old result self.new }
     {
+        self.in_text = false;
         self.name_line = self.expander.outermost_line();
         match turn_source(self.alloc, &mut self.expander, &mut self.source) {
             Ok(token) => Some(Some(Ok(token))),
@@ -269,6 +286,15 @@ impl<'a> Preprocessor<'a> {
         }
     }
 
+    // Does what `step` does. It is a function of its own, so that what a step needs isn't kept ready for other items.
+    #[inline(never)]
+    fn next_step(&mut self) -> Option<Option<PreprocessorItem>>
+        requires { is_spent self.old ≡ false }
+        ensures { IsNextStep self.old result self.new }
+    {
+        self.step()
+    }
+
     // Goes on where no word of live text comes that is given as it is: in the open macros, or by one step. Returns
     // nothing if it is a pause, and otherwise what `next` returns. What `step` returns is taken apart, so that no other
     // item is kept in memory with it.
@@ -280,7 +306,7 @@ impl<'a> Preprocessor<'a> {
         if let Some(item) = self.next_given() {
             return Some(Some(item));
         }
-        match self.step() {
+        match self.next_step() {
             Some(Some(Ok(token))) => Some(Some(Ok(token))),
             Some(Some(Err(error))) => Some(Some(Err(error))),
             Some(None) => Some(None),
@@ -289,7 +315,7 @@ impl<'a> Preprocessor<'a> {
     }
 
     // Does what `next` does. Most items are words of plain text, and these are moved less than others if they are asked
-    // for first. The others are a function of their own, so that the room for them is cleared only where they come.
+    // for first.
     #[inline(always)]
     fn next_item(&mut self) -> Option<PreprocessorItem>
         ensures { IsNextItem self.old result self.new }
@@ -319,6 +345,7 @@ impl<'a> Preprocessor<'a> {
         if self.spent || self.expander.is_idle() {
             return Ok(false);
         }
+        self.in_text = false;
         match self.expander.advance(&self.source) {
             Ok(Some(_)) => {}
             Ok(None) => return Ok(false),
@@ -354,6 +381,7 @@ impl<'a> Preprocessor<'a> {
         ensures gives { (token : Token) → IsAhead self.old token → IsNextItem self.old (Some (Ok token)) self.new }
         ensures line { (line : Option ℕ) → IsFrontLine line self.old → line ≡ call_line self.new }
     {
+        self.in_text = false;
         self.expander.pass_token();
     }
 
@@ -405,6 +433,7 @@ impl<'a> Preprocessor<'a> {
         requires { length content.now < 2 ^ 32 - 1 }
         ensures { IsAdded self.old name.now content.now result self.new }
     {
+        self.in_text = false;
         match self.source.set_content(name, content) {
             Ok(()) => Ok(()),
             Err(Halt::Fault(fault)) => Err(fault),

@@ -44,4 +44,5 @@ invariant_of-self c =
                 subst (λ (s : Source). IsFit p.expander.here s × IsReported p.expander.here s) (sym h) fit)
           ],
       c.self.invariant.1,
+      λ e. cc,
     )

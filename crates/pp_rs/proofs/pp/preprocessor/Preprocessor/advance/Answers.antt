@@ -13,6 +13,7 @@ invariant_of-self c = (
       let r = (reached_on _ _ _ _ first _ (c.in-Ok-None.ensures {u = tt}).advances.pauses).reached in
       (r.fit, r.reported),
   c.advance.ensures.below ∙ c.self.invariant.1,
+  λ e. cc,
 )
 
 pub returns-in-Ok-None-clause-passed : goal.returns-in-Ok-None-clause-passed
@@ -29,6 +30,7 @@ invariant_of-self-2 c = (
       let r = (reached_on _ _ _ _ first _ (c.in-Ok-Some.ensures {u = tt}).advances.pauses).reached in
       (r.fit, r.reported),
   c.advance.ensures.below ∙ c.self.invariant.1,
+  λ e. cc,
 )
 
 pub returns : goal.returns

@@ -10,7 +10,11 @@ has_left true first now last fewer no_more less = omega (arith, fewer, less refl
 has_left false first now last fewer no_more less = omega (arith, fewer, no_more)
 
 pub words-init : goal.words-init
-words-init g c = record { reads = c.is_in_text.ensures c.if-not-is_in_text.false; left = omega arith; giving = λ start first p. p }
+words-init g c = record {
+  reads = c.is_in_text.ensures.reads c.if-not-is_in_text.false;
+  left = rw c.is_in_text.ensures.same (omega arith);
+  giving = rw c.is_in_text.ensures.same (λ start first p. p);
+}
 
 pub next_word-requires : goal.next_word-requires
 next_word-requires g c = c.words.invariant.reads

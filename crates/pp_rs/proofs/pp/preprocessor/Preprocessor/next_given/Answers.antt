@@ -30,6 +30,7 @@ invariant_of-self c = (
       let on = reached_on _ _ _ _ first _ given.pauses in
       token_fits _ _ _ _ _ _ on.reached c.in-Ok-Some.token (given_over _ _ _ _ _ given.gives given.passes),
   c.give_next.ensures.below ∙ c.self.invariant.1,
+  λ e. cc,
 )
 
 pub invariant_of-self-in-Ok-None : goal.invariant_of-self-in-Ok-None
@@ -39,6 +40,7 @@ invariant_of-self-in-Ok-None c = (
       let r = (reached_on _ _ _ _ first _ (rw c.in-Ok-None.field-0-is at (c.in-Ok-None.ensures {u = tt}).gives)).reached in
       (r.fit, r.reported),
   c.give_next.ensures.below ∙ c.self.invariant.1,
+  λ e. cc,
 )
 
 pub returns-in-Ok-Some : goal.returns-in-Ok-Some

@@ -2,8 +2,8 @@ use Rattle.std.proofs.Common.{◌∙◌, arith}
 use Rattle.pp_rs.proofs.runs.NextWordLemmas.{passed_again, passed_next}
 use Rattle.pp_rs.proofs.pp.preprocessor.Preprocessor.next_other.Goals as goal
 
-pub step-requires : goal.step-requires
-step-requires c = (rw c.in_default.is at c.next_given.ensures).spent ∙ c.requires
+pub next_step-requires : goal.next_step-requires
+next_step-requires c = (rw c.in_default.is at c.next_given.ensures).spent ∙ c.requires
 
 pub returns-in-Some : goal.returns-in-Some
 returns-in-Some c = rw c.in-Some.is at c.next_given.ensures
@@ -11,20 +11,20 @@ returns-in-Some c = rw c.in-Some.is at c.next_given.ensures
 pub returns-in-Some-Some-Ok : goal.returns-in-Some-Some-Ok
 returns-in-Some-Some-Ok c =
     passed_next _ _ _ _ c.requires (rw c.in_default.is at c.next_given.ensures)
-    (rw (c.in-Some-Some-Ok.is, c.in-Some-Some-Ok.field-0-is, c.in-Some-Some-Ok.field-0-0-is) at c.step.ensures)
+    (rw (c.in-Some-Some-Ok.is, c.in-Some-Some-Ok.field-0-is, c.in-Some-Some-Ok.field-0-0-is) at c.next_step.ensures)
 
 pub returns-in-Some-Some-Err : goal.returns-in-Some-Some-Err
 returns-in-Some-Some-Err c =
     passed_next _ _ _ _ c.requires (rw c.in_default.is at c.next_given.ensures)
-    (rw (c.in-Some-Some-Err.is, c.in-Some-Some-Err.field-0-is, c.in-Some-Some-Err.field-0-0-is) at c.step.ensures)
+    (rw (c.in-Some-Some-Err.is, c.in-Some-Some-Err.field-0-is, c.in-Some-Some-Err.field-0-0-is) at c.next_step.ensures)
 
 pub returns-in-Some-None : goal.returns-in-Some-None
 returns-in-Some-None c =
     passed_next _ _ _ _ c.requires (rw c.in_default.is at c.next_given.ensures)
-    (rw (c.in-Some-None.is, c.in-Some-None.field-0-is) at c.step.ensures)
+    (rw (c.in-Some-None.is, c.in-Some-None.field-0-is) at c.next_step.ensures)
 
 pub returns-in-None : goal.returns-in-None
 returns-in-None c =
     let given = rw c.in_default.is at c.next_given.ensures in
-    let pause = rw c.in-None.is at c.step.ensures in
+    let pause = rw c.in-None.is at c.next_step.ensures in
     record { passed = passed_again _ _ _ given pause.passed; less_left = omega (arith, given.no_more_left, pause.less_left) }

@@ -57,6 +57,7 @@ invariant_of-self c = (
       token_fits _ _ _ _ _ _ c.words.invariant.reached (word_token c.in-Some-default-None.word)
       (word_over _ _ _ (word_token c.in-Some-default-None.word) c.words.invariant.idle takes.step takes.does),
   c.words.invariant.alone,
+  λ _. record { idle = c.words.invariant.idle; text = c.next_word.ensures.stays; unspent = c.words.invariant.unspent },
 )
 
 pub returns-in-Some-default-None-clause-gives : goal.returns-in-Some-default-None-clause-gives
@@ -86,6 +87,7 @@ invariant_of-self-in-Ok c = (
       let on = reached_more _ _ _ _ _ _ c.words.invariant.reached (bare_over _ _ _ _ _ c.words.invariant.idle takes _ opens) in
       (on.fit, on.reported),
   c.open_numbered.ensures.below ∙ c.words.invariant.alone,
+  λ e. cc,
 )
 
 pub returns-in-Ok-clause-gives : goal.returns-in-Ok-clause-gives
@@ -101,7 +103,7 @@ returns-in-Ok-clause-gives c =
 
 -- no memory to open it
 pub invariant_of-self-in-Err : goal.invariant_of-self-in-Err
-invariant_of-self-in-Err c = (λ e. cc, c.open_numbered.ensures.below ∙ c.words.invariant.alone)
+invariant_of-self-in-Err c = (λ e. cc, c.open_numbered.ensures.below ∙ c.words.invariant.alone, λ e. cc)
 
 pub returns-in-Err-clause-spent : goal.returns-in-Err-clause-spent
 unfolding is_spent

@@ -25,6 +25,7 @@ invariant_of-self c = (
       (pass_fits c.args.self.now c.self.inside.expander.here c.self.inside.source (ap (λ p. p.expander) (sym c.self.view_is))
       (ap (λ p. p.source) (sym c.self.view_is)) (c.self.invariant.0 e) c.requires.0 c.requires.1),
   ap (λ (m : MacroProcessor). m.below) c.pass_token.ensures ∙ c.self.invariant.1,
+  λ e. cc,
 )
 
 pub returns-clause-gives : goal.returns-clause-gives

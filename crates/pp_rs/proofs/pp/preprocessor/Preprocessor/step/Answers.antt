@@ -19,6 +19,7 @@ invariant_of-self c = (
       let first = reached_first _ _ _ _ (ap (λ p. p.expander) c.self.view_is) (ap (λ p. p.source) c.self.view_is) (c.self.invariant.0 e) in
       token_fits _ _ _ _ _ _ first c.in-Ok.token c.in-Ok.ensures.turns,
   c.turn_source.ensures.below ∙ c.self.invariant.1,
+  λ e. cc,
 )
 
 pub invariant_of-self-in-Err-Error : goal.invariant_of-self-in-Err-Error
@@ -29,6 +30,7 @@ invariant_of-self-in-Err-Error c =
       λ e. fault_fits _ _ _ _ _ _ first c.in-Err-Error.error c.refused_item.new.source c.refused_item.ensures.source
           (rw c.in-Err-Error.field-0-is at c.in-Err-Error.ensures.turns) (sym c.refused_item.ensures.spent ∙ e),
       c.turn_source.ensures.below ∙ c.self.invariant.1,
+      λ e. cc,
     )
 
 pub invariant_of-self-in-Err-Finished : goal.invariant_of-self-in-Err-Finished
@@ -37,6 +39,7 @@ invariant_of-self-in-Err-Finished c = (
       let first = reached_first _ _ _ _ (ap (λ p. p.expander) c.self.view_is) (ap (λ p. p.source) c.self.view_is) (c.self.invariant.0 e) in
       end_fits _ _ _ _ _ _ first (rw c.in-Err-Finished.field-0-is at c.in-Err-Finished.ensures.turns),
   c.turn_source.ensures.below ∙ c.self.invariant.1,
+  λ e. cc,
 )
 
 pub invariant_of-self-in-Err-Continue : goal.invariant_of-self-in-Err-Continue
@@ -46,6 +49,7 @@ invariant_of-self-in-Err-Continue c = (
       let on = reached_more _ _ _ _ _ _ first (rw c.in-Err-Continue.field-0-is at c.in-Err-Continue.ensures.turns) in
       (on.fit, on.reported),
   c.turn_source.ensures.below ∙ c.self.invariant.1,
+  λ e. cc,
 )
 
 pub returns-in-Ok : goal.returns-in-Ok
