@@ -1,5 +1,5 @@
 -- A call of `next` that asks for a word of plain text first.
-use Rattle.std.proofs.Common.{◌≡◌, ◌∙◌, ◌⊎◌, inl, inr, ◌<◌, ◌≤◌, true, false, refl, sym, Option, Some, None, Ok, Err, IfOk, IfErr, arith}
+use Rattle.std.proofs.Common.{◌≡◌, ◌∙◌, ◌⊎◌, inl, inr, ◌<◌, ◌≤◌, Bool, true, false, refl, sym, Option, Some, None, Ok, Err, IfOk, IfErr, arith}
 use Rattle.pp_lexer.specs.PreprocessorError.{out_of_memory}
 use Rattle.pp_lexer.specs.declared.token.Token.{Token}
 use Rattle.pp_macros.specs.Item.{Item}
@@ -14,6 +14,10 @@ reports_over old mid new (Some (Err fault)) left place (of_lexer e) = of_lexer (
 reports_over old mid new (Some (Err fault)) left place (of_its_own e f) = of_its_own e (f ∙ left)
 reports_over old mid new (Some (Ok token)) left place reports = (reports.0 ∙ left, reports.1 ∙ place)
 reports_over old mid new None left place reports = (sym left ∙ reports.0, reports.1, reports.2 ∙ place)
+
+-- memory didn't both last and run out
+pub never_both : {Z : Type 0} (spent : Bool) → spent ≡ false → spent ≡ true → Z
+never_both spent fresh out = cc
 
 -- so is less left
 pub less_over : (old mid new : Preprocessing) (answer : Option Item) → most_items mid ≤ most_items old → IsLessLeft answer mid new → IsLessLeft answer old new

@@ -146,17 +146,17 @@ impl<'a> Preprocessor<'a> {
         }
     }
 
-    // Whether the next token is one of live text: no macro is open, and nothing is held. It notes that it is.
+    // Whether the next token is one of live text: no macro is open, nothing is held, and memory didn't run out. It notes
+    // that it is.
     #[inline(always)]
     pub(crate) fn is_in_text(&mut self) -> bool
-        requires { is_spent self.old ≡ false }
         ensures reads { IsTrue result → ReadsText self.new }
         ensures same { self.new ≡ self.old }
     {
         if self.in_text {
             return true;
         }
-        if !self.expander.is_idle() || !self.source.is_in_text() {
+        if self.spent || !self.expander.is_idle() || !self.source.is_in_text() {
             return false;
         }
         self.in_text = true;
@@ -230,11 +230,11 @@ impl<'a> Preprocessor<'a> {
     }
 
     // Does what `next` does, if the next item is a word of live text that is given as it is. Otherwise returns `None`,
-    // after what `next_word` passes.
+    // after what `next_word` passes; if memory ran out that is nothing.
     #[inline(always)]
     fn next_text(&mut self) -> Option<PreprocessorItem>
-        requires { is_spent self.old ≡ false }
-        ensures { IsNextGiven self.old result self.new }
+        ensures gives { IsNextGiven self.old result self.new }
+        ensures spent { is_spent self.old ≡ true → (result ≡ None) × (self.new ≡ self.old) }
     {
         if !self.is_in_text() {
             return None;
@@ -314,18 +314,17 @@ impl<'a> Preprocessor<'a> {
         }
     }
 
-    // Does what `next` does. Most items are words of plain text, and these are moved less than others if they are asked
-    // for first.
+    // Does what `next` does. Most items are words of plain text, and these cost least if they are asked for first.
     #[inline(always)]
     fn next_item(&mut self) -> Option<PreprocessorItem>
         ensures { IsNextItem self.old result self.new }
     {
-        if self.is_spent() {
-            return None;
-        }
         'steps: loop {
             if let Some(item) = self.next_text() {
                 return Some(item);
+            }
+            if self.is_spent() {
+                return None;
             }
             if let Some(answer) = self.next_other() {
                 return answer;

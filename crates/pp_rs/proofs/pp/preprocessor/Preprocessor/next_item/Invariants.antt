@@ -1,12 +1,13 @@
-use Rattle.std.proofs.Common.{◌≡◌, false}
+use Rattle.std.proofs.Common.{◌≡◌, true}
 use Rattle.pp_rs.specs.Kept.{is_spent, most_items}
 use Rattle.pp_rs.specs.inner.NextWord.{IsPassed}
 use Rattle.pp_rs.proofs.pp.preprocessor.Preprocessor.next_item.Given as goal
 
+-- pauses were passed; if memory had run out, nothing was
 abbrev pub invariant-steps : goal.invariant-steps
 invariant-steps l = record {
-  unspent : is_spent l.self ≡ false;
   passed : IsPassed l.fn.self l.self;
+  spent : is_spent l.self ≡ true → l.self ≡ l.fn.self;
 }
 
 abbrev pub decreases-steps : goal.decreases-steps
