@@ -1,6 +1,7 @@
 pub mod NumbersLemmas
 pub mod NumberAtLemmas
 pub mod ScanLemmas
+pub mod SuffixesLemmas
 pub mod ValueLemmas
 pub mod FloatLemmas
 pub mod PlainNumbersLemmas

@@ -1,4 +1,5 @@
 pub mod SpelledWordLemmas
+pub mod SuffixSpellingLemmas
 pub mod FloatSpellingLemmas
 pub mod SpelledTextLemmas
 pub mod RespellingLemmas

@@ -3,7 +3,7 @@ use Rattle.std.specs.Prelude.{ℕ, List, [], ◌∷◌, ◌++◌, codes, filter}
 use Rattle.std.specs.List.{flat_map}
 use Rattle.pp_lexer.specs.Entry.{Entry, Leaf, ident, integer, float, punct, version, extension, pragma, is_outermost}
 use Rattle.pp_lexer.specs.Punctuators.{punctuator}
-use Rattle.pp_lexer.specs.Spelling.{integer_literal, spelling}
+use Rattle.pp_lexer.specs.Spelling.{integer_literal, float_literal, spelling}
 use Rattle.pp_lexer.specs.declared.token.TokenValue.{TokenValue}
 use Rattle.pp_lexer.specs.declared.token.TokenValue.TheVariants.{Version, Extension, Pragma}
 
@@ -11,7 +11,7 @@ use Rattle.pp_lexer.specs.declared.token.TokenValue.TheVariants.{Version, Extens
 abbrev pub leaf_spelling : Leaf → List ℕ
 leaf_spelling (ident name) = name
 leaf_spelling (integer i) = integer_literal i
-leaf_spelling (float text width) = text
+leaf_spelling (float text width) = float_literal text width
 leaf_spelling (punct p) = punctuator p
 leaf_spelling (version first comments) = []
 leaf_spelling (extension before) = []

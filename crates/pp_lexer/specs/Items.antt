@@ -9,7 +9,9 @@ use Rattle.pp_lexer.specs.declared.lexer.item.Token.{Token}
 use Rattle.pp_lexer.specs.declared.lexer.item.TokenValue.{TokenValue}
 use Rattle.pp_lexer.specs.declared.lexer.item.TokenValue.TheVariants.{NewLine}
 use Rattle.pp_lexer.specs.declared.lexer.char_iterator.Spot.{Spot}
+use Rattle.pp_lexer.specs.declared.rules.Rules.{Rules}
 use Rattle.pp_lexer.specs.Location.{nowhere}
+use Rattle.pp_lexer.specs.Rules.{pp_rs}
 use Rattle.pp_lexer.specs.Surroundings.{surrounded}
 use Rattle.pp_lexer.specs.Segments.{Kind, blank, comment, item, Segment, segments}
 
@@ -87,10 +89,14 @@ final_newline (g ∷ gs) =
 
 -- The items of a text, by its characters after the phases: those of its segments, each by the segments before it, and
 -- the newline at its end, if one is added.
+abbrev pub items_by : Rules → List Spot → List Item
+items_by rules ss =
+    flat_map (λ s. item_at s.before s.here s.here.kind) (surrounded (segments rules ss))
+    ++ final_newline (reverse (segments rules ss))
+
+-- those at pp-rs's rules
 abbrev pub items_of : List Spot → List Item
-items_of ss =
-    flat_map (λ s. item_at s.before s.here s.here.kind) (surrounded (segments ss))
-    ++ final_newline (reverse (segments ss))
+items_of ss = items_by pp_rs ss
 
 -- the place of a segment's item, an error too; a blank or a comment has none
 abbrev pub places_at : Segment → Kind → List Location
@@ -104,9 +110,12 @@ final_place [] = []
 final_place (g ∷ gs) = if start_of_line (g ∷ gs) then [] else place_after g.last ∷ []
 
 -- the places of the items of a text, errors too: one place for each item
+abbrev pub places_by : Rules → List Spot → List Location
+places_by rules ss = flat_map (λ g. places_at g g.kind) (segments rules ss) ++ final_place (reverse (segments rules ss))
+
 abbrev pub places_of : List Spot → List Location
-places_of ss = flat_map (λ g. places_at g g.kind) (segments ss) ++ final_place (reverse (segments ss))
+places_of ss = places_by pp_rs ss
 
 -- how many comments were passed as blanks by the end of the text
-abbrev pub comments_of : List Spot → ℕ
-comments_of ss = comments_in (segments ss)
+abbrev pub comments_by : Rules → List Spot → ℕ
+comments_by rules ss = comments_in (segments rules ss)

@@ -28,9 +28,9 @@ reading_after word = record {
 -- The items to come are this word and those of the text after it. The comments before it were passed.
 pub record CanPass (l : Lexed) (word : PlainItem) : Type 0 where
   pub items : l.rest ≡ record { item = Ok (token_of word); had_comments = l.had_comments }
-      ∷ seen_of (flags_after l.had_comments) (reading_after word)
-  pub places : l.places ≡ word.location ∷ places_left (flags_after l.had_comments) (reading_after word)
-  pub at_end : l.at_end ≡ comments_at_end (flags_after l.had_comments) (reading_after word)
+      ∷ seen_of l.rules (flags_after l.had_comments) (reading_after word)
+  pub places : l.places ≡ word.location ∷ places_left l.rules (flags_after l.had_comments) (reading_after word)
+  pub at_end : l.at_end ≡ comments_at_end l.rules (flags_after l.had_comments) (reading_after word)
   pub some : 0 < length word.spelling.now
   pub sized : word.location.end ≡ word.location.start + length word.spelling.now
   pub room : word.location.end + length word.rest.now < 2 ^ 32 - 1

@@ -2,11 +2,13 @@
 use Rattle.std.specs.Prelude.{◌≡◌, Bool, true, false, ◌⊎◌, IsTrue, nat_lt, List, [], ◌∷◌, map, Option, Some, None, Ok}
 use Rattle.std.specs.Prelude.{Err, MatchBool}
 use Rattle.pp_lexer.specs.declared.lexer.char_iterator.Spot.{Spot}
+use Rattle.pp_lexer.specs.declared.rules.Rules.{Rules}
 use Rattle.pp_lexer.specs.declared.token.Location.{Location}
 use Rattle.pp_lexer.specs.LexerToken.{holds_memory}
 use Rattle.pp_lexer.specs.PreprocessorError.{out_of_memory}
 use Rattle.pp_lexer.specs.Location.{nowhere}
-use Rattle.pp_lexer.specs.Items.{Lexeme, Item, items_of, comments_of, places_of}
+use Rattle.pp_lexer.specs.Items.{Lexeme, Item, items_by, comments_by, places_by}
+use Rattle.pp_lexer.specs.Rules.{pp_rs}
 
 -- an item, and whether a comment before it was passed as a blank
 pub record Seen : Type 0 where
@@ -14,7 +16,7 @@ pub record Seen : Type 0 where
   pub had_comments : Bool
 
 -- The items to come; whether comments were passed so far, and whether any will have been at the end; whether memory ran
--- out; the place of the item given last, and the places of those to come.
+-- out; the place of the item given last, and the places of those to come; and the rules.
 pub record Lexed : Type 0 where
   pub rest : List Seen
   pub had_comments : Bool
@@ -22,21 +24,27 @@ pub record Lexed : Type 0 where
   pub spent : Bool
   pub place : Location
   pub places : List Location
+  pub rules : Rules
 
 abbrev pub seen : Item → Seen
 seen i = record { item = i.item; had_comments = nat_lt 0 i.comments }
 
 -- a lexer at the start of a text
-abbrev pub start_of : List Spot → Lexed
-start_of ss =
+abbrev pub start_by : Rules → List Spot → Lexed
+start_by rules ss =
     record {
-      rest = map seen (items_of ss);
+      rest = map seen (items_by rules ss);
       had_comments = false;
-      at_end = nat_lt 0 (comments_of ss);
+      at_end = nat_lt 0 (comments_by rules ss);
       spent = false;
       place = nowhere;
-      places = places_of ss;
+      places = places_by rules ss;
+      rules = rules;
     }
+
+-- the same at pp-rs's rules
+abbrev pub start_of : List Spot → Lexed
+start_of ss = start_by pp_rs ss
 
 -- the first item to come
 abbrev pub first_item : List Seen → Option Lexeme

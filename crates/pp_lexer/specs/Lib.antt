@@ -1,3 +1,4 @@
+pub mod Rules
 pub mod Location
 pub mod Entry
 pub mod Preorder

@@ -1,7 +1,8 @@
 -- The value of a number, by its spelling and the characters after it: GLSL ES 3.20, sections 4.1.3 and 4.1.4. What the
--- language's types can't hold, such as a literal of 64 bits, is an error.
-use Rattle.std.specs.Prelude.{ℕ, ◌+◌, ◌^◌, pos, Bool, not, ◌&&◌, ◌||◌, ◌==◌, nat_lt, if◌then◌else◌, List, [], ◌∷◌}
-use Rattle.std.specs.Prelude.{Option, Some, None, Ok, Err, length, take, drop, map, filter, ok_or, option_map}
+-- language's types can't hold is an error, and so is a literal of 64 or of 16 bits, unless the rules take these widths.
+use Rattle.std.specs.Prelude.{ℕ, ℤ, ◌+◌, ◌^◌, pos, Bool, true, false, not, ◌&&◌, ◌||◌, ◌==◌, nat_lt, if◌then◌else◌}
+use Rattle.std.specs.Prelude.{List, [], ◌∷◌, Option, Some, None, Ok, Err, codes, length, take, drop, map, filter}
+use Rattle.std.specs.Prelude.{ok_or, option_map}
 use Rattle.std.specs.List.{list_all, list_any}
 use Rattle.std.specs.Char.{is_digit}
 use Rattle.std.specs.Str.Parse.{digits_value_after}
@@ -11,6 +12,8 @@ use Rattle.pp_lexer.specs.declared.token.PreprocessorError.TheVariants.{NotSuppo
 use Rattle.pp_lexer.specs.declared.token.PreprocessorError.TheVariants.{NotSupported16BitLiteral, IntegerOverflow}
 use Rattle.pp_lexer.specs.declared.token.PreprocessorError.TheVariants.{FloatParsingError}
 use Rattle.pp_lexer.specs.declared.lexer.item.TokenValue.TheVariants.{Integer, Float}
+use Rattle.pp_lexer.specs.declared.lexer.number.Suffix.{Suffix}
+use Rattle.pp_lexer.specs.declared.rules.Rules.{Rules}
 use Rattle.pp_lexer.specs.Longest.{longest}
 use Rattle.pp_lexer.specs.Numbers.{is_zero, is_x, is_point, is_e, is_sign, is_decimal, digits, is_number}
 use Rattle.pp_lexer.specs.Outcome.{Answer, Outcome}
@@ -33,16 +36,30 @@ is_u c = (c == 117) || (c == 85)
 abbrev pub is_s : ℕ → Bool
 is_s c = (c == 115) || (c == 83)
 
--- the error of a letter for a width that isn't supported: `l` for 64 bits, another for 16; the letter is never taken
-abbrev pub width_refusal : (ℕ → Bool) → List ℕ → Option PreprocessorError
-width_refusal is_short after =
-    if begins_with is_l after then Some NotSupported64BitLiteral
+-- Where widths aren't taken, the error of a letter for one: `l` for 64 bits, another for 16. The letter is never taken.
+abbrev pub width_refusal : Rules → (ℕ → Bool) → List ℕ → Option PreprocessorError
+width_refusal rules is_short after =
+    if rules.takes_widths then None
+    else if begins_with is_l after then Some NotSupported64BitLiteral
     else if begins_with is_short after then Some NotSupported16BitLiteral
     else None
 
--- the number of characters that a suffix takes: 1 if it is here, and 0 otherwise
-abbrev pub suffix_len : (ℕ → Bool) → List ℕ → ℕ
-suffix_len is_suffix after = if begins_with is_suffix after then 1 else 0
+-- a suffix of so many characters that says this width
+abbrev pub suffix_of : ℕ → ℤ → Suffix
+suffix_of taken width = record { taken = taken; width = width }
+
+-- the suffix of 32 bits: one letter if it is here, and none otherwise
+abbrev pub usual_suffix : (ℕ → Bool) → List ℕ → Suffix
+usual_suffix is_suffix after = suffix_of (if begins_with is_suffix after then 1 else 0) (pos 32)
+
+-- the characters begin with these
+abbrev pub begins_as : List ℕ → List ℕ → Bool
+begins_as [] cs = true
+begins_as (c ∷ w) [] = false
+begins_as (c ∷ w) (d ∷ cs) = (d == c) && begins_as w cs
+
+abbrev pub begins_as_either : List ℕ → List ℕ → List ℕ → Bool
+begins_as_either small capital cs = begins_as small cs || begins_as capital cs
 
 -- the spelling begins with `0x`
 abbrev pub begins_hex : List ℕ → Bool
@@ -75,16 +92,28 @@ abbrev pub is_float_text : List ℕ → Bool
 is_float_text cs =
     one is_decimal (many is_decimal float_tail) cs || one is_point (one is_decimal (many is_decimal float_exponent)) cs
 
-abbrev pub float_value : List ℕ → Answer
-float_value w =
-    if is_float_text (float_text w) then Ok (Float (record { text = float_text w; width = pos 32 }))
+abbrev pub float_value : ℤ → List ℕ → Answer
+float_value width w =
+    if is_float_text (float_text w) then Ok (Float (record { text = float_text w; width = width }))
     else Err FloatParsingError
 
--- an `f` after a float is taken; the letter of a width is reported before any fault of the value
-abbrev pub float_outcome : List ℕ → List ℕ → Outcome
-float_outcome w after = record {
-  value = option_map_or Err (width_refusal is_h after) (float_value w);
-  taken = length w + suffix_len is_f after;
+-- `lf`, `hf` or `f`, all of it small or all of it capital
+abbrev pub width_of_float : List ℕ → Suffix
+width_of_float after =
+    if begins_as_either (codes "lf") (codes "LF") after then suffix_of 2 (pos 64)
+    else if begins_as_either (codes "hf") (codes "HF") after then suffix_of 2 (pos 16)
+    else usual_suffix is_f after
+
+abbrev pub float_suffix : Rules → List ℕ → Suffix
+float_suffix rules after = if rules.takes_widths then width_of_float after else usual_suffix is_f after
+
+-- the suffix of a float is taken; the letter of a width that isn't is reported before any fault of the value
+abbrev pub float_outcome : Rules → List ℕ → List ℕ → Outcome
+float_outcome rules w after = record {
+  value =
+      option_map_or Err (width_refusal rules is_h after)
+      (float_value (float_suffix rules after).width w);
+  taken = length w + (float_suffix rules after).taken;
 }
 
 -- Integers
@@ -104,25 +133,37 @@ whole base (c ∷ cs) =
     then Some (digits_value_after base 0 (c ∷ cs))
     else None
 
-abbrev pub integer_value : Bool → List ℕ → Answer
-integer_value signed w =
+abbrev pub integer_value : Bool → ℤ → List ℕ → Answer
+integer_value signed width w =
     ok_or
-    (option_map (λ n. Integer (record { value = n; signed = signed; width = pos 32 }))
+    (option_map (λ n. Integer (record { value = n; signed = signed; width = width }))
     (whole (base_of w) (digits_of w)))
     IntegerOverflow
 
--- a `u` after an integer is taken and makes it unsigned
-abbrev pub integer_outcome : List ℕ → List ℕ → Outcome
-integer_outcome w after = record {
+-- `l`, `ul`, `s`, `us` or `u`, all of it small or all of it capital
+abbrev pub width_of_integer : List ℕ → Suffix
+width_of_integer after =
+    if begins_with is_l after then suffix_of 1 (pos 64)
+    else if begins_as_either (codes "ul") (codes "UL") after then suffix_of 2 (pos 64)
+    else if begins_with is_s after then suffix_of 1 (pos 16)
+    else if begins_as_either (codes "us") (codes "US") after then suffix_of 2 (pos 16)
+    else usual_suffix is_u after
+
+abbrev pub integer_suffix : Rules → List ℕ → Suffix
+integer_suffix rules after = if rules.takes_widths then width_of_integer after else usual_suffix is_u after
+
+-- the suffix of an integer is taken, and one that begins with a `u` makes it unsigned
+abbrev pub integer_outcome : Rules → List ℕ → List ℕ → Outcome
+integer_outcome rules w after = record {
   value =
-      option_map_or Err (width_refusal is_s (drop (suffix_len is_u after) after))
-      (integer_value (not (begins_with is_u after)) w);
-  taken = length w + suffix_len is_u after;
+      option_map_or Err (width_refusal rules is_s (drop (integer_suffix rules after).taken after))
+      (integer_value (not (begins_with is_u after)) (integer_suffix rules after).width w);
+  taken = length w + (integer_suffix rules after).taken;
 }
 
-abbrev pub number_outcome : List ℕ → List ℕ → Outcome
-number_outcome w after = if is_float w then float_outcome w after else integer_outcome w after
+abbrev pub number_outcome : Rules → List ℕ → List ℕ → Outcome
+number_outcome rules w after = if is_float w then float_outcome rules w after else integer_outcome rules w after
 
 -- the outcome of the longest number here, by the characters after it
-unfoldable pub number_at : List ℕ → Outcome
-number_at cs = number_outcome (take (longest is_number cs) cs) (drop (longest is_number cs) cs)
+unfoldable pub number_at : Rules → List ℕ → Outcome
+number_at rules cs = number_outcome rules (take (longest is_number cs) cs) (drop (longest is_number cs) cs)

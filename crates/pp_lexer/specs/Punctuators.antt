@@ -17,6 +17,7 @@ use Rattle.pp_lexer.specs.declared.token.Punct.TheVariants.{Ampersand, Question}
 use Rattle.pp_lexer.specs.declared.token.PreprocessorError.TheVariants.{UnexpectedCharacter}
 use Rattle.pp_lexer.specs.declared.lexer.item.TokenValue.{TokenValue}
 use Rattle.pp_lexer.specs.declared.lexer.item.TokenValue.TheVariants.{Hash, Punct}
+use Rattle.pp_lexer.specs.declared.rules.Rules.{Rules}
 use Rattle.pp_lexer.specs.Longest.{longest}
 use Rattle.pp_lexer.specs.Outcome.{Outcome}
 
@@ -56,12 +57,16 @@ is_punctuation w = is_hash w || is_punctuator w
 abbrev pub punctuation_value : List ℕ → Option TokenValue
 punctuation_value w = if is_hash w then Some Hash else option_map Punct (punct_of w)
 
--- a punctuator or a `#` is a token of `n` characters; if there is none, a bad character takes up to two more
-abbrev pub punctuation_outcome : ℕ → Option TokenValue → Outcome
-punctuation_outcome n None = record { value = Err UnexpectedCharacter; taken = 3 }
-punctuation_outcome n (Some v) = record { value = Ok v; taken = n }
+-- how many characters a bad one takes: itself alone, or up to two more
+abbrev pub bad_length : Rules → ℕ
+bad_length rules = if rules.takes_one_bad_character then 1 else 3
+
+-- a punctuator or a `#` is a token of `n` characters; if there is none, the character is a bad one
+abbrev pub punctuation_outcome : Rules → ℕ → Option TokenValue → Outcome
+punctuation_outcome rules n None = record { value = Err UnexpectedCharacter; taken = bad_length rules }
+punctuation_outcome rules n (Some v) = record { value = Ok v; taken = n }
 
 -- what begins here, if neither an identifier nor a number does: the longest punctuator or `#`, or a bad character
-unfoldable pub punctuation_at : List ℕ → Outcome
-punctuation_at cs =
-    punctuation_outcome (longest is_punctuation cs) (punctuation_value (take (longest is_punctuation cs) cs))
+unfoldable pub punctuation_at : Rules → List ℕ → Outcome
+punctuation_at rules cs =
+    punctuation_outcome rules (longest is_punctuation cs) (punctuation_value (take (longest is_punctuation cs) cs))

@@ -4,6 +4,7 @@ use Rattle.std.specs.Prelude.{ℕ, zero, suc, ◌==◌, if◌then◌else◌, Lis
 use Rattle.pp_lexer.specs.declared.token.PreprocessorError.{PreprocessorError}
 use Rattle.pp_lexer.specs.declared.lexer.item.TokenValue.{TokenValue}
 use Rattle.pp_lexer.specs.declared.lexer.char_iterator.Spot.{Spot}
+use Rattle.pp_lexer.specs.declared.rules.Rules.{Rules}
 use Rattle.pp_lexer.specs.Reading.{letters}
 use Rattle.pp_lexer.specs.Words.{is_blank, word_at}
 
@@ -25,22 +26,25 @@ last_of s (t ∷ ts) = last_of t ts
 
 -- A blank is a segment by itself. A carriage return is the mark of a comment: the phases leave no other. Any other
 -- character begins a word, or is a bad one.
-abbrev pub kind_of : Spot → List Spot → Kind
-kind_of s ss = if is_blank s.c then (if s.c == 13 then comment else blank) else item (word_at (letters (s ∷ ss))).value
+abbrev pub kind_of : Rules → Spot → List Spot → Kind
+kind_of rules s ss =
+    if is_blank s.c then (if s.c == 13 then comment else blank) else item (word_at rules (letters (s ∷ ss))).value
 
-abbrev pub taken_by : Spot → List Spot → ℕ
-taken_by s ss = if is_blank s.c then 1 else (word_at (letters (s ∷ ss))).taken
+abbrev pub taken_by : Rules → Spot → List Spot → ℕ
+taken_by rules s ss = if is_blank s.c then 1 else (word_at rules (letters (s ∷ ss))).taken
 
 -- the segment at the front of the characters
-abbrev pub segment_at : Spot → List Spot → Segment
-segment_at s ss = record { kind = kind_of s ss; first = s; last = last_of s (take (taken_by s ss) (s ∷ ss)) }
+abbrev pub segment_at : Rules → Spot → List Spot → Segment
+segment_at rules s ss =
+    record { kind = kind_of rules s ss; first = s; last = last_of s (take (taken_by rules s ss) (s ∷ ss)) }
 
 -- the first segment and those of the characters after it, at most `n` in all
-abbrev pub segments_within : ℕ → List Spot → List Segment
-segments_within zero ss = []
-segments_within (suc n) [] = []
-segments_within (suc n) (s ∷ ss) = segment_at s ss ∷ segments_within n (drop (taken_by s ss) (s ∷ ss))
+abbrev pub segments_within : Rules → ℕ → List Spot → List Segment
+segments_within rules zero ss = []
+segments_within rules (suc n) [] = []
+segments_within rules (suc n) (s ∷ ss) =
+    segment_at rules s ss ∷ segments_within rules n (drop (taken_by rules s ss) (s ∷ ss))
 
 -- no text has more segments than characters
-unfoldable pub segments : List Spot → List Segment
-segments ss = segments_within (length ss) ss
+unfoldable pub segments : Rules → List Spot → List Segment
+segments rules ss = segments_within rules (length ss) ss

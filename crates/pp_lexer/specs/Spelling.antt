@@ -1,7 +1,8 @@
 -- How a token is written: the tokens of GLSL ES 3.20, section 3.6.
-use Rattle.std.specs.Prelude.{ℕ, if◌then◌else◌, List, [], ◌++◌, codes, map}
+use Rattle.std.specs.Prelude.{ℕ, ℤ, Bool, pos, if◌then◌else◌, List, [], ◌++◌, codes, map}
 use Rattle.std.specs.Fmt.{decimal}
 use Rattle.std.specs.List.{join_with_byte}
+use Rattle.std.specs.Ordering.{int_eq}
 use Rattle.pp_lexer.specs.declared.token.Integer.{Integer as IntegerLiteral}
 use Rattle.pp_lexer.specs.declared.token.Token.{Token}
 use Rattle.pp_lexer.specs.declared.token.TokenValue.{TokenValue}
@@ -9,15 +10,29 @@ use Rattle.pp_lexer.specs.Punctuators.{punctuator}
 use Rattle.pp_lexer.specs.declared.token.TokenValue.TheVariants.{Ident, Integer, Float, Punct, Version, Extension}
 use Rattle.pp_lexer.specs.declared.token.TokenValue.TheVariants.{Pragma}
 
--- the decimal digits of an integer, and a `u` if it is unsigned
+-- the letters of a width: the first ones for 64 bits, the others for 16, and none for the usual 32
+abbrev pub width_letters : List ℕ → List ℕ → ℤ → List ℕ
+width_letters long short width =
+    if int_eq width (pos 64) then long else if int_eq width (pos 16) then short else []
+
+-- an unsigned integer has a `u`
+abbrev pub sign_letter : Bool → List ℕ
+sign_letter signed = if signed then [] else codes "u"
+
+-- the decimal digits of an integer, the letter of its sign and that of its width
 abbrev pub integer_literal : IntegerLiteral → List ℕ
-integer_literal i = decimal i.value ++ (if i.signed then [] else codes "u")
+integer_literal i =
+    decimal i.value ++ (sign_letter i.signed ++ width_letters (codes "l") (codes "s") i.width)
+
+-- the text of a float, and the letters of its width
+abbrev pub float_literal : List ℕ → ℤ → List ℕ
+float_literal text width = text ++ width_letters (codes "lf") (codes "hf") width
 
 -- the characters of an ordinary token; an item that holds a directive has no spelling of its own
 abbrev pub spelling : TokenValue → List ℕ
 spelling (Ident name) = name
 spelling (Integer i) = integer_literal i
-spelling (Float f) = f.text
+spelling (Float f) = float_literal f.text f.width
 spelling (Punct p) = punctuator p
 spelling (Version v) = []
 spelling (Extension e) = []

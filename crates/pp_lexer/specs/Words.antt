@@ -2,6 +2,7 @@
 -- newline and the `#` of section 3.4.
 use Rattle.std.specs.Prelude.{ℕ, Bool, ◌||◌, ◌==◌, if◌then◌else◌, List, Ok, length, take, drop}
 use Rattle.pp_lexer.specs.declared.lexer.item.TokenValue.TheVariants.{NewLine, Ident}
+use Rattle.pp_lexer.specs.declared.rules.Rules.{Rules}
 use Rattle.pp_lexer.specs.Identifiers.{is_identifier}
 use Rattle.pp_lexer.specs.Longest.{longest}
 use Rattle.pp_lexer.specs.Numbers.{is_number}
@@ -23,13 +24,13 @@ unfoldable pub is_word : List ℕ → Bool
 is_word w = is_newline_word w || (is_identifier w || (is_number w || is_punctuation w))
 
 -- the value or the error of a word, by the characters after it; no word at all is a bad character
-abbrev pub word_outcome : List ℕ → List ℕ → Outcome
-word_outcome w after =
+abbrev pub word_outcome : Rules → List ℕ → List ℕ → Outcome
+word_outcome rules w after =
     if is_newline_word w then record { value = Ok NewLine; taken = 1 }
     else if is_identifier w then record { value = Ok (Ident w); taken = length w }
-    else if is_number w then number_outcome w after
-    else punctuation_outcome (length w) (punctuation_value w)
+    else if is_number w then number_outcome rules w after
+    else punctuation_outcome rules (length w) (punctuation_value w)
 
 -- what begins here, if no blank does: the longest word, or a bad character
-unfoldable pub word_at : List ℕ → Outcome
-word_at cs = word_outcome (take (longest is_word cs) cs) (drop (longest is_word cs) cs)
+unfoldable pub word_at : Rules → List ℕ → Outcome
+word_at rules cs = word_outcome rules (take (longest is_word cs) cs) (drop (longest is_word cs) cs)

@@ -6,17 +6,19 @@
 ghost use Rattle.std.specs.Prelude.{◌≡◌, ◌-◌, ◌^◌, ◌<◌, ◌+◌, ◌↔◌, length, Ok, Some, true, false, if◌then◌else◌, ⊤};
 ghost use Rattle.std.specs.Prelude.{IsSome, IfSome, MatchOption};
 ghost use Rattle.std.specs.Iterator.{at_most};
+ghost use Rattle.pp_lexer.specs.declared.rules.Rules.{Rules};
 ghost use Rattle.pp_lexer.specs.Reading.{first_char};
 ghost use Rattle.pp_lexer.specs.Spots.{spots_of};
 ghost use Rattle.pp_lexer.specs.Words.{is_blank};
 ghost use Rattle.pp_lexer.specs.Kept.{CanPass};
-ghost use Rattle.pp_lexer.specs.Lexed.{start_of, first_item, after_first_item, after_first, first_place};
+ghost use Rattle.pp_lexer.specs.Lexed.{start_of, start_by, first_item, after_first_item, after_first, first_place};
 ghost use Rattle.pp_lexer.specs.Lexed.{places_after_first, IsNext};
 ghost use Rattle.pp_lexer.specs.inner.Passing.{is_newline_result, newline_seen, lexeme_seen, newline_places};
 ghost use Rattle.pp_lexer.specs.inner.Passing.{SeesSame, IsRead};
 ghost use Rattle.pp_lexer.specs.inner.AfterSpaces.{IsAfterSpaces};
 ghost use Rattle.pp_lexer.specs.PlainItems.{is_newline_lexeme, IsNextWord, PassesBlanks, PassesNewline};
 
+use crate::rules::Rules;
 use crate::token::{Location, NOWHERE, PreprocessorError, out_of_memory};
 use std::alloc::{AllocError, Global};
 use std::marker::Model;
@@ -287,7 +289,7 @@ impl<'a> LexerState<'a> {
     #[inline(always)]
     fn next_newline(&mut self) -> Option<LexerItem>
         ensures lexed { MatchOption result (self.new ≡ self.old)
-            (λ newline. IsRead self.old (Ok (Some newline)) self.new) }
+            (λ newline. (rules : Rules) → IsRead rules self.old (Ok (Some newline)) self.new) }
         ensures newline { IfSome result (λ newline. is_newline_lexeme newline ≡ true) }
     {
         let left = self.inner.left();
@@ -322,9 +324,13 @@ impl<'a> LexerState<'a> {
         Some(Ok(token))
     }
 
-    // The next item, or `None` at the end, read character by character.
-    fn next_by_characters(&mut self, alloc: Global) -> Result<Option<LexerItem>, AllocError>
-        ensures { IsRead self.old result self.new }
+    // The next item by these rules, or `None` at the end, read character by character.
+    fn next_by_characters(
+        &mut self,
+        alloc: Global,
+        rules: Rules,
+    ) -> Result<Option<LexerItem>, AllocError>
+        ensures { IsRead rules self.old result self.new }
     {
         self.skip_blanks();
         let Some(first) = self.inner.peek_spot() else {
@@ -332,7 +338,7 @@ impl<'a> LexerState<'a> {
             self.place = place_at_end(self.flags, last, self.place);
             return Ok(final_newline(last, &mut self.flags));
         };
-        let value = parse_word(alloc, &mut self.inner)?;
+        let value = parse_word(alloc, rules, &mut self.inner)?;
         let before = self.flags;
         let at_line_end = ends_line(&value);
         self.flags.leading_whitespace = at_line_end;
@@ -355,10 +361,10 @@ impl<'a> LexerState<'a> {
 ///
 /// The errors, each with the place (0, 0, line 1); [`Lexer::place`] returns their place in the source:
 ///
-/// - [`PreprocessorError::UnexpectedCharacter`], if no word begins with the character; it takes that character and up
-///   to two more;
-/// - for a number [`PreprocessorError::NotSupported64BitLiteral`], [`PreprocessorError::NotSupported16BitLiteral`],
-///   [`PreprocessorError::IntegerOverflow`] and [`PreprocessorError::FloatParsingError`];
+/// - [`PreprocessorError::UnexpectedCharacter`], if no word begins with the character; it takes that character and, by
+///   pp-rs's rules, up to two more;
+/// - for a number [`PreprocessorError::IntegerOverflow`] and [`PreprocessorError::FloatParsingError`], and by pp-rs's
+///   rules [`PreprocessorError::NotSupported64BitLiteral`] and [`PreprocessorError::NotSupported16BitLiteral`];
 /// - [`PreprocessorError::OutOfMemory`], if the text of an identifier or of a float can't be allocated.
 ///
 /// After an `OutOfMemory`, `next` returns `None` from then on. After any other error it goes on.
@@ -368,6 +374,7 @@ impl<'a> LexerState<'a> {
 #[derive(Drop)]
 pub struct Lexer<'a> {
     alloc: Global,
+    rules: Rules,
     state: LexerState<'a>,
     spent: bool,
 }
@@ -379,7 +386,7 @@ impl<'a> Model for Lexer<'a> {
 
     ghost use Rattle.pp_lexer.specs.inner.Passing.{lexed};
 
-    ghost view = { λ s. lexed s.state.flags s.state.inner s.state.place s.spent };
+    ghost view = { λ s. lexed s.rules s.state.flags s.state.inner s.state.place s.spent };
 }
 
 impl<'a> Lexer<'a> {
@@ -389,8 +396,17 @@ impl<'a> Lexer<'a> {
         requires { length input.now < 2 ^ 32 - 1 }
         ensures { result ≡ start_of (spots_of input.now) }
     {
+        Lexer::with_rules(alloc, input, Rules::PP_RS)
+    }
+
+    /// Returns a lexer that reads the source by these rules. `new` is this at [`Rules::PP_RS`].
+    pub fn with_rules(alloc: Global, input: &'a str, rules: Rules) -> Lexer<'a>
+        requires { length input.now < 2 ^ 32 - 1 }
+        ensures { result ≡ start_by rules (spots_of input.now) }
+    {
         Lexer {
             alloc,
+            rules,
             state: LexerState {
                 inner: LexerCharIterator::new(input),
                 flags: Flags {
@@ -409,10 +425,18 @@ impl<'a> Lexer<'a> {
         ensures short { IsSome result ↔ (length input.now < 2 ^ 32 - 1) }
         ensures value { IfSome result (λ lexer. lexer ≡ start_of (spots_of input.now)) }
     {
+        Lexer::try_with_rules(alloc, input, Rules::PP_RS)
+    }
+
+    /// Does the same as `with_rules`, but returns `None` for a longer source.
+    pub fn try_with_rules(alloc: Global, input: &'a str, rules: Rules) -> Option<Lexer<'a>>
+        ensures short { IsSome result ↔ (length input.now < 2 ^ 32 - 1) }
+        ensures value { IfSome result (λ lexer. lexer ≡ start_by rules (spots_of input.now)) }
+    {
         if input.len() >= SOURCE_LIMIT {
             return None;
         }
-        Some(Lexer::new(alloc, input))
+        Some(Lexer::with_rules(alloc, input, rules))
     }
 
     /// Returns whether a comment was skipped before the item that `next` returned last or, after a `None`, anywhere in
@@ -545,7 +569,7 @@ impl<'a> Iterator for Lexer<'a> {
         if let Some(newline) = self.state.next_newline() {
             return Some(newline);
         }
-        let Ok(item) = self.state.next_by_characters(self.alloc) else {
+        let Ok(item) = self.state.next_by_characters(self.alloc, self.rules) else {
             self.spend();
             return Some(Err(out_of_memory()));
         };

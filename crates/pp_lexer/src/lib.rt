@@ -2,4 +2,5 @@
 #![tactic(auto)]
 
 pub mod lexer;
+pub mod rules;
 pub mod token;

@@ -12,4 +12,6 @@ mod failing;
 #[cfg(test)]
 mod program;
 #[cfg(test)]
+mod rules;
+#[cfg(test)]
 mod tokens;

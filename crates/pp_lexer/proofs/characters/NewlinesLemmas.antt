@@ -2,6 +2,7 @@
 use Rattle.std.proofs.Common.{◌≡◌, ℕ, ◌+◌, ◌<◌, List, [], ◌∷◌, length, drop, get_or, true, false, ◌==◌, refl, sym, ◌∙◌, ap, subst, arith, inl, Some, Ok}
 use Rattle.std.specs.Str.{chars, IsUtf8}
 use Rattle.std.proofs.lemmas.Str.{IsCharBoundary-after_ascii, chars-nil}
+use Rattle.pp_lexer.specs.declared.rules.Rules.{Rules}
 use Rattle.pp_lexer.specs.declared.token.Location.{Location}
 use Rattle.pp_lexer.specs.declared.lexer.char_iterator.Spot.{Spot}
 use Rattle.pp_lexer.specs.declared.lexer.item.TokenValue.TheVariants.{NewLine}
@@ -83,7 +84,7 @@ return_feed (b ∷ d ∷ text) u some e f = record {
 }
 
 -- a newline is taken
-module _ (f : Flags) (r q : Reading) (line at n : ℕ) (text rest : List ℕ) (e : r.rest ≡ spots_from line at text) (w : IsPlainNewline text n)
+module _ (rules : Rules) (f : Flags) (r q : Reading) (line at n : ℕ) (text rest : List ℕ) (e : r.rest ≡ spots_from line at text) (w : IsPlainNewline text n)
     (g : rest ≡ drop n text)
     (k : q ≡ record { rest = spots_from (line + 1) (at + n) rest; last = record { c = 10; line = line; begin = at; end = at + 1 } }) where
   first : Spot
@@ -96,24 +97,24 @@ module _ (f : Flags) (r q : Reading) (line at n : ℕ) (text rest : List ℕ) (e
   here : Some first ≡ first_char r
   here = sym (ap first_of front)
 
-  word : word_at (letters r.rest) ≡ record { value = Ok NewLine; taken = 1 }
+  word : word_at rules (letters r.rest) ≡ record { value = Ok NewLine; taken = 1 }
   unfolding first
-  word = ap (λ ss. word_at (letters ss)) front ∙ newline_first (10 ∷ letters (spots_from (line + 1) (at + n) rest)) refl
+  word = ap (λ ss. word_at rules (letters ss)) front ∙ newline_first rules (10 ∷ letters (spots_from (line + 1) (at + n) rest)) refl
 
-  there : q ≡ advanced (word_at (letters r.rest)).taken r
+  there : q ≡ advanced (word_at rules (letters r.rest)).taken r
   unfolding first
   there = k ∙ sym (advanced_zero (spots_from (line + 1) (at + n) rest) first) ∙ ap (λ ss. advanced_of 1 ss r.last) (sym front)
       ∙ ap (λ o. advanced o.taken r) (sym word)
 
   -- its place is noted
-  pub placed_newline : (old : Location) → IsPlaced f r old (record { leading_whitespace = true; start_of_line = true; had_comments = f.had_comments }) q
+  pub placed_newline : (old : Location) → IsPlaced rules f r old (record { leading_whitespace = true; start_of_line = true; had_comments = f.had_comments }) q
       (record { start = at; end = at + 1; line = line })
   unfolding first
   placed_newline old =
-      placed_front f r r q first first (Ok NewLine) true old here (no_blank_first first (first_char r) here refl) refl
+      placed_front rules f r r q first first (Ok NewLine) true old here (no_blank_first first (first_char r) here refl) refl
       (inl (ap (λ o. Ok o.value) (sym word))) there (ap (λ x. x.last) (sym k)) refl
 
-  pub lexed_newline : IsLexed f r (Ok (Some (Ok (record {
+  pub lexed_newline : IsLexed rules f r (Ok (Some (Ok (record {
     value = NewLine;
     location = record { start = at; end = at + 1; line = line };
     leading_whitespace = f.leading_whitespace;
@@ -122,5 +123,5 @@ module _ (f : Flags) (r q : Reading) (line at n : ℕ) (text rest : List ℕ) (e
       (record { leading_whitespace = true; start_of_line = true; had_comments = f.had_comments }) q
   unfolding first
   lexed_newline =
-      lexed_front f r r q first first (Ok NewLine) _ true here (no_blank_first first (first_char r) here refl) refl
+      lexed_front rules f r r q first first (Ok NewLine) _ true here (no_blank_first first (first_char r) here refl) refl
       (inl (ap (λ o. Ok o.value) (sym word))) there (ap (λ x. x.last) (sym k)) refl refl

@@ -2,6 +2,7 @@
 use Rattle.std.proofs.Common.{◌≡◌, ℕ, ◌+◌, List, [], ◌∷◌, ◌++◌, length, get_or, true, false, ◌||◌, refl, ◌∙◌, ap, arith, suc}
 use Rattle.std.specs.List.{list_all, list_any}
 use Rattle.std.proofs.lemmas.Bool.{and_parts}
+use Rattle.pp_lexer.specs.declared.rules.Rules.{Rules}
 use Rattle.pp_lexer.specs.declared.lexer.char_iterator.Spot.{Spot}
 use Rattle.pp_lexer.specs.declared.lexer.Flags.{Flags}
 use Rattle.pp_lexer.specs.inner.Fronts.{is_plain, run}
@@ -32,39 +33,39 @@ blanked_space : (f : Flags) (c : ℕ) → is_space c ≡ true → blanked f c �
 blanked_space f c h = grind arith
 
 -- the items to come, and whether comments will have been passed
-pub spaces_seen : (f : Flags) (line at c : ℕ) (w : List ℕ) (more : List Spot) (last : Spot) → list_all is_space (c ∷ w) ≡ true
-    → seen_from f last (segments (run line at (c ∷ w) ++ more)) ≡ seen_from (spaced f)
-    (record { c = get_or (c ∷ w) (length w) 0; line = line; begin = at + length w; end = at + length w + 1 }) (segments more)
-spaces_seen f line at c [] more last h = grind (arith, blank_seen, blanked_space)
-spaces_seen f line at c (d ∷ w) more last h =
+pub spaces_seen : (rules : Rules) (f : Flags) (line at c : ℕ) (w : List ℕ) (more : List Spot) (last : Spot) → list_all is_space (c ∷ w) ≡ true
+    → seen_from f last (segments rules (run line at (c ∷ w) ++ more)) ≡ seen_from (spaced f)
+    (record { c = get_or (c ∷ w) (length w) 0; line = line; begin = at + length w; end = at + length w + 1 }) (segments rules more)
+spaces_seen rules f line at c [] more last h = grind (arith, blank_seen, blanked_space)
+spaces_seen rules f line at c (d ∷ w) more last h =
     let b = and_parts (is_space c) (list_all is_space (d ∷ w)) h in
     let n : at + 1 + length w ≡ at + suc (length w) = omega arith in
     let s : Spot = record { c = c; line = line; begin = at; end = at + 1 } in
-    blank_seen f last s (run line (at + 1) (d ∷ w) ++ more) (space_blank c b.0)
-    ∙ ap (λ g. seen_from g s (segments (run line (at + 1) (d ∷ w) ++ more))) (blanked_space f c b.0)
-    ∙ spaces_seen (spaced f) line (at + 1) d w more s b.1
-    ∙ ap (λ k. seen_from (spaced f) (record { c = get_or (d ∷ w) (length w) 0; line = line; begin = k; end = k + 1 }) (segments more)) n
+    blank_seen rules f last s (run line (at + 1) (d ∷ w) ++ more) (space_blank c b.0)
+    ∙ ap (λ g. seen_from g s (segments rules (run line (at + 1) (d ∷ w) ++ more))) (blanked_space f c b.0)
+    ∙ spaces_seen rules (spaced f) line (at + 1) d w more s b.1
+    ∙ ap (λ k. seen_from (spaced f) (record { c = get_or (d ∷ w) (length w) 0; line = line; begin = k; end = k + 1 }) (segments rules more)) n
 
-pub spaces_places : (f : Flags) (line at c : ℕ) (w : List ℕ) (more : List Spot) (last : Spot) → list_all is_space (c ∷ w) ≡ true
-    → places_from f last (segments (run line at (c ∷ w) ++ more)) ≡ places_from (spaced f)
-    (record { c = get_or (c ∷ w) (length w) 0; line = line; begin = at + length w; end = at + length w + 1 }) (segments more)
-spaces_places f line at c [] more last h = grind (arith, blank_places, blanked_space)
-spaces_places f line at c (d ∷ w) more last h =
+pub spaces_places : (rules : Rules) (f : Flags) (line at c : ℕ) (w : List ℕ) (more : List Spot) (last : Spot) → list_all is_space (c ∷ w) ≡ true
+    → places_from f last (segments rules (run line at (c ∷ w) ++ more)) ≡ places_from (spaced f)
+    (record { c = get_or (c ∷ w) (length w) 0; line = line; begin = at + length w; end = at + length w + 1 }) (segments rules more)
+spaces_places rules f line at c [] more last h = grind (arith, blank_places, blanked_space)
+spaces_places rules f line at c (d ∷ w) more last h =
     let b = and_parts (is_space c) (list_all is_space (d ∷ w)) h in
     let n : at + 1 + length w ≡ at + suc (length w) = omega arith in
     let s : Spot = record { c = c; line = line; begin = at; end = at + 1 } in
-    blank_places f last s (run line (at + 1) (d ∷ w) ++ more) (space_blank c b.0)
-    ∙ ap (λ g. places_from g s (segments (run line (at + 1) (d ∷ w) ++ more))) (blanked_space f c b.0)
-    ∙ spaces_places (spaced f) line (at + 1) d w more s b.1
-    ∙ ap (λ k. places_from (spaced f) (record { c = get_or (d ∷ w) (length w) 0; line = line; begin = k; end = k + 1 }) (segments more)) n
+    blank_places rules f last s (run line (at + 1) (d ∷ w) ++ more) (space_blank c b.0)
+    ∙ ap (λ g. places_from g s (segments rules (run line (at + 1) (d ∷ w) ++ more))) (blanked_space f c b.0)
+    ∙ spaces_places rules (spaced f) line (at + 1) d w more s b.1
+    ∙ ap (λ k. places_from (spaced f) (record { c = get_or (d ∷ w) (length w) 0; line = line; begin = k; end = k + 1 }) (segments rules more)) n
 
-pub spaces_at_end : (f : Flags) (line at : ℕ) (w : List ℕ) (more : List Spot) → list_all is_space w ≡ true
-    → (f.had_comments || list_any (λ g. is_comment g.kind) (segments (run line at w ++ more))) ≡
-    (f.had_comments || list_any (λ g. is_comment g.kind) (segments more))
-spaces_at_end f line at [] more h = refl
-spaces_at_end f line at (c ∷ w) more h =
+pub spaces_at_end : (rules : Rules) (f : Flags) (line at : ℕ) (w : List ℕ) (more : List Spot) → list_all is_space w ≡ true
+    → (f.had_comments || list_any (λ g. is_comment g.kind) (segments rules (run line at w ++ more))) ≡
+    (f.had_comments || list_any (λ g. is_comment g.kind) (segments rules more))
+spaces_at_end rules f line at [] more h = refl
+spaces_at_end rules f line at (c ∷ w) more h =
     let b = and_parts (is_space c) (list_all is_space w) h in
     let s : Spot = record { c = c; line = line; begin = at; end = at + 1 } in
-    blank_at_end f s (run line (at + 1) w ++ more) (space_blank c b.0)
-    ∙ ap (λ g. g.had_comments || list_any (λ x. is_comment x.kind) (segments (run line (at + 1) w ++ more))) (blanked_space f c b.0)
-    ∙ spaces_at_end f line (at + 1) w more b.1
+    blank_at_end rules f s (run line (at + 1) w ++ more) (space_blank c b.0)
+    ∙ ap (λ g. g.had_comments || list_any (λ x. is_comment x.kind) (segments rules (run line (at + 1) w ++ more))) (blanked_space f c b.0)
+    ∙ spaces_at_end rules f line (at + 1) w more b.1

@@ -55,7 +55,7 @@ module _ (line at n : ℕ) (text rest : List ℕ) (r : Reading) (left : IsLeft l
   after_some = record {
     there = after;
     left = left_after;
-    seen = λ f. ap (λ g. seen_of g after) (spaced_is f) ∙ spaces_same f r line at text left.rest_is u after n some le passes after_is;
-    at_end = λ f. ap (λ g. comments_at_end g after) (spaced_is f) ∙ spaces_comments f r line at text left.rest_is u after n some le passes after_is;
-    places = λ f. ap (λ g. places_left g after) (spaced_is f) ∙ spaces_placed f r line at text left.rest_is u after n some le passes after_is;
+    seen = λ rules f. ap (λ g. seen_of rules g after) (spaced_is f) ∙ spaces_same rules f r line at text left.rest_is u after n some le passes after_is;
+    at_end = λ rules f. ap (λ g. comments_at_end rules g after) (spaced_is f) ∙ spaces_comments rules f r line at text left.rest_is u after n some le passes after_is;
+    places = λ rules f. ap (λ g. places_left rules g after) (spaced_is f) ∙ spaces_placed rules f r line at text left.rest_is u after n some le passes after_is;
   }

@@ -1,9 +1,10 @@
 -- Each item of a text has one place, which is that of a token's location.
 use Rattle.std.proofs.Common.{List, [], ◌∷◌, ◌++◌, sym, subst, arith}
+use Rattle.pp_lexer.specs.declared.rules.Rules.{Rules}
 use Rattle.pp_lexer.specs.declared.token.Location.{Location}
 use Rattle.pp_lexer.specs.declared.lexer.char_iterator.Spot.{Spot}
 use Rattle.pp_lexer.specs.Segments.{Kind, Segment, segments}
-use Rattle.pp_lexer.specs.Items.{Item, item_at, final_newline, items_of, places_at, places_of}
+use Rattle.pp_lexer.specs.Items.{Item, item_at, final_newline, items_by, places_at, places_by}
 use Rattle.pp_lexer.specs.ItemLaws.{StandAt}
 use Rattle.pp_lexer.specs.inner.Passing.{places_from}
 use Rattle.pp_lexer.proofs.items.ItemsLemmas.{items_from, items_at_start, places_at_start, flags_after, last_before, flags_step}
@@ -29,7 +30,7 @@ items_stand (g ∷ gs) before s = grind (arith, segment_stands, flags_step, item
 nowhere_spot : Spot
 nowhere_spot = record { c = 0; line = 0; begin = 0; end = 0 }
 
-pub places_of_items : (ss : List Spot) → StandAt (items_of ss) (places_of ss)
-places_of_items ss =
-    subst (λ items. StandAt items (places_of ss)) (sym (items_at_start ss))
-    (subst (StandAt (items_from [] (segments ss))) (sym (places_at_start ss nowhere_spot)) (items_stand (segments ss) [] nowhere_spot))
+pub places_of_items : (rules : Rules) (ss : List Spot) → StandAt (items_by rules ss) (places_by rules ss)
+places_of_items rules ss =
+    subst (λ items. StandAt items (places_by rules ss)) (sym (items_at_start rules ss))
+    (subst (StandAt (items_from [] (segments rules ss))) (sym (places_at_start rules ss nowhere_spot)) (items_stand (segments rules ss) [] nowhere_spot))

@@ -5,6 +5,7 @@ use Rattle.std.specs.List.{list_any, flat_map}
 use Rattle.std.proofs.lemmas.List.Sums.{sum_by-cons}
 use Rattle.std.proofs.lemmas.List.{map-append, append-nil, reverse-append}
 use Rattle.std.proofs.lemmas.List.Concat.{flat_map-cons}
+use Rattle.pp_lexer.specs.declared.rules.Rules.{Rules}
 use Rattle.pp_lexer.specs.declared.lexer.char_iterator.Spot.{Spot}
 use Rattle.pp_lexer.specs.declared.lexer.Flags.{Flags}
 use Rattle.pp_lexer.specs.Location.{nowhere}
@@ -12,9 +13,9 @@ use Rattle.pp_lexer.specs.Reading.{Reading}
 use Rattle.pp_lexer.specs.Surroundings.{surrounded_from, surrounded}
 use Rattle.pp_lexer.specs.Segments.{Kind, Segment, segments}
 use Rattle.pp_lexer.specs.inner.Passing.{passed, item_seen, newline_seen, seen_from, places_from, lexed}
-use Rattle.pp_lexer.specs.Items.{is_comment, leading_whitespace, start_of_line, comments_in, item_at, final_newline, items_of, Item, places_at, final_place, places_of}
+use Rattle.pp_lexer.specs.Items.{is_comment, leading_whitespace, start_of_line, comments_in, item_at, final_newline, items_by, Item, places_at, final_place, places_by}
 use Rattle.pp_lexer.specs.inner.Items.{item_of}
-use Rattle.pp_lexer.specs.Lexed.{seen, start_of}
+use Rattle.pp_lexer.specs.Lexed.{seen, start_by}
 
 -- the items of the segments from a place on, and of the end
 unfoldable pub items_from : List Segment → List Segment → List Item
@@ -33,9 +34,9 @@ items_surrounded (g ∷ gs) before =
     ∙ ap (λ xs. item_at before g g.kind ++ (flat_map item_of (surrounded_from (g ∷ before) gs) ++ final_newline xs)) r
     ∙ ap (λ xs. item_at before g g.kind ++ xs) (items_surrounded gs (g ∷ before))
 
-pub items_at_start : (ss : List Spot) → items_of ss ≡ items_from [] (segments ss)
-items_at_start ss = ap (λ xs. flat_map item_of (surrounded (segments ss)) ++ final_newline xs) (sym (append-nil (reverse (segments ss))))
-    ∙ items_surrounded (segments ss) []
+pub items_at_start : (rules : Rules) (ss : List Spot) → items_by rules ss ≡ items_from [] (segments rules ss)
+items_at_start rules ss = ap (λ xs. flat_map item_of (surrounded (segments rules ss)) ++ final_newline xs) (sym (append-nil (reverse (segments rules ss))))
+    ∙ items_surrounded (segments rules ss) []
 
 -- the flags of a lexer after these segments
 abbrev pub flags_after : List Segment → Flags
@@ -96,23 +97,24 @@ places_surrounded (g ∷ gs) before s =
     ∙ ap (λ xs. places_at g g.kind ++ (flat_map (λ g. places_at g g.kind) gs ++ final_place xs)) r
     ∙ ap (λ xs. places_at g g.kind ++ xs) (places_surrounded gs (g ∷ before) s ∙ ap (λ f. places_from f g.last gs) (flags_step g.kind g.first g.last before))
 
-pub places_at_start : (ss : List Spot) (s : Spot) → places_of ss ≡ places_from (flags_after []) s (segments ss)
-places_at_start ss s = ap (λ xs. flat_map (λ g. places_at g g.kind) (segments ss) ++ final_place xs) (sym (append-nil (reverse (segments ss))))
-    ∙ places_surrounded (segments ss) [] s
+pub places_at_start : (rules : Rules) (ss : List Spot) (s : Spot) → places_by rules ss ≡ places_from (flags_after []) s (segments rules ss)
+places_at_start rules ss s = ap (λ xs. flat_map (λ g. places_at g g.kind) (segments rules ss) ++ final_place xs) (sym (append-nil (reverse (segments rules ss))))
+    ∙ places_surrounded (segments rules ss) [] s
 
-pub start_seen : (r : Reading) (ss : List Spot) (last : Spot) → r ≡ record { rest = ss; last = last }
-    → lexed (record { leading_whitespace = true; start_of_line = true; had_comments = false }) r nowhere false ≡ start_of ss
-start_seen r ss last e =
-    let at_end = list_any (λ g. is_comment g.kind) (segments ss) in
+pub start_seen : (rules : Rules) (r : Reading) (ss : List Spot) (last : Spot) → r ≡ record { rest = ss; last = last }
+    → lexed rules (record { leading_whitespace = true; start_of_line = true; had_comments = false }) r nowhere false ≡ start_by rules ss
+start_seen rules r ss last e =
+    let at_end = list_any (λ g. is_comment g.kind) (segments rules ss) in
     rw e (ap (λ ps. record {
-      rest = seen_from (flags_after []) last (segments ss);
+      rest = seen_from (flags_after []) last (segments rules ss);
       had_comments = false;
       at_end = at_end;
       spent = false;
       place = nowhere;
       places = ps;
-    }) (sym (places_at_start ss last))
-    ∙ ap (λ xs. record { rest = xs; had_comments = false; at_end = at_end; spent = false; place = nowhere; places = places_of ss })
-    (sym (ap (map seen) (items_at_start ss) ∙ items_seen (segments ss) [] last))
-    ∙ ap (λ b. record { rest = map seen (items_of ss); had_comments = false; at_end = b; spent = false; place = nowhere; places = places_of ss })
-    (sym (comments_some (segments ss))))
+      rules = rules;
+    }) (sym (places_at_start rules ss last))
+    ∙ ap (λ xs. record { rest = xs; had_comments = false; at_end = at_end; spent = false; place = nowhere; places = places_by rules ss; rules = rules })
+    (sym (ap (map seen) (items_at_start rules ss) ∙ items_seen (segments rules ss) [] last))
+    ∙ ap (λ b. record { rest = map seen (items_by rules ss); had_comments = false; at_end = b; spent = false; place = nowhere; places = places_by rules ss; rules = rules })
+    (sym (comments_some (segments rules ss))))

@@ -2,6 +2,7 @@
 use Rattle.std.proofs.Common.{◌≡◌, ℕ, suc, ◌+◌, ◌-◌, Bool, false, ◌||◌, List, [], ◌∷◌, length, take, drop, get_or, refl, sym, ◌∙◌, ap, subst, arith, inl, inr, Some, Ok, Bor}
 use Rattle.std.proofs.lemmas.List.{length-take-le, length-drop, get_or-take}
 use Rattle.std.specs.Str.{IsAscii}
+use Rattle.pp_lexer.specs.declared.rules.Rules.{Rules}
 use Rattle.pp_lexer.specs.declared.token.Location.{Location}
 use Rattle.pp_lexer.specs.declared.lexer.Flags.{Flags}
 use Rattle.pp_lexer.specs.declared.lexer.plain.Form.{Form}
@@ -19,9 +20,9 @@ use Rattle.pp_lexer.proofs.items.LexLemmas.{lexed_before, placed_before}
 use Rattle.pp_lexer.proofs.items.PlainLexLemmas.{lexed_plain, placed_plain}
 
 -- what is given was taken
-pub taken : (f g : Flags) (r q : Reading) (item : Lexeme) → IsLexed f r (Ok (Some item)) g q → IsLexTaken f r g q (Ok (Some item))
-taken f g r q item (inl h) = let refused = h.value in cc
-taken f g r q item (inr h) = h
+pub taken : (rules : Rules) (f g : Flags) (r q : Reading) (item : Lexeme) → IsLexed rules f r (Ok (Some item)) g q → IsLexTaken rules f r g q (Ok (Some item))
+taken rules f g r q item (inl h) = let refused = h.value in cc
+taken rules f g r q item (inr h) = h
 
 item_first : (ss rest : List Seen) (at_end had : Bool) (item : Lexeme) → Some item ≡ first_item ss → rest ≡ after_first_item ss
     → had ≡ comments_before ss at_end → ss ≡ record { item = item; had_comments = had } ∷ rest
@@ -62,36 +63,37 @@ module _ (f : Flags) (r : Reading) (place : Location) (line at n : ℕ) (text : 
   plain : IsPlainWord text (value_of form spelling.now) n
   plain = subst (λ x. IsPlainWord text (value_of form x) n) (sym spelled) w
 
-  given : IsLexed f r (Ok (Some (Ok (token_of word)))) (flags_after f.had_comments) (reading_after word)
-  given =
-      let g = after_spaces spaced f in
-      lexed_before f g (flags_after f.had_comments) r after.there (reading_after word) _ (after.seen f) (after.at_end f)
-      (lexed_plain g after.there line at text after.left.rest_is (value_of form spelling.now) n plain (reading_after word) there)
+  module _ (rules : Rules) where
+    given : IsLexed rules f r (Ok (Some (Ok (token_of word)))) (flags_after f.had_comments) (reading_after word)
+    given =
+        let g = after_spaces spaced f in
+        lexed_before rules f g (flags_after f.had_comments) r after.there (reading_after word) _ (after.seen rules f) (after.at_end rules f)
+        (lexed_plain rules g after.there line at text after.left.rest_is (value_of form spelling.now) n plain (reading_after word) there)
 
-  placed : (old : Location) → IsPlaced f r old (flags_after f.had_comments) (reading_after word) word.location
-  placed old =
-      let g = after_spaces spaced f in
-      placed_before f g (flags_after f.had_comments) r after.there (reading_after word) old old _ (after.places f) refl
-      (placed_plain g after.there line at text after.left.rest_is (value_of form spelling.now) n plain (reading_after word) old there)
+    placed : (old : Location) → IsPlaced rules f r old (flags_after f.had_comments) (reading_after word) word.location
+    placed old =
+        let g = after_spaces spaced f in
+        placed_before rules f g (flags_after f.had_comments) r after.there (reading_after word) old old _ (after.places rules f) refl
+        (placed_plain rules g after.there line at text after.left.rest_is (value_of form spelling.now) n plain (reading_after word) old there)
 
-  given_first : Some (Ok (token_of word)) ≡ first_item (seen_of f r)
-  given_first = grind (arith, given)
+    given_first : Some (Ok (token_of word)) ≡ first_item (seen_of rules f r)
+    given_first = grind (arith, given)
 
-  pub next_word : IsNextWord (lexed f r place false) word
-  next_word = record { unspent = refl; is = sym given_first; ascii = subst IsAscii (sym spelled) w.ascii }
+    pub next_word : IsNextWord (lexed rules f r place false) word
+    next_word = record { unspent = refl; is = sym given_first; ascii = subst IsAscii (sym spelled) w.ascii }
 
-  pub can_pass : CanPass (lexed f r place false) word
-  can_pass =
-      let t = taken f (flags_after f.had_comments) r (reading_after word) (Ok (token_of word)) given in
-      let room = after.left.room in
-      let lines = after.left.lines in
-      let within = w.within in
-      record {
-        items = item_first (seen_of f r) _ (comments_at_end f r) f.had_comments (Ok (token_of word)) given_first t.rest t.comments;
-        places = place_first (places_left f r) _ word.location (λ old. (placed old).place) (placed place).rest;
-        at_end = sym t.at_end;
-        some = let some = w.some in omega (arith, sized, some);
-        sized = ap (λ k. at + k) (sym sized);
-        room = omega (arith, ap length left, length-drop n text, room, within);
-        lines = omega (arith, lines);
-      }
+    pub can_pass : CanPass (lexed rules f r place false) word
+    can_pass =
+        let t = taken rules f (flags_after f.had_comments) r (reading_after word) (Ok (token_of word)) given in
+        let room = after.left.room in
+        let lines = after.left.lines in
+        let within = w.within in
+        record {
+          items = item_first (seen_of rules f r) _ (comments_at_end rules f r) f.had_comments (Ok (token_of word)) given_first t.rest t.comments;
+          places = place_first (places_left rules f r) _ word.location (λ old. (placed old).place) (placed place).rest;
+          at_end = sym t.at_end;
+          some = let some = w.some in omega (arith, sized, some);
+          sized = ap (λ k. at + k) (sym sized);
+          room = omega (arith, ap length left, length-drop n text, room, within);
+          lines = omega (arith, lines);
+        }

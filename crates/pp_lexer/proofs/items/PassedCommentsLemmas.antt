@@ -1,6 +1,7 @@
 -- How a lexer in the midst of a text passes a plain comment.
 use Rattle.std.proofs.Common.{◌≡◌, ℕ, ◌+◌, List, ◌∷◌, drop, true, refl, sym, ◌∙◌, ap, subst, Some, option_map}
 use Rattle.std.proofs.Math.Bool.{or-true}
+use Rattle.pp_lexer.specs.declared.rules.Rules.{Rules}
 use Rattle.pp_lexer.specs.declared.lexer.char_iterator.Spot.{Spot}
 use Rattle.pp_lexer.specs.declared.lexer.Flags.{Flags}
 use Rattle.pp_lexer.specs.declared.lexer.plain.comment.Comment.{Comment}
@@ -13,13 +14,13 @@ use Rattle.pp_lexer.proofs.items.PassingLemmas.{IsBlanked, blanked, blank_passed
 abbrev pub commented : Flags → Flags
 commented f = record { leading_whitespace = true; start_of_line = f.start_of_line; had_comments = true }
 
-pub comment_passed : (f : Flags) (r q : Reading) (line at : ℕ) (text rest : List ℕ) (comment : Comment) → r.rest ≡ spots_from line at text
+pub comment_passed : (rules : Rules) (f : Flags) (r q : Reading) (line at : ℕ) (text rest : List ℕ) (comment : Comment) → r.rest ≡ spots_from line at text
     → IsPlainComment text comment → rest ≡ drop comment.taken text
     → q ≡ record {
       rest = spots_from (line + comment.newlines) (at + comment.taken) rest;
       last = record { c = 13; line = line; begin = at; end = at + 1 };
-    } → IsBlanked f (commented f) r q
-comment_passed f r q line at text rest comment e w g k =
+    } → IsBlanked rules f (commented f) r q
+comment_passed rules f r q line at text rest comment e w g k =
     let mark : Spot = record { c = 13; line = line; begin = at; end = at + 1 } in
     let more = spots_from (line + comment.newlines) (at + comment.taken) rest in
     let front : r.rest ≡ mark ∷ more =
@@ -28,4 +29,4 @@ comment_passed f r q line at text rest comment e w g k =
     let there : q ≡ after_first r = k ∙ sym (ap (λ ss. past ss r.last) front) in
     let flags : blanked f 13 ≡ commented f =
     ap (λ b. record { leading_whitespace = true; start_of_line = f.start_of_line; had_comments = b }) (or-true f.had_comments) in
-    subst (λ g. IsBlanked f g r q) flags (blank_passed f r r q 13 here refl refl there)
+    subst (λ g. IsBlanked rules f g r q) flags (blank_passed rules f r r q 13 here refl refl there)

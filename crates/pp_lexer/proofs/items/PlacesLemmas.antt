@@ -2,11 +2,12 @@
 use Rattle.std.proofs.Common.{ℕ, zero, suc, ◌≤◌, ◌<◌, List, [], ◌∷◌, ◌++◌, take, drop, arith}
 use Rattle.std.specs.Prelude.{All}
 use Rattle.std.proofs.lemmas.List.Elements.{All-cons}
+use Rattle.pp_lexer.specs.declared.rules.Rules.{Rules}
 use Rattle.pp_lexer.specs.declared.lexer.char_iterator.Spot.{Spot}
 use Rattle.pp_lexer.specs.Cursor.{Placed}
 use Rattle.pp_lexer.specs.Reading.{spots}
 use Rattle.pp_lexer.specs.Segments.{Kind, blank, Segment, last_of, taken_by, segments_within, segments}
-use Rattle.pp_lexer.specs.Items.{Item, item_at, final_newline, items_of}
+use Rattle.pp_lexer.specs.Items.{Item, item_at, final_newline, items_by}
 use Rattle.pp_lexer.specs.ItemLaws.{IsWithin}
 use Rattle.pp_lexer.specs.PhaseLaws.{StretchesFollow}
 use Rattle.pp_lexer.proofs.items.SegmentsLemmas.{taken_some}
@@ -62,13 +63,13 @@ unfolding Ordered
 first_lies at total s ss zero h o = absurd (omega arith)
 first_lies at total s ss (suc n) h o = last_ordered n total s ss o.1 o.2 o.3
 
-segments_lie : (n at total : ℕ) (ss : List Spot) → Ordered at total ss → Each (Lies total) (segments_within n ss)
+segments_lie : (rules : Rules) (n at total : ℕ) (ss : List Spot) → Ordered at total ss → Each (Lies total) (segments_within rules n ss)
 unfolding Ordered Each
-segments_lie zero at total ss o = tt
-segments_lie (suc n) at total [] o = tt
-segments_lie (suc n) at total (s ∷ ss) o = (
-  first_lies at total s ss (taken_by s ss) (taken_some s ss) o,
-  segments_lie n at total (drop (taken_by s ss) (s ∷ ss)) (ordered_drop (taken_by s ss) at total (s ∷ ss) o),
+segments_lie rules zero at total ss o = tt
+segments_lie rules (suc n) at total [] o = tt
+segments_lie rules (suc n) at total (s ∷ ss) o = (
+  first_lies at total s ss (taken_by rules s ss) (taken_some rules s ss) o,
+  segments_lie rules n at total (drop (taken_by rules s ss) (s ∷ ss)) (ordered_drop (taken_by rules s ss) at total (s ∷ ss) o),
 )
 
 item_lies : (total : ℕ) (before : List Segment) (g : Segment) (k : Kind) (is : List Item) → Lies total g → Each (λ i. IsWithin total i.item) is
@@ -92,6 +93,6 @@ each_all P [] h = λ k d l. absurd (omega arith)
 each_all P (x ∷ xs) h = All-cons P x xs h.0 (each_all P xs h.1)
 
 -- the tokens of characters whose stretches follow one another lie in the source
-pub items_within : (at total : ℕ) (ps : List Placed) → StretchesFollow at total ps → All (λ i. IsWithin total i.item) (items_of (spots at ps))
+pub items_within : (rules : Rules) (at total : ℕ) (ps : List Placed) → StretchesFollow at total ps → All (λ i. IsWithin total i.item) (items_by rules (spots at ps))
 unfolding Each segments
-items_within at total ps h = grind (arith, each_all, items_at_start, items_lie, segments_lie, ordered_spots)
+items_within rules at total ps h = grind (arith, each_all, items_at_start, items_lie, segments_lie, ordered_spots)

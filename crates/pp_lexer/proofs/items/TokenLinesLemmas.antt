@@ -1,6 +1,7 @@
 -- The lines of tokens are lines of the source: at least 1, and at most one more than its bytes.
 use Rattle.std.proofs.Common.{◌≡◌, ℕ, zero, suc, ◌+◌, ◌≤◌, List, [], ◌∷◌, ◌++◌, length, take, drop, Bool, true, false, sym, arith, length-drop, All, subst, if◌then◌else◌, ◌⊎◌, inl, inr}
 use Rattle.std.specs.Str.{chars, IsUtf8}
+use Rattle.pp_lexer.specs.declared.rules.Rules.{Rules}
 use Rattle.pp_lexer.specs.declared.lexer.char_iterator.Spot.{Spot}
 use Rattle.pp_lexer.specs.Cursor.{Placed}
 use Rattle.pp_lexer.specs.Lines.{Piece, pieces}
@@ -11,7 +12,7 @@ use Rattle.pp_lexer.specs.inner.Readers.{placed_from}
 use Rattle.pp_lexer.specs.Reading.{spots}
 use Rattle.pp_lexer.specs.Spots.{spots_of}
 use Rattle.pp_lexer.specs.Segments.{Kind, Segment, last_of, taken_by, segments_within, segments}
-use Rattle.pp_lexer.specs.Items.{Item, item_at, final_newline, items_of}
+use Rattle.pp_lexer.specs.Items.{Item, item_at, final_newline, items_by}
 use Rattle.pp_lexer.specs.ItemLaws.{HasLineWithin, TokensHaveLines}
 use Rattle.pp_lexer.specs.PhaseLaws.{lines_of, replaced_of}
 use Rattle.pp_lexer.proofs.characters.LinesLemmas.{lines_are}
@@ -114,13 +115,13 @@ line-last_of zero total s (t ∷ ss) h k = h
 line-last_of (suc n) total s [] h k = h
 line-last_of (suc n) total s (t ∷ ss) h k = line-last_of n total t ss k.0 k.1
 
-lines-segments : (n total : ℕ) (ss : List Spot) → SpotsHaveLines total ss → SegmentsHaveLines total (segments_within n ss)
+lines-segments : (rules : Rules) (n total : ℕ) (ss : List Spot) → SpotsHaveLines total ss → SegmentsHaveLines total (segments_within rules n ss)
 unfolding Each
-lines-segments zero total ss h = tt
-lines-segments (suc n) total [] h = tt
-lines-segments (suc n) total (s ∷ ss) h = (
-  (h.0, line-last_of (taken_by s ss) total s (s ∷ ss) h.0 h),
-  lines-segments n total (drop (taken_by s ss) (s ∷ ss)) (each_drop (λ (s : Spot). IsLine total s.line) (taken_by s ss) (s ∷ ss) h),
+lines-segments rules zero total ss h = tt
+lines-segments rules (suc n) total [] h = tt
+lines-segments rules (suc n) total (s ∷ ss) h = (
+  (h.0, line-last_of (taken_by rules s ss) total s (s ∷ ss) h.0 h),
+  lines-segments rules n total (drop (taken_by rules s ss) (s ∷ ss)) (each_drop (λ (s : Spot). IsLine total s.line) (taken_by rules s ss) (s ∷ ss) h),
 )
 
 -- the items
@@ -141,13 +142,13 @@ lines-items_from total before [] b h = line-final_newline total before b
 lines-items_from total before (g ∷ gs) b h = line-item_at total before g g.kind (items_from (g ∷ before) gs) h.0 (lines-items_from total
     (g ∷ before) gs (h.0, b) h.1)
 
-lines-items_of : (total : ℕ) (ss : List Spot) → SpotsHaveLines total ss → All (λ i. HasLineWithin total i.item) (items_of ss)
+lines-items_of : (rules : Rules) (total : ℕ) (ss : List Spot) → SpotsHaveLines total ss → All (λ i. HasLineWithin total i.item) (items_by rules ss)
 unfolding Each segments
-lines-items_of total ss h =
-    each_all (λ i. HasLineWithin total i.item) (items_of ss)
-    (subst (Each (λ i. HasLineWithin total i.item)) (sym (items_at_start ss))
-    (lines-items_from total [] (segments ss) tt (lines-segments (length ss) total ss h)))
+lines-items_of rules total ss h =
+    each_all (λ i. HasLineWithin total i.item) (items_by rules ss)
+    (subst (Each (λ i. HasLineWithin total i.item)) (sym (items_at_start rules ss))
+    (lines-items_from total [] (segments rules ss) tt (lines-segments rules (length ss) total ss h)))
 
 -- each token of a source has a line that is at least 1, and at most one more than the source's bytes
 pub tokens_have_lines : TokensHaveLines
-tokens_have_lines source u = lines-items_of (length source) (spots_of source) (lines-spots 0 (length source) (replaced_of source) (lines-replaced_of source u))
+tokens_have_lines rules source u = lines-items_of rules (length source) (spots_of source) (lines-spots 0 (length source) (replaced_of source) (lines-replaced_of source u))

@@ -1,24 +1,27 @@
 -- The decimal digits of a number are read as that number.
-use Rattle.std.proofs.Common.{◌≡◌, ℕ, zero, suc, ◌+◌, ◌^◌, ◌<◌, List, [], ◌∷◌, ◌++◌, length, get_or, Bool, true, false, not, ◌&&◌, append_assoc, length-append, add-zero, refl, ◌∙◌, ap, arith, Ok, Some, None, pos}
+use Rattle.std.proofs.Common.{◌≡◌, ℕ, ℤ, zero, suc, ◌^◌, ◌<◌, List, [], ◌∷◌, ◌++◌, length, get_or, Bool, true, false, not, ◌&&◌, append_assoc, length-append, refl, ◌∙◌, ap, arith, Ok, Some}
 use Rattle.std.specs.Char.{digit_value}
 use Rattle.std.specs.Fmt.{decimal}
 use Rattle.std.specs.List.{list_all, list_any}
 use Rattle.std.specs.Str.Parse.{AllDigits, digits_value_after}
 use Rattle.std.proofs.lemmas.Bool.{and_right, and_parts, lt-ltb, ne_eqb, and_from}
 use Rattle.std.proofs.lemmas.Fmt.{decimal_is_IsNumeral, decimal_digit, first_decimal}
+use Rattle.pp_lexer.specs.declared.rules.Rules.{Rules}
 use Rattle.pp_lexer.specs.declared.token.Integer.{Integer as IntegerLiteral}
 use Rattle.pp_lexer.specs.declared.lexer.item.TokenValue.TheVariants.{Integer}
 use Rattle.pp_lexer.specs.Numbers.{is_zero, is_x, is_decimal, is_number}
-use Rattle.pp_lexer.specs.NumberValue.{is_l, is_s, is_u, begins_hex, begins_octal, whole, integer_value, integer_outcome, width_refusal, number_outcome}
+use Rattle.pp_lexer.specs.NumberValue.{begins_hex, begins_octal, whole, integer_value, integer_outcome, number_outcome}
 use Rattle.pp_lexer.specs.inner.NumberValue.{is_float_mark}
+use Rattle.pp_lexer.specs.Respelling.{IsWidth}
 use Rattle.pp_lexer.specs.Spelling.{integer_literal}
 use Rattle.pp_lexer.specs.Spellings.{after_first}
 use Rattle.pp_lexer.specs.Surroundings.{begins_with}
 use Rattle.pp_lexer.specs.Words.{word_at}
 use Rattle.pp_lexer.proofs.numbers.NumbersLemmas.{either_apart, e_apart, point_apart}
-use Rattle.pp_lexer.proofs.numbers.NumberSetsLemmas.{decimal_number, number_lacks}
+use Rattle.pp_lexer.proofs.numbers.NumberSetsLemmas.{decimal_number}
 use Rattle.pp_lexer.proofs.words.SetsLemmas.{all_many}
-use Rattle.pp_lexer.proofs.spelling.SpelledWordLemmas.{IsBreak, break_begins, number_ends, spelled_number}
+use Rattle.pp_lexer.proofs.spelling.SpelledWordLemmas.{IsBreak, spelled_number}
+use Rattle.pp_lexer.proofs.spelling.SuffixSpellingLemmas.{integer_letters, integer_ends, integer_unrefused}
 
 -- the digits of a number below 2^64, without a zero at their front unless it is all
 pub record IsDecimalText (n : ℕ) (w : List ℕ) : Type 0 where
@@ -68,32 +71,22 @@ module _ (n : ℕ) (w : List ℕ) (t : IsDecimalText n w) where
   digits_whole : whole 10 w ≡ Some n
   digits_whole = grind arith
 
-  pub digits_value : (signed : Bool) → integer_value signed w ≡ Ok (Integer (record { value = n; signed = signed; width = pos 32 }))
-  digits_value signed = grind (arith, digits_whole)
+  pub digits_value : (signed : Bool) (width : ℤ)
+      → integer_value signed width w ≡ Ok (Integer (record { value = n; signed = signed; width = width }))
+  digits_value signed width = grind (arith, digits_whole)
 
-  pub digits_outcome : (cs : List ℕ) → number_outcome w cs ≡ integer_outcome w cs
-  digits_outcome cs = rw (no_marks (begins_hex w) w t.digits) refl
+  pub digits_outcome : (rules : Rules) (cs : List ℕ) → number_outcome rules w cs ≡ integer_outcome rules w cs
+  digits_outcome rules cs = rw (no_marks (begins_hex w) w t.digits) refl
 
-no_refusal : (is_short : ℕ → Bool) (cs : List ℕ) → is_short 32 ≡ false → IsBreak cs → width_refusal is_short cs ≡ None
-no_refusal is_short cs h b = rw (break_begins is_l refl cs b, break_begins is_short h cs b) refl
-
-signed_integer : (n : ℕ) (cs : List ℕ) → n < 2 ^ 64 → IsBreak cs
-    → word_at (decimal n ++ cs) ≡ record { value = Ok (Integer (record { value = n; signed = true; width = pos 32 })); taken = length (decimal n) }
-signed_integer n cs h b =
-    let t : IsDecimalText n (decimal n) = decimal_text n h in
-    let w : List ℕ = decimal n in
-    spelled_number w cs (digits_number w t.some t.digits) (number_ends cs b) ∙ digits_outcome n w t cs
-    ∙ rw (break_begins is_u refl cs b, no_refusal is_s cs refl b, digits_value n w t true, add-zero (length w)) refl
-
-unsigned_integer : (n : ℕ) (cs : List ℕ) → n < 2 ^ 64 → IsBreak cs
-    → word_at (decimal n ++ 117 ∷ cs) ≡ record { value = Ok (Integer (record { value = n; signed = false; width = pos 32 })); taken = length (decimal n) + 1 }
-unsigned_integer n cs h b =
-    let t : IsDecimalText n (decimal n) = decimal_text n h in
-    let w : List ℕ = decimal n in
-    spelled_number w (117 ∷ cs) (digits_number w t.some t.digits) (number_lacks 117 refl refl refl refl refl refl refl) ∙ digits_outcome n w t (117 ∷ cs)
-    ∙ rw (no_refusal is_s cs refl b, digits_value n w t false) refl
-
--- an integer is read back with its mark
-pub spelled_integer : (i : IntegerLiteral) (cs : List ℕ) → i.value < 2 ^ 64 → i.width ≡ pos 32 → IsBreak cs
-    → word_at (integer_literal i ++ cs) ≡ record { value = Ok (Integer i); taken = length (integer_literal i) }
-spelled_integer i cs h e b = grind (arith, signed_integer, append_assoc, length-append, unsigned_integer)
+-- an integer is read back with its mark and its width
+pub spelled_integer : (rules : Rules) (i : IntegerLiteral) (cs : List ℕ) → i.value < 2 ^ 64 → IsWidth rules i.width → IsBreak cs
+    → word_at rules (integer_literal i ++ cs) ≡ record { value = Ok (Integer i); taken = length (integer_literal i) }
+spelled_integer rules i cs h e b =
+    let w : List ℕ = decimal i.value in
+    let t : IsDecimalText i.value w = decimal_text i.value h in
+    let letters : List ℕ = integer_letters i.signed i.width in
+    let end = integer_ends rules cs b i.signed i.width e in
+    ap (word_at rules) (append_assoc w letters cs)
+    ∙ spelled_number rules w (letters ++ cs) (digits_number w t.some t.digits) end.ends
+    ∙ digits_outcome i.value w t rules (letters ++ cs)
+    ∙ rw (end.suffix, end.sign, integer_unrefused rules cs b letters, digits_value i.value w t i.signed i.width, length-append w letters) refl

@@ -1,5 +1,5 @@
 -- Floats at the front of a plain text.
-use Rattle.std.proofs.Common.{◌≡◌, ℕ, suc, ◌+◌, ◌-◌, ◌<◌, ◌≤◌, List, [], ◌∷◌, ◌++◌, length, take, drop, get_or, Bool, true, false, not, ◌&&◌, ◌==◌, append_assoc, length-append, add-zero, refl, sym, ◌∙◌, ap, arith, Ok, None, pos}
+use Rattle.std.proofs.Common.{◌≡◌, ℕ, suc, ◌+◌, ◌-◌, ◌<◌, ◌≤◌, List, [], ◌∷◌, ◌++◌, length, take, drop, get_or, Bool, true, false, not, ◌&&◌, ◌==◌, append_assoc, length-append, refl, sym, ◌∙◌, ap, arith, Ok, pos}
 use Rattle.std.proofs.Math.Bool.{and-false}
 use Rattle.std.specs.List.{list_all, list_any}
 use Rattle.std.specs.Str.{IsUtf8}
@@ -7,10 +7,11 @@ use Rattle.std.proofs.Math.Seq.{take-append_seam}
 use Rattle.std.proofs.lemmas.Bool.{and_parts, false≢true, or_left, or_right, and_from, not-true}
 use Rattle.std.proofs.lemmas.Bool.Decides.{nat_tests}
 use Rattle.std.proofs.lemmas.List.{drop-take, length-take-le, take-take}
+use Rattle.pp_lexer.specs.declared.rules.Rules.{Rules}
 use Rattle.pp_lexer.specs.declared.lexer.item.TokenValue.TheVariants.{Float}
 use Rattle.pp_lexer.specs.inner.Fronts.{is_plain}
 use Rattle.pp_lexer.specs.Numbers.{is_zero, is_x, is_sign, is_decimal, digits, is_number, begins_number}
-use Rattle.pp_lexer.specs.NumberValue.{is_h, is_f, is_float, is_float_text, float_tail, float_exponent, width_refusal, float_outcome, begins_hex}
+use Rattle.pp_lexer.specs.NumberValue.{is_l, is_h, is_f, is_float, is_float_text, float_tail, float_exponent, float_outcome, begins_hex}
 use Rattle.pp_lexer.specs.inner.NumberValue.{float_power}
 use Rattle.pp_lexer.specs.inner.PlainWords.{continues_number, Stops, IsSuffixed, IsPlainWord}
 use Rattle.pp_lexer.specs.PlainItems.{without_suffix}
@@ -21,7 +22,8 @@ use Rattle.pp_lexer.proofs.characters.PlainFrontsLemmas.{split_at, take_seam}
 use Rattle.pp_lexer.proofs.numbers.LongestFloatLemmas.{float_full}
 use Rattle.pp_lexer.proofs.numbers.NumbersLemmas.{either_apart}
 use Rattle.pp_lexer.proofs.numbers.NumberSetsLemmas.{float_text_number, made_float_text}
-use Rattle.pp_lexer.proofs.numbers.PlainNumbersLemmas.{NoMore, ended, ends_class, no_f, no_h, no_refusal, number_of, either_letter, decimal_plain, take_more, plain_more}
+use Rattle.pp_lexer.proofs.numbers.PlainNumbersLemmas.{NoMore, ended, ends_class, no_l, no_f, no_h, number_of, either_letter, decimal_plain, take_more, plain_more}
+use Rattle.pp_lexer.proofs.numbers.SuffixesLemmas.{float_alone, float_suffixed}
 use Rattle.pp_lexer.proofs.spelling.FloatSpellingLemmas.{value_same}
 use Rattle.pp_lexer.proofs.words.PlainWordsLemmas.{plain_before}
 use Rattle.pp_lexer.proofs.words.SetsLemmas.{Implies, all_many}
@@ -32,9 +34,6 @@ use Rattle.pp_lexer.proofs.words.WordsLemmas.{no_number_here}
 float_ends : (f : ℕ) (cs : List ℕ) → is_f f ≡ true → NoMore (f ∷ cs)
 float_ends f cs h = grind arith
 
-float_letter : (f : ℕ) (cs : List ℕ) → is_f f ≡ true → width_refusal is_h (f ∷ cs) ≡ None
-float_letter f cs h = either_letter (λ c. width_refusal is_h (c ∷ cs) ≡ None) f 102 70 h refl refl
-
 float_begins : (w cs : List ℕ) → is_float_text w ≡ true → begins_number (w ++ cs) ≡ true
 float_begins w cs h = by (begins_number (w ++ cs)) refl
   where
@@ -43,20 +42,21 @@ float_begins w cs h = by (begins_number (w ++ cs)) refl
     by false e =
         absurd (false≢true (sym (no_number_here (w ++ cs) (length w) e) ∙ ap is_number (take-append_seam w cs) ∙ float_text_number w h))
 
-module _ (w : List ℕ) (text : is_float_text w ≡ true) (float : is_float w ≡ true) where
-  float_word : (cs : List ℕ) → NoMore cs → word_at (w ++ cs) ≡ float_outcome w cs
+module _ (rules : Rules) (w : List ℕ) (text : is_float_text w ≡ true) (float : is_float w ≡ true) where
+  float_word : (cs : List ℕ) → NoMore cs → word_at rules (w ++ cs) ≡ float_outcome rules w cs
   float_word cs e = grind (arith, number_of, float_begins, float_full)
 
   module _ (cs : List ℕ) (h : begins_with continues_number cs ≡ false) where
-    float_at : word_at (w ++ cs) ≡ record { value = Ok (Float (record { text = w; width = pos 32 })); taken = length w }
+    float_at : word_at rules (w ++ cs) ≡ record { value = Ok (Float (record { text = w; width = pos 32 })); taken = length w }
     float_at =
-        float_word cs (ended cs h) ∙ rw (no_refusal cs h is_h no_h, value_same w text, ends_class is_f no_f cs h, add-zero (length w)) refl
+        float_word cs (ended cs h)
+        ∙ float_alone rules w cs _ (ends_class is_l no_l cs h) (value_same w text (pos 32)) (ends_class is_h no_h cs h) (ends_class is_f no_f cs h)
 
     suffixed_at : (f : ℕ) → is_f f ≡ true
-        → word_at ((w ++ f ∷ []) ++ cs) ≡ record { value = Ok (Float (record { text = w; width = pos 32 })); taken = length w + 1 }
+        → word_at rules ((w ++ f ∷ []) ++ cs) ≡ record { value = Ok (Float (record { text = w; width = pos 32 })); taken = length w + 1 }
     suffixed_at f e =
-        ap word_at (append_assoc w (f ∷ []) cs) ∙ float_word (f ∷ cs) (float_ends f cs e)
-        ∙ rw (float_letter f cs e, value_same w text, e) refl
+        ap (word_at rules) (append_assoc w (f ∷ []) cs) ∙ float_word (f ∷ cs) (float_ends f cs e)
+        ∙ float_suffixed rules f w cs _ (value_same w text (pos 32)) e
 
 -- at the front of a text
 
@@ -97,7 +97,7 @@ module _ (text : List ℕ) (n : ℕ) (u : IsUtf8 text) (le : n ≤ length text) 
   plain_float stops =
       plain_before continues_number refl refl text n u (float_some n text here) le stops (Float (record { text = take n text; width = pos 32 }))
       plain first_no_blank refl
-      (λ cs h. float_at (take n text) here float cs h
+      (λ rules cs h. float_at rules (take n text) here float cs h
       ∙ ap (λ k. record { value = Ok (Float (record { text = take n text; width = pos 32 })); taken = k }) (length-take-le n text le))
 
   pub plain_suffixed : IsSuffixed 102 70 text n
@@ -111,7 +111,7 @@ module _ (text : List ℕ) (n : ℕ) (u : IsUtf8 text) (le : n ≤ length text) 
       plain_before continues_number refl refl text (n + 1) u (omega arith) (omega (arith, suffix.within)) suffix.stops
       (Float (record { text = without_suffix (take (n + 1) text); width = pos 32 }))
       (ap (list_all is_plain) more ∙ plain_more letter w plain letter_plain) first_no_blank refl
-      (λ cs h. ap (λ t. word_at (t ++ cs)) more ∙ suffixed_at w here float cs h letter suffix.letter
+      (λ rules cs h. ap (λ t. word_at rules (t ++ cs)) more ∙ suffixed_at rules w here float cs h letter suffix.letter
       ∙ ap (λ t. record { value = Ok (Float (record { text = t; width = pos 32 })); taken = length w + 1 }) bare
       ∙ ap (λ k. record { value = Ok (Float (record { text = without_suffix (take (n + 1) text); width = pos 32 })); taken = k + 1 })
       (length-take-le n text le))

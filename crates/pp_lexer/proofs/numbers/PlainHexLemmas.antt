@@ -1,5 +1,5 @@
 -- Hexadecimal integers at the front of a plain text.
-use Rattle.std.proofs.Common.{◌≡◌, ℕ, ◌+◌, ◌*◌, ◌^◌, ◌<◌, ◌≤◌, List, [], ◌∷◌, ◌++◌, length, take, drop, get_or, Bool, true, false, append_assoc, add-zero, refl, sym, ◌∙◌, ap, arith, Ok, Some, pos}
+use Rattle.std.proofs.Common.{◌≡◌, ℕ, ℤ, ◌+◌, ◌*◌, ◌^◌, ◌<◌, ◌≤◌, List, [], ◌∷◌, ◌++◌, length, take, drop, get_or, Bool, true, false, append_assoc, add-zero, refl, sym, ◌∙◌, ap, arith, Ok, Some, pos}
 use Rattle.std.specs.List.{list_all, list_any}
 use Rattle.std.specs.Char.{digit_value}
 use Rattle.std.specs.Str.{IsUtf8}
@@ -8,6 +8,7 @@ use Rattle.std.proofs.lemmas.Int.Digits.{digits_value_more}
 use Rattle.std.proofs.lemmas.Bool.{and_parts, and_from}
 use Rattle.std.proofs.lemmas.Bool.Decides.{nat_tests}
 use Rattle.std.proofs.lemmas.List.{length-take-le}
+use Rattle.pp_lexer.specs.declared.rules.Rules.{Rules}
 use Rattle.pp_lexer.specs.declared.lexer.item.TokenValue.TheVariants.{Integer}
 use Rattle.pp_lexer.specs.inner.Fronts.{is_plain}
 use Rattle.pp_lexer.specs.inner.Numbers.{hex_tail}
@@ -15,12 +16,13 @@ use Rattle.pp_lexer.specs.inner.NumberValue.{is_float_mark}
 use Rattle.pp_lexer.specs.inner.PlainWords.{continues_number, Stops, IsSuffixed, BeginsHex, IsPlainWord}
 use Rattle.pp_lexer.specs.Longest.{longest, front_len}
 use Rattle.pp_lexer.specs.Numbers.{is_x, is_hex, is_point, is_number}
-use Rattle.pp_lexer.specs.NumberValue.{is_u, is_s, begins_hex, whole, integer_value, integer_outcome, number_outcome}
+use Rattle.pp_lexer.specs.NumberValue.{is_l, is_u, is_s, begins_hex, whole, integer_value, integer_outcome, number_outcome}
 use Rattle.pp_lexer.specs.Spellings.{many}
 use Rattle.pp_lexer.specs.Surroundings.{begins_with}
 use Rattle.pp_lexer.specs.Words.{is_blank, word_at}
 use Rattle.pp_lexer.proofs.numbers.NumbersLemmas.{hex_point_apart, zero_number_len, after_zero_hex, hex_len, hex_tail_none}
-use Rattle.pp_lexer.proofs.numbers.PlainNumbersLemmas.{ends_class, number_of, no_point, no_u, no_s, drop_front, either_letter, take_more, plain_more, no_refusal}
+use Rattle.pp_lexer.proofs.numbers.PlainNumbersLemmas.{ends_class, number_of, no_point, no_l, no_u, no_s, drop_front, either_letter, take_more, plain_more}
+use Rattle.pp_lexer.proofs.numbers.SuffixesLemmas.{integer_alone, integer_unsigned}
 use Rattle.pp_lexer.proofs.characters.PlainFrontsLemmas.{all_plain, front_len-append}
 use Rattle.pp_lexer.proofs.words.PlainWordsLemmas.{plain_before}
 
@@ -57,12 +59,12 @@ module _ (n x : ℕ) (w : List ℕ) (t : IsHexText n x w) where
       hex_len (w ++ cs) ∙ ap (λ k. front_len is_hex (w ++ cs) + k) tail ∙ add-zero (front_len is_hex (w ++ cs)) ∙ d in
       zero_number_len ((48 ∷ x ∷ w) ++ cs) refl ∙ ap (λ k. 1 + k) (after_zero_hex (x ∷ (w ++ cs)) t.letter) ∙ ap (λ k. 1 + (1 + k)) digits ∙ omega arith
 
-  hex_word : (cs : List ℕ) → NoHexMore cs → word_at ((48 ∷ x ∷ w) ++ cs) ≡ number_outcome (48 ∷ x ∷ w) cs
-  hex_word cs e = number_of (48 ∷ x ∷ w) cs refl (word_len cs e)
+  hex_word : (rules : Rules) (cs : List ℕ) → NoHexMore cs → word_at rules ((48 ∷ x ∷ w) ++ cs) ≡ number_outcome rules (48 ∷ x ∷ w) cs
+  hex_word rules cs e = number_of rules (48 ∷ x ∷ w) cs refl (word_len cs e)
 
 -- no float
-no_float : (u cs : List ℕ) → list_any (is_float_mark (begins_hex u)) u ≡ false → number_outcome u cs ≡ integer_outcome u cs
-no_float u cs e = rw e refl
+no_float : (rules : Rules) (u cs : List ℕ) → list_any (is_float_mark (begins_hex u)) u ≡ false → number_outcome rules u cs ≡ integer_outcome rules u cs
+no_float rules u cs e = rw e refl
 
 marks : (b : Bool) (x : ℕ) (w : List ℕ) → b ≡ true → is_x x ≡ true → list_all is_hex w ≡ true → list_any (is_float_mark b) (48 ∷ x ∷ w) ≡ false
 marks false x w e l h = cc
@@ -72,19 +74,20 @@ marks true x w e l h = either_letter (λ c. list_any (is_float_mark true) (48 �
 hex_whole : (n : ℕ) (w : List ℕ) → n < 2 ^ 64 → 0 < length w → list_all is_hex w ≡ true → digits_value_after 16 0 w ≡ n → whole 16 w ≡ Some n
 hex_whole n w h k e l = grind arith
 
-hex_integer : (n : ℕ) (u w : List ℕ) (signed : Bool) → begins_hex u ≡ true → drop 2 u ≡ w → whole 16 w ≡ Some n
-    → integer_value signed u ≡ Ok (Integer (record { value = n; signed = signed; width = pos 32 }))
-hex_integer n u w signed h d e = grind arith
+hex_integer : (n : ℕ) (u w : List ℕ) (signed : Bool) (width : ℤ) → begins_hex u ≡ true → drop 2 u ≡ w → whole 16 w ≡ Some n
+    → integer_value signed width u ≡ Ok (Integer (record { value = n; signed = signed; width = width }))
+hex_integer n u w signed width h d e = grind arith
 
 -- a spelling that is read as this integer
 record IsHexWord (n : ℕ) (u : List ℕ) : Type 0 where
-  word : (cs : List ℕ) → NoHexMore cs → word_at (u ++ cs) ≡ integer_outcome u cs
-  value : (signed : Bool) → integer_value signed u ≡ Ok (Integer (record { value = n; signed = signed; width = pos 32 }))
+  word : (rules : Rules) (cs : List ℕ) → NoHexMore cs → word_at rules (u ++ cs) ≡ integer_outcome rules u cs
+  value : (signed : Bool) (width : ℤ)
+      → integer_value signed width u ≡ Ok (Integer (record { value = n; signed = signed; width = width }))
 
 hex_read : (n x : ℕ) (w : List ℕ) → IsHexText n x w → IsHexWord n (48 ∷ x ∷ w)
 hex_read n x w t = record {
-  word = λ cs e. hex_word n x w t cs e ∙ no_float (48 ∷ x ∷ w) cs (marks (begins_hex (48 ∷ x ∷ w)) x w t.letter t.letter t.digits);
-  value = λ signed. hex_integer n (48 ∷ x ∷ w) w signed t.letter refl (hex_whole n w t.small t.some t.digits t.value);
+  word = λ rules cs e. hex_word n x w t rules cs e ∙ no_float rules (48 ∷ x ∷ w) cs (marks (begins_hex (48 ∷ x ∷ w)) x w t.letter t.letter t.digits);
+  value = λ signed width. hex_integer n (48 ∷ x ∷ w) w signed width t.letter refl (hex_whole n w t.small t.some t.digits t.value);
 }
 
 hex_unsigned_ends : (u : ℕ) (cs : List ℕ) → is_u u ≡ true → NoHexMore (u ∷ cs)
@@ -92,15 +95,15 @@ hex_unsigned_ends u cs h =
     either_letter (λ c. NoHexMore (c ∷ cs)) u 117 85 h (record { hex = refl; point = refl }) (record { hex = refl; point = refl })
 
 module _ (cs : List ℕ) (h : begins_with continues_number cs ≡ false) (n : ℕ) (w : List ℕ) (t : IsHexWord n w) where
-  hex_at : word_at (w ++ cs) ≡ record { value = Ok (Integer (record { value = n; signed = true; width = pos 32 })); taken = length w }
-  hex_at =
-      t.word cs (record { hex = ends_class is_hex no_hex cs h; point = ends_class is_point no_point cs h })
-      ∙ rw (ends_class is_u no_u cs h, no_refusal cs h is_s no_s, t.value true, add-zero (length w)) refl
+  hex_at : (rules : Rules) → word_at rules (w ++ cs) ≡ record { value = Ok (Integer (record { value = n; signed = true; width = pos 32 })); taken = length w }
+  hex_at rules =
+      t.word rules cs (record { hex = ends_class is_hex no_hex cs h; point = ends_class is_point no_point cs h })
+      ∙ integer_alone rules w cs _ (ends_class is_l no_l cs h) (t.value true (pos 32)) (ends_class is_s no_s cs h) (ends_class is_u no_u cs h)
 
-  hex_unsigned_at : (u : ℕ) → is_u u ≡ true
-      → word_at ((w ++ u ∷ []) ++ cs) ≡ record { value = Ok (Integer (record { value = n; signed = false; width = pos 32 })); taken = length w + 1 }
-  hex_unsigned_at u e =
-      ap word_at (append_assoc w (u ∷ []) cs) ∙ t.word (u ∷ cs) (hex_unsigned_ends u cs e) ∙ rw (e, no_refusal cs h is_s no_s, t.value false) refl
+  hex_unsigned_at : (rules : Rules) (u : ℕ) → is_u u ≡ true
+      → word_at rules ((w ++ u ∷ []) ++ cs) ≡ record { value = Ok (Integer (record { value = n; signed = false; width = pos 32 })); taken = length w + 1 }
+  hex_unsigned_at rules u e =
+      ap (word_at rules) (append_assoc w (u ∷ []) cs) ∙ t.word rules (u ∷ cs) (hex_unsigned_ends u cs e) ∙ integer_unsigned rules w cs _ (ends_class is_l no_l cs h) u (t.value false (pos 32)) (ends_class is_s no_s cs h) e
 
 hex_split : (n : ℕ) (text : List ℕ) → BeginsHex text → take (n + 2) text ≡ 48 ∷ get_or text 1 0 ∷ take n (drop 2 text)
 hex_split n text h = grind arith
@@ -128,7 +131,7 @@ module _ (text : List ℕ) (n value : ℕ) (u : IsUtf8 text) (b : BeginsHex text
   plain_hex stops =
       plain_before continues_number refl refl text (n + 2) u (omega arith) within stops (Integer (record { value = value; signed = true; width = pos 32 }))
       plain (hex_no_blank text b) refl
-      (λ cs h. hex_at cs h value (take (n + 2) text) read
+      (λ rules cs h. hex_at cs h value (take (n + 2) text) read rules
       ∙ ap (λ k. record { value = Ok (Integer (record { value = value; signed = true; width = pos 32 })); taken = k }) (length-take-le (n + 2) text within))
 
   pub plain_hex_unsigned : IsSuffixed 117 85 text (n + 2)
@@ -140,7 +143,7 @@ module _ (text : List ℕ) (n value : ℕ) (u : IsUtf8 text) (b : BeginsHex text
       plain_before continues_number refl refl text (n + 2 + 1) u (omega arith) (omega (arith, suffix.within)) suffix.stops
       (Integer (record { value = value; signed = false; width = pos 32 }))
       (ap (list_all is_plain) more ∙ plain_more letter (take (n + 2) text) plain is) (hex_no_blank text b) refl
-      (λ cs h. ap (λ t. word_at (t ++ cs)) more ∙ hex_unsigned_at cs h value (take (n + 2) text) read letter suffix.letter
+      (λ rules cs h. ap (λ t. word_at rules (t ++ cs)) more ∙ hex_unsigned_at cs h value (take (n + 2) text) read rules letter suffix.letter
       ∙ ap (λ k. record { value = Ok (Integer (record { value = value; signed = false; width = pos 32 })); taken = k + 1 }) (length-take-le (n + 2) text within))
 
 -- one digit more

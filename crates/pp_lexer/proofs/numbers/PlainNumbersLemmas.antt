@@ -1,5 +1,5 @@
 -- Decimal integers at the front of a plain text.
-use Rattle.std.proofs.Common.{◌≡◌, ℕ, zero, suc, ◌+◌, ◌-◌, ◌*◌, ◌^◌, ◌<◌, ◌≤◌, List, [], ◌∷◌, ◌++◌, length, take, drop, get_or, Bool, true, false, ◌&&◌, ◌||◌, ◌==◌, append_assoc, length-drop, add-one, add-zero, refl, sym, ◌∙◌, ap, arith, Ok, None, pos}
+use Rattle.std.proofs.Common.{◌≡◌, ℕ, zero, suc, ◌+◌, ◌-◌, ◌*◌, ◌^◌, ◌<◌, ◌≤◌, List, [], ◌∷◌, ◌++◌, length, take, drop, get_or, Bool, true, false, ◌&&◌, ◌||◌, ◌==◌, append_assoc, length-drop, add-one, add-zero, refl, sym, ◌∙◌, ap, arith, Ok, pos}
 use Rattle.std.specs.List.{list_all}
 use Rattle.std.specs.Str.{IsUtf8}
 use Rattle.std.specs.Str.Parse.{digits_value_after}
@@ -8,16 +8,18 @@ use Rattle.std.proofs.lemmas.Int.Digits.{digits_value_more}
 use Rattle.std.proofs.lemmas.Bool.{and_parts, eqb-true, and_from}
 use Rattle.std.proofs.lemmas.Bool.Decides.{nat_tests}
 use Rattle.std.proofs.lemmas.List.{length-take-le, drop_at}
+use Rattle.pp_lexer.specs.declared.rules.Rules.{Rules}
 use Rattle.pp_lexer.specs.declared.lexer.item.TokenValue.TheVariants.{Integer}
 use Rattle.pp_lexer.specs.inner.Fronts.{is_plain}
 use Rattle.pp_lexer.specs.Longest.{longest}
 use Rattle.pp_lexer.specs.Numbers.{is_zero, is_x, is_point, is_e, is_decimal, decimal_tail, fraction, is_number, begins_number}
-use Rattle.pp_lexer.specs.NumberValue.{is_l, is_h, is_s, is_f, is_u, begins_octal, width_refusal, number_outcome, number_at}
+use Rattle.pp_lexer.specs.NumberValue.{is_l, is_h, is_s, is_f, is_u, begins_octal, number_outcome, number_at}
 use Rattle.pp_lexer.specs.inner.PlainWords.{continues_number, Stops, IsSuffixed, IsPlainWord}
 use Rattle.pp_lexer.specs.Spellings.{many}
 use Rattle.pp_lexer.specs.Surroundings.{begins_with}
 use Rattle.pp_lexer.specs.Words.{is_blank, word_at}
 use Rattle.pp_lexer.proofs.numbers.DecimalLemmas.{IsDecimalText, digits_value, digits_outcome}
+use Rattle.pp_lexer.proofs.numbers.SuffixesLemmas.{integer_alone, integer_unsigned}
 use Rattle.pp_lexer.proofs.numbers.NumbersLemmas.{point_apart, either_apart, decimal_len, fraction_len, exponent_none, decimal_tail_none, digit_number_len, zero_number_len, after_zero_digits}
 use Rattle.pp_lexer.proofs.characters.PlainFrontsLemmas.{all_plain, front_len-append, take_seam}
 use Rattle.pp_lexer.proofs.words.PlainWordsLemmas.{plain_before}
@@ -42,7 +44,7 @@ no_e c h = grind arith
 no_x : (c : ℕ) → continues_number c ≡ false → is_x c ≡ false
 no_x c h = grind arith
 
-no_l : (c : ℕ) → continues_number c ≡ false → is_l c ≡ false
+pub no_l : (c : ℕ) → continues_number c ≡ false → is_l c ≡ false
 no_l c h = grind arith
 
 pub no_h : (c : ℕ) → continues_number c ≡ false → is_h c ≡ false
@@ -90,9 +92,9 @@ module _ (cs : List ℕ) (h : begins_with is_decimal cs ≡ false) where
       by false z = digit_number_len ((c ∷ w) ++ cs) begins (point_apart c d) z ∙ digits_len (c ∷ w) (and_from (is_decimal c) (list_all is_decimal w) d all)
 
 -- a number of that many characters
-pub number_of : (w cs : List ℕ) → begins_number (w ++ cs) ≡ true → longest is_number (w ++ cs) ≡ length w → word_at (w ++ cs) ≡ number_outcome w cs
+pub number_of : (rules : Rules) (w cs : List ℕ) → begins_number (w ++ cs) ≡ true → longest is_number (w ++ cs) ≡ length w → word_at rules (w ++ cs) ≡ number_outcome rules w cs
 unfolding number_at
-number_of w cs b n = grind (arith, number_first, take_seam, drop_front)
+number_of rules w cs b n = grind (arith, number_first, take_seam, drop_front)
 
 -- Integers
 
@@ -103,8 +105,8 @@ pub record NoMore (cs : List ℕ) : Type 0 where
   pub point : begins_with is_point cs ≡ false
   pub mark : begins_with is_e cs ≡ false
 
-digits_word : (cs w : List ℕ) → NoMore cs → 0 < length w → list_all is_decimal w ≡ true → word_at (w ++ cs) ≡ number_outcome w cs
-digits_word cs w h k e = grind (arith, and_parts, decimal_tail_none, exponent_none, number_of, number_len, add-zero)
+digits_word : (rules : Rules) (cs w : List ℕ) → NoMore cs → 0 < length w → list_all is_decimal w ≡ true → word_at rules (w ++ cs) ≡ number_outcome rules w cs
+digits_word rules cs w h k e = grind (arith, and_parts, decimal_tail_none, exponent_none, number_of, number_len, add-zero)
 
 -- a suffix letter, each also as a capital
 
@@ -118,22 +120,19 @@ module _ (cs : List ℕ) (h : begins_with continues_number cs ≡ false) where
   pub ended : NoMore cs
   ended = grind (arith, no_decimal, no_x, no_point, no_e)
 
-  pub no_refusal : (is_short : ℕ → Bool) → ((c : ℕ) → continues_number c ≡ false → is_short c ≡ false) → width_refusal is_short cs ≡ None
-  no_refusal is_short f = rw (ends_class is_l no_l cs h, ends_class is_short f cs h) refl
-
-  integer_at : (n : ℕ) (w : List ℕ) → IsDecimalText n w → word_at (w ++ cs) ≡ record {
+  integer_at : (rules : Rules) (n : ℕ) (w : List ℕ) → IsDecimalText n w → word_at rules (w ++ cs) ≡ record {
     value =
         Ok (Integer (record { value = n; signed = true; width = pos 32 }));
     taken = length w;
   }
-  integer_at n w t = digits_word cs w ended t.some t.digits ∙ digits_outcome n w t cs
-      ∙ rw (ends_class is_u no_u cs h, no_refusal is_s no_s, digits_value n w t true, add-zero (length w)) refl
+  integer_at rules n w t = digits_word rules cs w ended t.some t.digits ∙ digits_outcome n w t rules cs
+      ∙ integer_alone rules w cs _ (ends_class is_l no_l cs h) (digits_value n w t true (pos 32)) (ends_class is_s no_s cs h) (ends_class is_u no_u cs h)
 
-  unsigned_at : (n u : ℕ) (w : List ℕ) → IsDecimalText n w → is_u u ≡ true
-      → word_at ((w ++ u ∷ []) ++ cs) ≡ record { value = Ok (Integer (record { value = n; signed = false; width = pos 32 })); taken = length w + 1 }
-  unsigned_at n u w t e =
-      ap word_at (append_assoc w (u ∷ []) cs) ∙ digits_word (u ∷ cs) w (unsigned_ends u cs e) t.some t.digits ∙ digits_outcome n w t (u ∷ cs)
-      ∙ rw (e, no_refusal is_s no_s, digits_value n w t false) refl
+  unsigned_at : (rules : Rules) (n u : ℕ) (w : List ℕ) → IsDecimalText n w → is_u u ≡ true
+      → word_at rules ((w ++ u ∷ []) ++ cs) ≡ record { value = Ok (Integer (record { value = n; signed = false; width = pos 32 })); taken = length w + 1 }
+  unsigned_at rules n u w t e =
+      ap (word_at rules) (append_assoc w (u ∷ []) cs) ∙ digits_word rules (u ∷ cs) w (unsigned_ends u cs e) t.some t.digits ∙ digits_outcome n w t rules (u ∷ cs)
+      ∙ integer_unsigned rules w cs _ (ends_class is_l no_l cs h) u (digits_value n w t false (pos 32)) (ends_class is_s no_s cs h) e
 
 pub take_whole : (n : ℕ) (xs : List ℕ) → length xs ≤ n → take n xs ≡ xs
 take_whole zero [] h = refl
@@ -192,7 +191,7 @@ plain_integer text n value u some le digits octal small e stops =
     plain_before continues_number refl refl text n u some le stops (Integer (record { value = value; signed = true; width = pos 32 }))
     (all_plain is_decimal decimal_plain (take n text) digits)
     (decimal_no_blank (get_or text 0 0) (first_decimal n text some le digits)) refl
-    (λ cs h. integer_at cs h value (take n text) t
+    (λ rules cs h. integer_at cs h rules value (take n text) t
     ∙ ap (λ k. record { value = Ok (Integer (record { value = value; signed = true; width = pos 32 })); taken = k }) size)
 
 -- a front with the character after it
@@ -225,5 +224,5 @@ plain_unsigned text n value u some le digits octal small e suffix =
     (Integer (record { value = value; signed = false; width = pos 32 }))
     (ap (list_all is_plain) more ∙ plain_more letter (take n text) (all_plain is_decimal decimal_plain (take n text) digits) plain)
     (decimal_no_blank (get_or text 0 0) (first_decimal n text some le digits)) refl
-    (λ cs h. ap (λ x. word_at (x ++ cs)) more ∙ unsigned_at cs h value letter (take n text) t suffix.letter
+    (λ rules cs h. ap (λ x. word_at rules (x ++ cs)) more ∙ unsigned_at cs h rules value letter (take n text) t suffix.letter
     ∙ ap (λ k. record { value = Ok (Integer (record { value = value; signed = false; width = pos 32 })); taken = k + 1 }) size)

@@ -1,16 +1,18 @@
 -- The text of an item, as it is written piece by piece.
-use Rattle.std.proofs.Common.{◌≡◌, ℕ, ◌^◌, ◌<◌, true, false, List, [], ◌∷◌, ◌++◌, filter, codes, get_or, length, take, ◌+◌, refl, sym, ap, ◌∙◌, lit<, arith}
+use Rattle.std.proofs.Common.{◌≡◌, ℕ, ℤ, pos, ◌^◌, ◌<◌, Bool, true, false, if◌then◌else◌, append_assoc, List, [], ◌∷◌, ◌++◌, filter, codes, get_or, length, take, ◌+◌, refl, sym, ap, ◌∙◌, lit<, arith}
 use Rattle.std.specs.Fmt.{decimal}
 use Rattle.std.specs.List.{flat_map}
-use Rattle.std.specs.Str.{chars, encode_utf8_all, IsUtf8}
+use Rattle.std.specs.Ordering.{int_eq}
+use Rattle.std.specs.Str.{chars, encode_utf8_all, IsUtf8, IsAscii}
 use Rattle.std.proofs.lemmas.Fmt.{IsAscii-decimal}
-use Rattle.std.proofs.lemmas.List.{append-nil, flat_map_more, take_more}
-use Rattle.std.proofs.lemmas.Str.{encodes-append, encodes-chars, encodes-IsAscii, encode_ascii}
+use Rattle.std.proofs.lemmas.List.{flat_map_more, take_more}
+use Rattle.std.proofs.lemmas.Str.{encodes-append, encodes-chars, encodes-IsAscii, encode_ascii, IsAscii-append}
+use Rattle.std.proofs.lemmas.Str.Ascii.{IsAscii-nil, IsAscii-cons}
 use Rattle.pp_lexer.specs.Entry.{Entry, is_outermost}
 use Rattle.pp_lexer.specs.ItemText.{leaf_spelling, with_tokens}
 use Rattle.pp_lexer.specs.Preorder.{leaf_of, inner, preorder}
 use Rattle.pp_lexer.specs.Punctuators.{punctuator}
-use Rattle.pp_lexer.specs.Spelling.{integer_literal, spelling}
+use Rattle.pp_lexer.specs.Spelling.{sign_letter, width_letters, integer_literal, float_literal, spelling}
 use Rattle.pp_lexer.specs.declared.token.Integer.{Integer as IntegerLiteral}
 use Rattle.pp_lexer.specs.declared.token.Punct.{Punct as Punctuator}
 use Rattle.pp_lexer.specs.declared.token.Punct.TheVariants.{AddAssign}
@@ -24,17 +26,46 @@ unfolding lib.Utf8.encode
 punctuator_bytes AddAssign = refl
 punctuator_bytes _ = refl
 
--- so it is with the digits of an integer, and with a `u` after them
-module _ (i : IntegerLiteral) (fits : i.value < 2 ^ 64) where
-  digits_bytes : encode_utf8_all (decimal i.value) ≡ decimal i.value
-  digits_bytes = encodes-IsAscii (decimal i.value) (IsAscii-decimal i.value fits)
+-- so it is with the letters of a width
+letters_ascii : (long short : List ℕ) (width : ℤ) → IsAscii long → IsAscii short → IsAscii (width_letters long short width)
+letters_ascii long short width h k = by (int_eq width (pos 64)) (int_eq width (pos 16))
+  where
+    by : (a b : Bool) → IsAscii (if a then long else if b then short else [])
+    by true b = h
+    by false true = k
+    by false false = IsAscii-nil
 
-  pub signed_bytes : i.signed ≡ true → decimal i.value ≡ encode_utf8_all (integer_literal i)
-  signed_bytes e = rw (e, append-nil (decimal i.value)) (sym digits_bytes)
+one_ascii : (c : ℕ) → c < 128 → IsAscii (c ∷ [])
+one_ascii c h = IsAscii-cons c [] h IsAscii-nil
 
-  pub unsigned_bytes : i.signed ≡ false → decimal i.value ++ codes "u" ≡ encode_utf8_all (integer_literal i)
-  unfolding lib.Utf8.encode
-  unsigned_bytes e = rw e (sym (encodes-append (decimal i.value) (codes "u") ∙ ap (λ digits. digits ++ codes "u") digits_bytes))
+two_ascii : (c d : ℕ) → c < 128 → d < 128 → IsAscii (c ∷ d ∷ [])
+two_ascii c d h k = IsAscii-cons c (d ∷ []) h (one_ascii d k)
+
+-- with an integer, piece by piece
+pub integer_bytes : (i : IntegerLiteral) → i.value < 2 ^ 64
+    → (decimal i.value ++ sign_letter i.signed) ++ width_letters (codes "l") (codes "s") i.width ≡ encode_utf8_all (integer_literal i)
+integer_bytes i fits =
+    let digits = decimal i.value in
+    let letters = width_letters (codes "l") (codes "s") i.width in
+    append_assoc digits (sign_letter i.signed) letters
+    ∙ sym (encodes-IsAscii (integer_literal i)
+    (IsAscii-append digits (sign_letter i.signed ++ letters) (IsAscii-decimal i.value fits)
+    (IsAscii-append (sign_letter i.signed) letters (sign i.signed)
+    (letters_ascii (codes "l") (codes "s") i.width (one_ascii 108 (omega arith)) (one_ascii 115 (omega arith))))))
+  where
+    sign : (signed : Bool) → IsAscii (sign_letter signed)
+    sign true = IsAscii-nil
+    sign false = one_ascii 117 (omega arith)
+
+-- and with what is after the text of a float
+pub float_bytes : (text : List ℕ) (width : ℤ)
+    → encode_utf8_all text ++ width_letters (codes "lf") (codes "hf") width ≡ encode_utf8_all (float_literal text width)
+float_bytes text width =
+    let letters = width_letters (codes "lf") (codes "hf") width in
+    sym (encodes-append text letters
+    ∙ ap (λ bytes. encode_utf8_all text ++ bytes)
+    (encodes-IsAscii letters
+    (letters_ascii (codes "lf") (codes "hf") width (two_ascii 108 102 (omega arith) (omega arith)) (two_ascii 104 102 (omega arith) (omega arith)))))
 
 -- the entry of a token is spelled as the token is
 pub leaf_spelled : (value : TokenValue) → leaf_spelling (leaf_of value) ≡ spelling value

@@ -1,14 +1,16 @@
 -- A spelled text is made of characters of Unicode, without line breaks, backslashes and comments.
-use Rattle.std.proofs.Common.{◌≡◌, ℕ, ◌<◌, ◌^◌, List, [], ◌∷◌, ◌++◌, Bool, true, false, not, ◌&&◌, ◌||◌, ◌==◌, refl, arith, codes, if◌then◌else◌}
+use Rattle.std.proofs.Common.{◌≡◌, ℕ, ℤ, ◌<◌, ◌^◌, List, [], ◌∷◌, ◌++◌, Bool, true, false, not, ◌&&◌, ◌||◌, ◌==◌, refl, arith, codes, pos, if◌then◌else◌}
 use Rattle.std.specs.Prelude.{All}
 use Rattle.std.specs.Fmt.{decimal}
 use Rattle.std.specs.List.{list_all}
+use Rattle.std.specs.Ordering.{int_eq}
 use Rattle.std.specs.Str.{all_scalars}
 use Rattle.std.proofs.Math.Utf8.{scalar, low_scalar}
 use Rattle.std.proofs.lemmas.Bool.{and_parts, and_from, not-true}
 use Rattle.std.proofs.lemmas.List.Elements.{All-head, All-tail}
 use Rattle.unicode_ident.specs.Ident.{is_xid_continue}
 use Rattle.unicode_ident.proofs.IdentLemmas.{is_xid_continue-ascii}
+use Rattle.pp_lexer.specs.declared.rules.Rules.{Rules}
 use Rattle.pp_lexer.specs.declared.token.Integer.{Integer as IntegerLiteral}
 use Rattle.pp_lexer.specs.declared.token.Punct.{Punct as Punctuator}
 use Rattle.pp_lexer.specs.declared.token.Punct.TheVariants.{AddAssign}
@@ -19,13 +21,14 @@ use Rattle.pp_lexer.specs.Lines.{is_line_break}
 use Rattle.pp_lexer.specs.Numbers.{is_decimal}
 use Rattle.pp_lexer.specs.NumberValue.{is_float_text}
 use Rattle.pp_lexer.specs.Punctuators.{punctuator}
-use Rattle.pp_lexer.specs.Respelling.{IsSpellable}
-use Rattle.pp_lexer.specs.Spelling.{integer_literal, spelling, spelled_text}
+use Rattle.pp_lexer.specs.Respelling.{IsSpellableBy}
+use Rattle.pp_lexer.specs.Spelling.{width_letters, sign_letter, integer_literal, float_literal, spelling, spelled_text}
 use Rattle.pp_lexer.specs.Spellings.{nothing, many}
 use Rattle.pp_lexer.specs.Surroundings.{begins_with}
 use Rattle.pp_lexer.proofs.numbers.DecimalLemmas.{decimal_text}
 use Rattle.pp_lexer.proofs.numbers.NumberSetsLemmas.{made_float_text}
 use Rattle.pp_lexer.proofs.characters.PlainPhasesLemmas.{is_second, IsPlain, plain-space}
+use Rattle.pp_lexer.proofs.spelling.SuffixSpellingLemmas.{integer_letters}
 use Rattle.pp_lexer.proofs.words.SetsLemmas.{Implies, IsMadeOf, is_other, made_nothing, made_one, made_many}
 use Rattle.pp_lexer.proofs.words.WordsLemmas.{digit_low, ascii_no_start}
 
@@ -87,14 +90,25 @@ decimal_safe c d = and_from (is_calm c) (scalar c) (calm_class is_decimal refl r
 float_safe : IsMadeOf is_safe is_float_text
 float_safe = made_float_text is_safe decimal_safe refl refl refl refl
 
-suffix_safe : (signed : Bool) → list_all is_safe (if signed then [] else codes "u") ≡ true
+suffix_safe : (signed : Bool) → list_all is_safe (sign_letter signed) ≡ true
 suffix_safe true = refl
 suffix_safe false = refl
 
+letters_safe : (long short : List ℕ) (width : ℤ) → list_all is_safe long ≡ true → list_all is_safe short ≡ true
+    → list_all is_safe (width_letters long short width) ≡ true
+letters_safe long short width h k = by (int_eq width (pos 64)) (int_eq width (pos 16))
+  where
+    by : (a b : Bool) → list_all is_safe (if a then long else if b then short else []) ≡ true
+    by true b = h
+    by false true = k
+    by false false = refl
+
 integer_safe : (i : IntegerLiteral) → i.value < 2 ^ 64 → list_all is_safe (integer_literal i) ≡ true
 integer_safe i h =
-    all_append is_safe (decimal i.value) (if i.signed then [] else codes "u")
-    (all_implied is_decimal is_safe decimal_safe (decimal i.value) (decimal_text i.value h).digits) (suffix_safe i.signed)
+    all_append is_safe (decimal i.value) (integer_letters i.signed i.width)
+    (all_implied is_decimal is_safe decimal_safe (decimal i.value) (decimal_text i.value h).digits)
+    (all_append is_safe (sign_letter i.signed) (width_letters (codes "l") (codes "s") i.width) (suffix_safe i.signed)
+    (letters_safe (codes "l") (codes "s") i.width refl refl))
 
 -- Punctuators
 
@@ -129,22 +143,25 @@ pub record IsClean (w : List ℕ) : Type 0 where
 safe_clean : (w : List ℕ) → list_all is_safe w ≡ true → IsClean w
 safe_clean w h = grind (arith, calm_plain, all_implied, scalar, scalars_all)
 
-spelling_clean : (v : TokenValue) → IsSpellable v → IsClean (spelling v)
-spelling_clean (Ident name) h = record { plain = calm_plain name (identifier_calm name h.0); scalars = h.1 }
-spelling_clean (Integer i) h = safe_clean (integer_literal i) (integer_safe i h.0)
-spelling_clean (Float f) h = safe_clean f.text (float_safe f.text h.0)
-spelling_clean (Punct p) h = record { plain = plain_from (punctuator p) (punctuator_plain p); scalars = punctuator_scalars p }
-spelling_clean (Version v) h = absurd h
-spelling_clean (Extension e) h = absurd h
-spelling_clean (Pragma p) h = absurd h
+spelling_clean : (rules : Rules) (v : TokenValue) → IsSpellableBy rules v → IsClean (spelling v)
+spelling_clean rules (Ident name) h = record { plain = calm_plain name (identifier_calm name h.0); scalars = h.1 }
+spelling_clean rules (Integer i) h = safe_clean (integer_literal i) (integer_safe i h.0)
+spelling_clean rules (Float f) h =
+    safe_clean (float_literal f.text f.width)
+    (all_append is_safe f.text (width_letters (codes "lf") (codes "hf") f.width) (float_safe f.text h.0)
+    (letters_safe (codes "lf") (codes "hf") f.width refl refl))
+spelling_clean rules (Punct p) h = record { plain = plain_from (punctuator p) (punctuator_plain p); scalars = punctuator_scalars p }
+spelling_clean rules (Version v) h = absurd h
+spelling_clean rules (Extension e) h = absurd h
+spelling_clean rules (Pragma p) h = absurd h
 
 space_clean : (v w : List ℕ) → IsClean v → IsClean w → IsClean (v ++ 32 ∷ w)
 space_clean v w h k = record { plain = plain-space v w h.plain k.plain; scalars = scalars_append v (32 ∷ w) h.scalars k.scalars }
 
 -- the spellings of values with spaces between them
-pub text_clean : (values : List TokenValue) → All IsSpellable values → IsClean (spelled_text values)
-text_clean [] h = record { plain = tt; scalars = refl }
-text_clean (v ∷ []) h = spelling_clean v (All-head IsSpellable v [] h)
-text_clean (v ∷ u ∷ values) h =
-    space_clean (spelling v) (spelled_text (u ∷ values)) (spelling_clean v (All-head IsSpellable v (u ∷ values) h))
-    (text_clean (u ∷ values) (All-tail IsSpellable v (u ∷ values) h))
+pub text_clean : (rules : Rules) (values : List TokenValue) → All (IsSpellableBy rules) values → IsClean (spelled_text values)
+text_clean rules [] h = record { plain = tt; scalars = refl }
+text_clean rules (v ∷ []) h = spelling_clean rules v (All-head (IsSpellableBy rules) v [] h)
+text_clean rules (v ∷ u ∷ values) h =
+    space_clean (spelling v) (spelled_text (u ∷ values)) (spelling_clean rules v (All-head (IsSpellableBy rules) v (u ∷ values) h))
+    (text_clean rules (u ∷ values) (All-tail (IsSpellableBy rules) v (u ∷ values) h))

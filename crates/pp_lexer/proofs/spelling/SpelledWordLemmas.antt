@@ -5,6 +5,7 @@ use Rattle.std.proofs.lemmas.Bool.{or_right, false≢true}
 use lib.Pointwise.{bytes_decides}
 use Rattle.unicode_ident.specs.Ident.{is_xid_continue}
 use Rattle.unicode_ident.proofs.IdentLemmas.{is_xid_continue-ascii}
+use Rattle.pp_lexer.specs.declared.rules.Rules.{Rules}
 use Rattle.pp_lexer.specs.declared.token.Punct.{Punct as Punctuator}
 use Rattle.pp_lexer.specs.declared.token.Punct.TheVariants.{AddAssign}
 use Rattle.pp_lexer.specs.declared.lexer.item.TokenValue.TheVariants.{Hash, Ident, Punct}
@@ -55,13 +56,13 @@ unfolding is_identifier
 identifier_some w e = some_of is_identifier w refl e
 
 -- an identifier is read as itself
-pub spelled_identifier : (w cs : List ℕ) → is_identifier w ≡ true → IsBreak cs → word_at (w ++ cs) ≡ record { value = Ok (Ident w); taken = length w }
-spelled_identifier w cs e b = by (begins_identifier (w ++ cs)) refl
+pub spelled_identifier : (rules : Rules) (w cs : List ℕ) → is_identifier w ≡ true → IsBreak cs → word_at rules (w ++ cs) ≡ record { value = Ok (Ident w); taken = length w }
+spelled_identifier rules w cs e b = by (begins_identifier (w ++ cs)) refl
   where
     ends : EndsBefore is_identifier cs
     ends = ends_at_break is_identifier (identifier_lacks 32 (ascii_no_start 32 refl refl) (is_xid_continue-ascii 32 (omega arith))) cs b
 
-    by : (t : Bool) → begins_identifier (w ++ cs) ≡ t → word_at (w ++ cs) ≡ record { value = Ok (Ident w); taken = length w }
+    by : (t : Bool) → begins_identifier (w ++ cs) ≡ t → word_at rules (w ++ cs) ≡ record { value = Ok (Ident w); taken = length w }
     by t h = grind (arith, no_identifier_front, taken_before, identifier_some, ends, longest_before, identifier_first)
 
 -- Numbers
@@ -71,9 +72,9 @@ unfolding is_number
 number_some w e = some_of is_number w refl e
 
 -- a number that ends here is read by its spelling and what stands after it
-pub spelled_number : (w cs : List ℕ) → is_number w ≡ true → EndsBefore is_number cs → word_at (w ++ cs) ≡ number_outcome w cs
+pub spelled_number : (rules : Rules) (w cs : List ℕ) → is_number w ≡ true → EndsBefore is_number cs → word_at rules (w ++ cs) ≡ number_outcome rules w cs
 unfolding number_at
-spelled_number w cs e ends = grind (arith, no_number_here, taken_before, number_some, after_before, number_first)
+spelled_number rules w cs e ends = grind (arith, no_number_here, taken_before, number_some, after_before, number_first)
 
 -- a number ends before a space
 pub number_ends : (cs : List ℕ) → IsBreak cs → EndsBefore is_number cs
@@ -128,13 +129,13 @@ no_number : (p : Punctuator) (cs : List ℕ) → begins_with is_decimal cs ≡ f
 no_number p cs h = grind arith
 
 -- a punctuator is read as itself
-pub spelled_punctuator : (p : Punctuator) (cs : List ℕ) → IsBreak cs
-    → word_at (punctuator p ++ cs) ≡ record { value = Ok (Punct p); taken = length (punctuator p) }
+pub spelled_punctuator : (rules : Rules) (p : Punctuator) (cs : List ℕ) → IsBreak cs
+    → word_at rules (punctuator p ++ cs) ≡ record { value = Ok (Punct p); taken = length (punctuator p) }
 unfolding punctuation_at
-spelled_punctuator p cs b =
+spelled_punctuator rules p cs b =
     let w : List ℕ = punctuator p in
     let ends : EndsBefore is_punctuation cs = ends_at_break is_punctuation punctuation_lacks_space cs b in
     let text : take (longest is_punctuation (w ++ cs)) (w ++ cs) ≡ w = taken_before is_punctuation w (punctuator_some p) (punctuator_word p) cs ends in
     let size : longest is_punctuation (w ++ cs) ≡ length w = longest_before is_punctuation w (punctuator_some p) (punctuator_word p) cs ends in
-    other_first (w ++ cs) (no_line_end p cs) (first_begins is_start p cs ∙ punct_no_start p) (no_number p cs (break_begins is_decimal refl cs b))
-    ∙ (λ i. punctuation_outcome (size i) (punctuation_value (text i))) ∙ ap (punctuation_outcome (length w)) (value_of_punctuator p)
+    other_first rules (w ++ cs) (no_line_end p cs) (first_begins is_start p cs ∙ punct_no_start p) (no_number p cs (break_begins is_decimal refl cs b))
+    ∙ (λ i. punctuation_outcome rules (size i) (punctuation_value (text i))) ∙ ap (punctuation_outcome rules (length w)) (value_of_punctuator p)

@@ -7,6 +7,7 @@ use Rattle.std.proofs.lemmas.Bool.{and_parts, and_right, or_parts, or_cases, eqb
 use Rattle.std.proofs.lemmas.Str.{IsCharBoundary-after_ascii}
 use Rattle.std.proofs.lemmas.Str.Ascii.{IsAscii-cons}
 use Rattle.unicode_ident.proofs.IdentLemmas.{is_xid_start-ascii}
+use Rattle.pp_lexer.specs.declared.rules.Rules.{Rules}
 use Rattle.pp_lexer.specs.declared.token.Punct.{Punct as Punctuator}
 use Rattle.pp_lexer.specs.declared.token.Punct.TheVariants.{AddAssign, LeftShiftAssign, RightShiftAssign}
 use Rattle.pp_lexer.specs.declared.lexer.item.TokenValue.TheVariants.{Hash, Punct}
@@ -87,18 +88,18 @@ starts_nothing c f = ap (λ t. t || (c == 95)) (is_xid_start-ascii c f.small) �
 no_number : (c : ℕ) (cs : List ℕ) → First c → (is_point c && begins_with is_decimal cs) ≡ false → begins_number (c ∷ cs) ≡ false
 no_number c cs f h = or_from (is_decimal c) (is_point c && begins_with is_decimal cs) f.no_decimal h
 
-longest_word : (c : ℕ) (cs : List ℕ) (n : ℕ) (p : Punctuator) → First c → (is_point c && begins_with is_decimal cs) ≡ false → IsLongest (c ∷ cs) n (Some p)
-    → word_at (c ∷ cs) ≡ record { value = Ok (Punct p); taken = n }
-longest_word c cs n p f h l =
-    other_first (c ∷ cs) f.no_feed (starts_nothing c f) (no_number c cs f h) ∙ at_punct (c ∷ cs) p f.no_hash (sym l.value)
+longest_word : (rules : Rules) (c : ℕ) (cs : List ℕ) (n : ℕ) (p : Punctuator) → First c → (is_point c && begins_with is_decimal cs) ≡ false → IsLongest (c ∷ cs) n (Some p)
+    → word_at rules (c ∷ cs) ≡ record { value = Ok (Punct p); taken = n }
+longest_word rules c cs n p f h l =
+    other_first rules (c ∷ cs) f.no_feed (starts_nothing c f) (no_number c cs f h) ∙ at_punct rules (c ∷ cs) p f.no_hash (sym l.value)
     ∙ ap (λ k. record { value = Ok (Punct p); taken = k }) l.taken
 
-single_at : (c : ℕ) (cs : List ℕ) (p : Punctuator) → punct_of (c ∷ []) ≡ Some p → begins_with (continues_punct c) cs ≡ false
-    → word_at (c ∷ cs) ≡ record { value = Ok (Punct p); taken = 1 }
-single_at c [] p one h = longest_word c [] 1 p (first_of c [] p one) (and_right (is_point c) false refl) (one_at_end c p one)
-single_at c (d ∷ cs) p one h =
+single_at : (rules : Rules) (c : ℕ) (cs : List ℕ) (p : Punctuator) → punct_of (c ∷ []) ≡ Some p → begins_with (continues_punct c) cs ≡ false
+    → word_at rules (c ∷ cs) ≡ record { value = Ok (Punct p); taken = 1 }
+single_at rules c [] p one h = longest_word rules c [] 1 p (first_of c [] p one) (and_right (is_point c) false refl) (one_at_end c p one)
+single_at rules c (d ∷ cs) p one h =
     let a = or_parts (is_some (punct_of (c ∷ d ∷ []))) _ h in
-    longest_word c (d ∷ cs) 1 p (first_of c [] p one) (or_parts (is_point c && is_decimal d) (begins_comment c d) a.1).0
+    longest_word rules c (d ∷ cs) 1 p (first_of c [] p one) (or_parts (is_point c && is_decimal d) (begins_comment c d) a.1).0
     (one_alone c p one d cs (nothing_of (punct_of (c ∷ d ∷ [])) a.0))
 
 -- the front of a longer one is a punctuator too
@@ -113,21 +114,21 @@ one_of c d q h = by (punct_of (c ∷ [])) refl (is_punctuator-closed (c ∷ d �
 second_no_decimal : (c d : ℕ) (ds : List ℕ) (q : Punctuator) → punct_of (c ∷ d ∷ ds) ≡ Some q → is_decimal d ≡ false
 second_no_decimal c d ds q h = grind (arith, and_parts, passes_of)
 
-pair_at : (c d : ℕ) (cs : List ℕ) (q : Punctuator) → punct_of (c ∷ d ∷ []) ≡ Some q → begins_with (continues_pair c d) cs ≡ false
-    → word_at (c ∷ d ∷ cs) ≡ record { value = Ok (Punct q); taken = 2 }
-pair_at c d cs q two h =
+pair_at : (rules : Rules) (c d : ℕ) (cs : List ℕ) (q : Punctuator) → punct_of (c ∷ d ∷ []) ≡ Some q → begins_with (continues_pair c d) cs ≡ false
+    → word_at rules (c ∷ d ∷ cs) ≡ record { value = Ok (Punct q); taken = 2 }
+pair_at rules c d cs q two h =
     let one = one_of c d q two in
-    longest_word c (d ∷ cs) 2 q (first_of c (d ∷ []) q two) (and_right (is_point c) (is_decimal d) (second_no_decimal c d [] q two)) (by cs h one.0 one.1)
+    longest_word rules c (d ∷ cs) 2 q (first_of c (d ∷ []) q two) (and_right (is_point c) (is_decimal d) (second_no_decimal c d [] q two)) (by cs h one.0 one.1)
   where
     by : (cs : List ℕ) → begins_with (continues_pair c d) cs ≡ false → (p : Punctuator) → punct_of (c ∷ []) ≡ Some p → IsLongest (c ∷ d ∷ cs) 2 (Some q)
     by [] h p one = two_at_end c p one d q two
     by (e ∷ cs) h p one = two_alone c p one d q two e cs (nothing_of (punct_of (c ∷ d ∷ e ∷ [])) h)
 
-triple_at : (c d e : ℕ) (cs : List ℕ) (q x : Punctuator) → punct_of (c ∷ d ∷ []) ≡ Some q → punct_of (c ∷ d ∷ e ∷ []) ≡ Some x
-    → word_at (c ∷ d ∷ e ∷ cs) ≡ record { value = Ok (Punct x); taken = 3 }
-triple_at c d e cs q x two three =
+triple_at : (rules : Rules) (c d e : ℕ) (cs : List ℕ) (q x : Punctuator) → punct_of (c ∷ d ∷ []) ≡ Some q → punct_of (c ∷ d ∷ e ∷ []) ≡ Some x
+    → word_at rules (c ∷ d ∷ e ∷ cs) ≡ record { value = Ok (Punct x); taken = 3 }
+triple_at rules c d e cs q x two three =
     let one = one_of c d q two in
-    longest_word c (d ∷ e ∷ cs) 3 x (first_of c (d ∷ []) q two) (and_right (is_point c) (is_decimal d) (second_no_decimal c d [] q two))
+    longest_word rules c (d ∷ e ∷ cs) 3 x (first_of c (d ∷ []) q two) (and_right (is_point c) (is_decimal d) (second_no_decimal c d [] q two))
     (three_of c one.0 one.1 d q two e cs x three)
 
 -- the front of a text
@@ -173,8 +174,8 @@ plain_small c h = (plain_parts c h).small
 
 -- Hash
 
-hash_at : (cs : List ℕ) → word_at (35 ∷ cs) ≡ record { value = Ok Hash; taken = 1 }
-hash_at cs = grind (arith, is_xid_start-ascii, other_first, at_hash)
+hash_at : (rules : Rules) (cs : List ℕ) → word_at rules (35 ∷ cs) ≡ record { value = Ok Hash; taken = 1 }
+hash_at rules cs = grind (arith, is_xid_start-ascii, other_first, at_hash)
 
 pub hash_word : (text : List ℕ) → IsUtf8 text → 0 < length text → get_or text 0 0 ≡ 35 → IsPlainWord text Hash 1
 hash_word [] u some h = absurd (omega arith)
@@ -184,8 +185,8 @@ hash_word (c ∷ text) u some h =
     word_always (c ∷ text) 1 Hash (omega arith) (omega arith)
     (IsCharBoundary-after_ascii (c ∷ text) 0 u some (omega (arith, h))) (plain_ascii (take 1 (c ∷ text)) plain)
     (front_plain 1 (c ∷ text) u (omega arith) plain) (ap is_blank h) refl
-    (λ line at. ap (λ t. word_at (t ++ letters (spots_from line at (drop 1 (c ∷ text))))) (one ∙ ap (λ b. b ∷ []) h)
-    ∙ hash_at (letters (spots_from line at (drop 1 (c ∷ text)))))
+    (λ rules line at. ap (λ t. word_at rules (t ++ letters (spots_from line at (drop 1 (c ∷ text))))) (one ∙ ap (λ b. b ∷ []) h)
+    ∙ hash_at rules (letters (spots_from line at (drop 1 (c ∷ text)))))
 
 -- One character
 
@@ -210,7 +211,7 @@ single_word (c ∷ text) p u some h stops =
     (omega arith) stops (Punct p)
     (IsCharBoundary-after_ascii (c ∷ text) 0 u some f.small) (subst IsAscii (sym one) (IsAscii-cons c [] f.small no_more_ascii))
     (single_front c text u (passes_of c [] p h) stops) f.no_blank refl
-    (λ cs k. ap (λ t. word_at (t ++ cs)) one ∙ single_at c cs p h k)
+    (λ rules cs k. ap (λ t. word_at rules (t ++ cs)) one ∙ single_at rules c cs p h k)
 
 -- one that begins no other, whatever follows
 
@@ -251,9 +252,9 @@ lone_word (c ∷ text) p u some h lone =
     word_always (c ∷ text) 1 (Punct p) (omega arith) (omega arith)
     (IsCharBoundary-after_ascii (c ∷ text) 0 u some f.small) (plain_ascii (take 1 (c ∷ text)) plain)
     (front_plain 1 (c ∷ text) u (omega arith) plain) f.no_blank refl
-    (λ line at.
+    (λ rules line at.
     let more = letters (spots_from line at (drop 1 (c ∷ text))) in
-    ap (λ t. word_at (t ++ more)) one ∙ single_at c more p h (lone_before c more l))
+    ap (λ t. word_at rules (t ++ more)) one ∙ single_at rules c more p h (lone_before c more l))
 
 -- Two and three
 
@@ -295,7 +296,7 @@ pair_word (c ∷ d ∷ text) q u some h stops =
     (IsCharBoundary-after_ascii (c ∷ d ∷ text) 1 u some (plain_small d s.second))
     (subst IsAscii (sym two) (IsAscii-cons c (d ∷ []) f.small (IsAscii-cons d [] (plain_small d s.second) no_more_ascii)))
     (long_front c d 0 text u (omega arith) s.first s.second (ap (list_all is_plain) (take_none text))) f.no_blank refl
-    (λ cs k. ap (λ t. word_at (t ++ cs)) two ∙ pair_at c d cs q h k)
+    (λ rules cs k. ap (λ t. word_at rules (t ++ cs)) two ∙ pair_at rules c d cs q h k)
   where
     take_none : (xs : List ℕ) → take 0 xs ≡ []
     take_none [] = refl
@@ -315,8 +316,8 @@ triple_word (c ∷ d ∷ e ∷ text) q x u some h k =
     (subst IsAscii (sym three) (IsAscii-cons c (d ∷ e ∷ []) f.small
     (IsAscii-cons d (e ∷ []) (plain_small d s.second) (IsAscii-cons e [] (plain_small e last) no_more_ascii))))
     (long_front c d 1 (e ∷ text) u (omega arith) s.first s.second (ap (list_all is_plain) (take_one e text) ∙ ap (λ t. t && true) last)) f.no_blank refl
-    (λ line at. ap (λ t. word_at (t ++ letters (spots_from line at (drop 3 (c ∷ d ∷ e ∷ text))))) three
-    ∙ triple_at c d e (letters (spots_from line at (drop 3 (c ∷ d ∷ e ∷ text)))) q x h k)
+    (λ rules line at. ap (λ t. word_at rules (t ++ letters (spots_from line at (drop 3 (c ∷ d ∷ e ∷ text))))) three
+    ∙ triple_at rules c d e (letters (spots_from line at (drop 3 (c ∷ d ∷ e ∷ text)))) q x h k)
 
 -- What the code's tables hold
 

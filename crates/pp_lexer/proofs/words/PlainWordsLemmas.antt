@@ -8,6 +8,7 @@ use Rattle.std.proofs.lemmas.List.{length-take-le}
 use Rattle.std.proofs.lemmas.Str.{IsUtf8-drop}
 use Rattle.unicode_ident.specs.Ident.{is_xid_continue}
 use Rattle.unicode_ident.proofs.IdentLemmas.{is_xid_start-ascii, is_xid_continue-ascii}
+use Rattle.pp_lexer.specs.declared.rules.Rules.{Rules}
 use Rattle.pp_lexer.specs.declared.lexer.item.TokenValue.{TokenValue}
 use Rattle.pp_lexer.specs.declared.lexer.item.TokenValue.TheVariants.{Ident}
 use Rattle.pp_lexer.specs.inner.Fronts.{spots_from, is_plain}
@@ -24,7 +25,7 @@ use Rattle.pp_lexer.proofs.words.WordAtLemmas.{identifier_first}
 -- a word at the front of each text that begins so
 pub word_always : (text : List ℕ) (n : ℕ) (value : TokenValue) → 0 < n → n ≤ length text → IsCharBoundary text n → IsAscii (take n text)
     → IsFront text n → is_blank (get_or text 0 0) ≡ false → is_newline_value value ≡ false
-    → ((line at : ℕ) → word_at (take n text ++ letters (spots_from line at (drop n text))) ≡ record { value = Ok value; taken = n }) → IsPlainWord text value n
+    → ((rules : Rules) (line at : ℕ) → word_at rules (take n text ++ letters (spots_from line at (drop n text))) ≡ record { value = Ok value; taken = n }) → IsPlainWord text value n
 word_always text n value some le cut ascii front blank newline word = grind (arith, letters-run)
 
 -- a word that ends before each character which fails
@@ -35,13 +36,13 @@ module _ (P : ℕ → Bool) (feed : P 10 ≡ false) (mark : P 13 ≡ false) (tex
 
   pub word_before : (value : TokenValue) → IsCharBoundary text n → IsAscii (take n text) → IsFront text n → is_blank (get_or text 0 0) ≡ false
       → is_newline_value value ≡ false
-      → ((cs : List ℕ) → begins_with P cs ≡ false → word_at (take n text ++ cs) ≡ record { value = Ok value; taken = n }) → IsPlainWord text value n
+      → ((rules : Rules) (cs : List ℕ) → begins_with P cs ≡ false → word_at rules (take n text ++ cs) ≡ record { value = Ok value; taken = n }) → IsPlainWord text value n
   word_before value cut ascii front blank newline word =
-      word_always text n value some le cut ascii front blank newline (λ line at. word (letters (spots_from line at (drop n text))) (ends_there line at cut))
+      word_always text n value some le cut ascii front blank newline (λ rules line at. word rules (letters (spots_from line at (drop n text))) (ends_there line at cut))
 
   -- one whose bytes no phase looks at
   pub plain_before : (value : TokenValue) → list_all is_plain (take n text) ≡ true → is_blank (get_or text 0 0) ≡ false → is_newline_value value ≡ false
-      → ((cs : List ℕ) → begins_with P cs ≡ false → word_at (take n text ++ cs) ≡ record { value = Ok value; taken = n }) → IsPlainWord text value n
+      → ((rules : Rules) (cs : List ℕ) → begins_with P cs ≡ false → word_at rules (take n text ++ cs) ≡ record { value = Ok value; taken = n }) → IsPlainWord text value n
   plain_before value plain =
       word_before value (cut_after_plain n text u some le plain) (plain_ascii (take n text) plain) (front_plain n text u le plain)
 
@@ -67,14 +68,14 @@ all_continue (c ∷ w) h =
     ap (λ t. t && list_all is_xid_continue w) k ∙ all_continue w b.1
 
 -- an identifier and what does not continue it
-identifier_at : (c : ℕ) (w cs : List ℕ) → begins c ≡ true → list_all continues w ≡ true → begins_with is_xid_continue cs ≡ false
-    → word_at ((c ∷ w) ++ cs) ≡ record { value = Ok (Ident (c ∷ w)); taken = suc (length w) }
-identifier_at c w cs b h k = grind (arith, begins_start, longest_identifier, front_len-append, all_continue, identifier_first, take_seam)
+identifier_at : (rules : Rules) (c : ℕ) (w cs : List ℕ) → begins c ≡ true → list_all continues w ≡ true → begins_with is_xid_continue cs ≡ false
+    → word_at rules ((c ∷ w) ++ cs) ≡ record { value = Ok (Ident (c ∷ w)); taken = suc (length w) }
+identifier_at rules c w cs b h k = grind (arith, begins_start, longest_identifier, front_len-append, all_continue, identifier_first, take_seam)
 
-identifier_of : (c : ℕ) (w v cs : List ℕ) (n : ℕ) → v ≡ c ∷ w → length v ≡ n → begins c ≡ true → list_all continues v ≡ true
+identifier_of : (rules : Rules) (c : ℕ) (w v cs : List ℕ) (n : ℕ) → v ≡ c ∷ w → length v ≡ n → begins c ≡ true → list_all continues v ≡ true
     → begins_with is_xid_continue cs ≡ false
-    → word_at (v ++ cs) ≡ record { value = Ok (Ident v); taken = n }
-identifier_of c w v cs n e l b h k = grind (arith, identifier_at)
+    → word_at rules (v ++ cs) ≡ record { value = Ok (Ident v); taken = n }
+identifier_of rules c w v cs n e l b h k = grind (arith, identifier_at)
 
 -- an identifier has a character
 continued_some : (n : ℕ) (text : List ℕ) → 0 < length text → begins (get_or text 0 0) ≡ true → (n < length text → continues (get_or text n 0) ≡ false) → 0 < n
@@ -90,4 +91,4 @@ plain_identifier text n u le some b passes stops ends =
     plain_before is_xid_continue (is_xid_continue-ascii 10 (omega arith)) (is_xid_continue-ascii 13 (omega arith)) text n u more le stopped
     (Ident (take n text))
     (all_plain continues continues_plain (take n text) passes) (begins_no_blank (get_or text 0 0) b) refl
-    (λ cs k. identifier_of (get_or text 0 0) (drop 1 (take n text)) (take n text) cs n (front_of n text more some) (length-take-le n text le) b passes k)
+    (λ rules cs k. identifier_of rules (get_or text 0 0) (drop 1 (take n text)) (take n text) cs n (front_of n text more some) (length-take-le n text le) b passes k)

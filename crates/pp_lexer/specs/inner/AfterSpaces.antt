@@ -1,6 +1,7 @@
 -- What is left after spaces that weren't passed.
 use Rattle.std.specs.Prelude.{◌≡◌, ℕ, Bool, ◌||◌, List}
 use Rattle.pp_lexer.specs.declared.lexer.Flags.{Flags}
+use Rattle.pp_lexer.specs.declared.rules.Rules.{Rules}
 use Rattle.pp_lexer.specs.Reading.{Reading}
 use Rattle.pp_lexer.specs.inner.Fronts.{IsLeft}
 use Rattle.pp_lexer.specs.inner.Passing.{seen_of, comments_at_end, places_left}
@@ -17,6 +18,8 @@ after_spaces spaced f = record {
 pub record IsAfterSpaces (line at : ℕ) (text : List ℕ) (spaced : Bool) (r : Reading) : Type 0 where
   pub there : Reading
   pub left : IsLeft line at text there.rest
-  pub seen : (f : Flags) → seen_of (after_spaces spaced f) there ≡ seen_of f r
-  pub at_end : (f : Flags) → comments_at_end (after_spaces spaced f) there ≡ comments_at_end f r
-  pub places : (f : Flags) → places_left (after_spaces spaced f) there ≡ places_left f r
+  pub seen : (rules : Rules) (f : Flags) → seen_of rules (after_spaces spaced f) there ≡ seen_of rules f r
+  pub at_end : (rules : Rules) (f : Flags)
+      → comments_at_end rules (after_spaces spaced f) there ≡ comments_at_end rules f r
+  pub places : (rules : Rules) (f : Flags)
+      → places_left rules (after_spaces spaced f) there ≡ places_left rules f r

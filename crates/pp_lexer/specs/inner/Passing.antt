@@ -9,6 +9,7 @@ use Rattle.pp_lexer.specs.declared.lexer.item.TokenValue.TheVariants.{NewLine}
 use Rattle.pp_lexer.specs.declared.lexer.char_iterator.Spot.{Spot}
 use Rattle.pp_lexer.specs.declared.lexer.Flags.{Flags}
 use Rattle.pp_lexer.specs.declared.lexer.LexerState.{LexerState}
+use Rattle.pp_lexer.specs.declared.rules.Rules.{Rules}
 use Rattle.pp_lexer.specs.declared.token.Location.{Location}
 use Rattle.pp_lexer.specs.Location.{nowhere}
 use Rattle.pp_lexer.specs.Reading.{Reading}
@@ -64,12 +65,12 @@ seen_from f last [] = newline_seen f last
 seen_from f last (g ∷ gs) = item_seen f g g.kind ++ seen_from (passed f g.kind) g.last gs
 
 -- the items to come
-abbrev pub seen_of : Flags → Reading → List Seen
-seen_of f r = seen_from f r.last (segments r.rest)
+abbrev pub seen_of : Rules → Flags → Reading → List Seen
+seen_of rules f r = seen_from f r.last (segments rules r.rest)
 
 -- whether comments will have been passed at the end
-abbrev pub comments_at_end : Flags → Reading → Bool
-comments_at_end f r = f.had_comments || list_any (λ g. is_comment g.kind) (segments r.rest)
+abbrev pub comments_at_end : Rules → Flags → Reading → Bool
+comments_at_end rules f r = f.had_comments || list_any (λ g. is_comment g.kind) (segments rules r.rest)
 
 abbrev pub newline_places : Flags → Spot → List Location
 newline_places f last = if f.start_of_line then [] else place_after last ∷ []
@@ -80,51 +81,54 @@ places_from f last [] = newline_places f last
 places_from f last (g ∷ gs) = places_at g g.kind ++ places_from (passed f g.kind) g.last gs
 
 -- the places of the items to come
-abbrev pub places_left : Flags → Reading → List Location
-places_left f r = places_from f r.last (segments r.rest)
+abbrev pub places_left : Rules → Flags → Reading → List Location
+places_left rules f r = places_from f r.last (segments rules r.rest)
 
 -- a lexer in the midst of a text
-abbrev pub lexed : Flags → Reading → Location → Bool → Lexed
-lexed f r place spent = record {
-  rest = seen_of f r;
+abbrev pub lexed : Rules → Flags → Reading → Location → Bool → Lexed
+lexed rules f r place spent = record {
+  rest = seen_of rules f r;
   had_comments = f.had_comments;
-  at_end = comments_at_end f r;
+  at_end = comments_at_end rules f r;
   spent = spent;
   place = place;
-  places = places_left f r;
+  places = places_left rules f r;
+  rules = rules;
 }
 
--- the same items are to come, and none was taken
+-- the same items are to come by any rules, and none was taken
 pub record SeesSame (old new : LexerState) : Type 0 where
-  pub items : seen_of new.flags new.inner ≡ seen_of old.flags old.inner
-  pub at_end : comments_at_end new.flags new.inner ≡ comments_at_end old.flags old.inner
-  pub places : places_left new.flags new.inner ≡ places_left old.flags old.inner
+  pub items : (rules : Rules) → seen_of rules new.flags new.inner ≡ seen_of rules old.flags old.inner
+  pub at_end : (rules : Rules) → comments_at_end rules new.flags new.inner ≡ comments_at_end rules old.flags old.inner
+  pub places : (rules : Rules) → places_left rules new.flags new.inner ≡ places_left rules old.flags old.inner
   pub place : new.place ≡ old.place
 
 -- the place of the first item was noted, or the end was met
-pub record IsPlaced (f : Flags) (r : Reading) (old : Location) (g : Flags) (q : Reading) (new : Location) : Type 0 where
-  pub place : new ≡ first_place (places_left f r) old
-  pub rest : places_left g q ≡ places_after_first (places_left f r)
+pub record IsPlaced (rules : Rules) (f : Flags) (r : Reading) (old : Location) (g : Flags) (q : Reading)
+    (new : Location) : Type 0 where
+  pub place : new ≡ first_place (places_left rules f r) old
+  pub rest : places_left rules g q ≡ places_after_first (places_left rules f r)
 
 -- the first item needs memory, and it ran out
-pub record IsLexRefused (f : Flags) (r : Reading) (g : Flags)
+pub record IsLexRefused (rules : Rules) (f : Flags) (r : Reading) (g : Flags)
     (answer : Result (Option Lexeme) AllocError) : Type 0 where
   pub value : IsErr answer
-  pub needed : IsTrue (first_takes_memory (seen_of f r))
-  pub comments : g.had_comments ≡ comments_before (seen_of f r) (comments_at_end f r)
+  pub needed : IsTrue (first_takes_memory (seen_of rules f r))
+  pub comments : g.had_comments ≡ comments_before (seen_of rules f r) (comments_at_end rules f r)
 
 -- the first item was taken, or the end was met
-pub record IsLexTaken (f : Flags) (r : Reading) (g : Flags) (q : Reading)
+pub record IsLexTaken (rules : Rules) (f : Flags) (r : Reading) (g : Flags) (q : Reading)
     (answer : Result (Option Lexeme) AllocError) : Type 0 where
-  pub value : answer ≡ Ok (first_item (seen_of f r))
-  pub rest : seen_of g q ≡ after_first_item (seen_of f r)
-  pub comments : g.had_comments ≡ comments_before (seen_of f r) (comments_at_end f r)
-  pub at_end : comments_at_end g q ≡ comments_at_end f r
+  pub value : answer ≡ Ok (first_item (seen_of rules f r))
+  pub rest : seen_of rules g q ≡ after_first_item (seen_of rules f r)
+  pub comments : g.had_comments ≡ comments_before (seen_of rules f r) (comments_at_end rules f r)
+  pub at_end : comments_at_end rules g q ≡ comments_at_end rules f r
 
-abbrev pub IsLexed : Flags → Reading → Result (Option Lexeme) AllocError → Flags → Reading → Type 0
-IsLexed f r answer g q = IsLexRefused f r g answer ⊎ IsLexTaken f r g q answer
+abbrev pub IsLexed : Rules → Flags → Reading → Result (Option Lexeme) AllocError → Flags → Reading → Type 0
+IsLexed rules f r answer g q = IsLexRefused rules f r g answer ⊎ IsLexTaken rules f r g q answer
 
 -- the first item was read with its place, or the end was met
-pub record IsRead (old : LexerState) (answer : Result (Option Lexeme) AllocError) (new : LexerState) : Type 0 where
-  pub lexed : IsLexed old.flags old.inner answer new.flags new.inner
-  pub placed : OnOk answer (IsPlaced old.flags old.inner old.place new.flags new.inner new.place)
+pub record IsRead (rules : Rules) (old : LexerState) (answer : Result (Option Lexeme) AllocError)
+    (new : LexerState) : Type 0 where
+  pub lexed : IsLexed rules old.flags old.inner answer new.flags new.inner
+  pub placed : OnOk answer (IsPlaced rules old.flags old.inner old.place new.flags new.inner new.place)

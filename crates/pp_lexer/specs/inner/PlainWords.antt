@@ -14,6 +14,7 @@ use Rattle.pp_lexer.specs.declared.token.Punct.TheVariants.{Colon, Dot, Equal, B
 use Rattle.pp_lexer.specs.declared.token.Punct.TheVariants.{Percent, Pipe, Caret, Ampersand, Question}
 use Rattle.pp_lexer.specs.declared.lexer.item.TokenValue.{TokenValue}
 use Rattle.pp_lexer.specs.declared.lexer.plain.Word.{Word}
+use Rattle.pp_lexer.specs.declared.rules.Rules.{Rules}
 use Rattle.pp_lexer.specs.declared.lexer.plain.comment.Comment.{Comment}
 use Rattle.pp_lexer.specs.inner.Fronts.{spots_from, run}
 use Rattle.pp_lexer.specs.Items.{is_newline}
@@ -130,7 +131,7 @@ IsFront text n =
 abbrev pub is_newline_value : TokenValue → Bool
 is_newline_value value = is_newline (item (Ok value))
 
--- the text begins with a word of this value, which takes this many bytes, wherever in a source the text is
+-- the text begins with a word of this value by any rules, which takes this many bytes, wherever in a source the text is
 pub record IsPlainWord (text : List ℕ) (value : TokenValue) (taken : ℕ) : Type 0 where
   pub some : 0 < taken
   pub within : taken ≤ length text
@@ -139,8 +140,8 @@ pub record IsPlainWord (text : List ℕ) (value : TokenValue) (taken : ℕ) : Ty
   pub front : IsFront text taken
   pub no_blank : is_blank (slice_index text 0) ≡ false
   pub no_newline : is_newline_value value ≡ false
-  pub word : (line at : ℕ)
-      → word_at (letters (spots_from line at text)) ≡ record { value = Ok value; taken = taken }
+  pub word : (rules : Rules) (line at : ℕ)
+      → word_at rules (letters (spots_from line at text)) ≡ record { value = Ok value; taken = taken }
 
 abbrev pub IsFirstWord : List ℕ → Word → Type 0
 IsFirstWord text w = IsPlainWord text (value_of w.form (take w.taken text)) w.taken

@@ -1,8 +1,9 @@
 //! Looks at the next characters without taking them.
 
-ghost use Rattle.std.specs.Prelude.{◌≡◌, ◌==◌, ◌||◌};
+ghost use Rattle.std.specs.Prelude.{◌≡◌, ◌==◌, ◌||◌, [], ◌∷◌};
 ghost use Rattle.pp_lexer.specs.Identifiers.{begins_identifier};
 ghost use Rattle.pp_lexer.specs.Numbers.{is_decimal, begins_number};
+ghost use Rattle.pp_lexer.specs.NumberValue.{begins_as};
 ghost use Rattle.pp_lexer.specs.Reading.{letters};
 ghost use Rattle.pp_lexer.specs.Surroundings.{begins_with};
 
@@ -30,6 +31,19 @@ pub fn is_either_next(inner: &mut LexerCharIterator<'_>, first: char, second: ch
         Some(c) => c == first || c == second,
         None => false,
     }
+}
+
+// Whether these two are next.
+pub fn is_pair_next(inner: &mut LexerCharIterator<'_>, first: char, second: char) -> bool
+    ensures test { result ≡ begins_as (first ∷ second ∷ []) (letters inner.old.rest) }
+    ensures same { inner.new ≡ inner.old }
+{
+    if !is_next(inner, first) {
+        return false;
+    }
+    let mut after = inner.twin();
+    after.next_char();
+    is_next(&mut after, second)
 }
 
 // Whether a digit is next.

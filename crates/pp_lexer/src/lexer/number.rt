@@ -1,8 +1,9 @@
 //! Numbers: the longest one at the front of the characters, and its value.
 
-ghost use Rattle.std.specs.Prelude.{◌≡◌, ◌==◌, ◌||◌, if◌then◌else◌, IsTrue};
-ghost use Rattle.pp_lexer.specs.NumberValue.{width_refusal, float_outcome, integer_outcome, number_at};
-ghost use Rattle.pp_lexer.specs.inner.NumberValue.{float_suffix_len, unsigned_suffix_len};
+ghost use Rattle.std.specs.Prelude.{◌≡◌, ◌==◌, ◌||◌, IsTrue};
+ghost use Rattle.pp_lexer.specs.NumberValue.{width_refusal, suffix_of, usual_suffix, width_of_float, float_suffix};
+ghost use Rattle.pp_lexer.specs.NumberValue.{width_of_integer, integer_suffix};
+ghost use Rattle.pp_lexer.specs.NumberValue.{float_outcome, integer_outcome, number_at};
 ghost use Rattle.pp_lexer.specs.Outcome.{IsGiven};
 ghost use Rattle.pp_lexer.specs.Numbers.{begins_number};
 ghost use Rattle.pp_lexer.specs.Reading.{letters, advanced};
@@ -10,7 +11,8 @@ ghost use Rattle.pp_lexer.specs.Surroundings.{begins_with};
 
 use crate::lexer::char_iterator::LexerCharIterator;
 use crate::lexer::item::TokenValue;
-use crate::lexer::look_ahead::is_either_next;
+use crate::lexer::look_ahead::{is_either_next, is_pair_next};
+use crate::rules::Rules;
 use crate::token::PreprocessorError;
 use scan::take_number;
 use spelling::Spelling;
@@ -21,29 +23,111 @@ mod scan;
 mod spelling;
 mod value;
 
-// Takes the suffix letter if it is one of the two, and returns whether it did.
-fn take_suffix(first: char, second: char, inner: &mut LexerCharIterator<'_>) -> bool
-    ensures test { result ≡ begins_with (λ c. (c == first) || (c == second))
-        (letters inner.old.rest) }
-    ensures state { inner.new ≡ advanced (if result then 1 else 0) inner.old }
-{
-    let found = is_either_next(inner, first, second);
-    if found {
-        inner.next_char();
-    }
-    found
+// A suffix: how many characters it takes, and the width that it says.
+#[derive(Clone, Copy)]
+struct Suffix {
+    taken: u32,
+    width: i32,
 }
 
-// The error of a suffix letter for an unsupported width: `l` for 64 bits, and these two for 16.
+// The suffix of this many characters that says this width.
+fn suffix_of(taken: u32, width: i32) -> Suffix
+    ensures { result ≡ suffix_of taken width }
+{
+    Suffix { taken, width }
+}
+
+// The suffix of 32 bits: one of the two letters if it is here, and none otherwise.
+fn usual_suffix(first: char, second: char, inner: &mut LexerCharIterator<'_>) -> Suffix
+    ensures value { result ≡ usual_suffix (λ c. (c == first) || (c == second))
+        (letters inner.old.rest) }
+    ensures same { inner.new ≡ inner.old }
+{
+    if is_either_next(inner, first, second) {
+        return suffix_of(1, 32);
+    }
+    suffix_of(0, 32)
+}
+
+// The suffix here that a float may have if widths are taken.
+fn width_of_float(inner: &mut LexerCharIterator<'_>) -> Suffix
+    ensures value { result ≡ width_of_float (letters inner.old.rest) }
+    ensures same { inner.new ≡ inner.old }
+{
+    if is_pair_next(inner, 'l', 'f') || is_pair_next(inner, 'L', 'F') {
+        return suffix_of(2, 64);
+    }
+    if is_pair_next(inner, 'h', 'f') || is_pair_next(inner, 'H', 'F') {
+        return suffix_of(2, 16);
+    }
+    usual_suffix('f', 'F', inner)
+}
+
+// The suffix here that an integer may have if widths are taken.
+fn width_of_integer(inner: &mut LexerCharIterator<'_>) -> Suffix
+    ensures value { result ≡ width_of_integer (letters inner.old.rest) }
+    ensures same { inner.new ≡ inner.old }
+{
+    if is_either_next(inner, 'l', 'L') {
+        return suffix_of(1, 64);
+    }
+    if is_pair_next(inner, 'u', 'l') || is_pair_next(inner, 'U', 'L') {
+        return suffix_of(2, 64);
+    }
+    if is_either_next(inner, 's', 'S') {
+        return suffix_of(1, 16);
+    }
+    if is_pair_next(inner, 'u', 's') || is_pair_next(inner, 'U', 'S') {
+        return suffix_of(2, 16);
+    }
+    usual_suffix('u', 'U', inner)
+}
+
+// The suffix of a float by these rules.
+fn float_suffix(rules: Rules, inner: &mut LexerCharIterator<'_>) -> Suffix
+    ensures value { result ≡ float_suffix rules (letters inner.old.rest) }
+    ensures same { inner.new ≡ inner.old }
+{
+    if rules.takes_widths {
+        return width_of_float(inner);
+    }
+    usual_suffix('f', 'F', inner)
+}
+
+// The suffix of an integer by these rules.
+fn integer_suffix(rules: Rules, inner: &mut LexerCharIterator<'_>) -> Suffix
+    ensures value { result ≡ integer_suffix rules (letters inner.old.rest) }
+    ensures same { inner.new ≡ inner.old }
+{
+    if rules.takes_widths {
+        return width_of_integer(inner);
+    }
+    usual_suffix('u', 'U', inner)
+}
+
+// Takes so many characters.
+fn skip(count: u32, inner: &mut LexerCharIterator<'_>)
+    ensures { inner.new ≡ advanced count inner.old }
+{
+    for i in 0..count {
+        inner.next_char();
+    }
+}
+
+// The error of a suffix letter for a width that the rules don't take: `l` for 64 bits, and these two for 16.
 fn find_width_refusal(
+    rules: Rules,
     first: char,
     second: char,
     inner: &mut LexerCharIterator<'_>,
 ) -> Option<PreprocessorError>
-    ensures value { result ≡ width_refusal
+    ensures value { result ≡ width_refusal rules
         (λ c. (c == first) || (c == second)) (letters inner.old.rest) }
     ensures same { inner.new ≡ inner.old }
 {
+    if rules.takes_widths {
+        return None;
+    }
     if is_either_next(inner, 'l', 'L') {
         return Some(PreprocessorError::NotSupported64BitLiteral);
     }
@@ -55,38 +139,46 @@ fn find_width_refusal(
 
 fn finish_float(
     alloc: Global,
+    rules: Rules,
     word: &Spelling<'_>,
     inner: &mut LexerCharIterator<'_>,
 ) -> Result<Result<TokenValue, PreprocessorError>, AllocError>
-    ensures value { IsGiven result (float_outcome word.now (letters inner.old.rest)).value }
-    ensures state { inner.new ≡ advanced (float_suffix_len (letters inner.old.rest)) inner.old }
+    ensures value { IsGiven result
+        (float_outcome rules word.now (letters inner.old.rest)).value }
+    ensures state { inner.new
+        ≡ advanced (float_suffix rules (letters inner.old.rest)).taken inner.old }
 {
-    let refusal = find_width_refusal('h', 'H', inner);
-    take_suffix('f', 'F', inner);
+    let refusal = find_width_refusal(rules, 'h', 'H', inner);
+    let suffix = float_suffix(rules, inner);
+    skip(suffix.taken, inner);
     if let Some(fault) = refusal {
         return Ok(Err(fault));
     }
-    read_float(alloc, word)
+    read_float(alloc, suffix.width, word)
 }
 
 fn finish_integer(
+    rules: Rules,
     word: &Spelling<'_>,
     inner: &mut LexerCharIterator<'_>,
 ) -> Result<TokenValue, PreprocessorError>
-    ensures value { result ≡ (integer_outcome word.now (letters inner.old.rest)).value }
-    ensures state { inner.new ≡ advanced (unsigned_suffix_len (letters inner.old.rest)) inner.old }
+    ensures value { result ≡ (integer_outcome rules word.now (letters inner.old.rest)).value }
+    ensures state { inner.new
+        ≡ advanced (integer_suffix rules (letters inner.old.rest)).taken inner.old }
 {
-    let unsigned = take_suffix('u', 'U', inner);
-    if let Some(fault) = find_width_refusal('s', 'S', inner) {
+    let unsigned = is_either_next(inner, 'u', 'U');
+    let suffix = integer_suffix(rules, inner);
+    skip(suffix.taken, inner);
+    if let Some(fault) = find_width_refusal(rules, 's', 'S', inner) {
         return Err(fault);
     }
-    read_integer(!unsigned, word)
+    read_integer(!unsigned, suffix.width, word)
 }
 
 /// Takes the longest number here and its suffix. The outer error is that a float's text could not be allocated, and
 /// comes only in place of that float. The inner errors take as much of the text as the number:
 ///
-/// - [`PreprocessorError::NotSupported64BitLiteral`] if an `l` follows the number, and
+/// - by pp-rs's rules [`PreprocessorError::NotSupported64BitLiteral`] if an `l` follows the number, and
 ///   [`PreprocessorError::NotSupported16BitLiteral`] if an `s` follows an integer or an `h` a float; these two come
 ///   before the next two;
 /// - [`PreprocessorError::IntegerOverflow`] if an integer has no digit or one outside of its base, or is above
@@ -94,17 +186,19 @@ fn finish_integer(
 /// - [`PreprocessorError::FloatParsingError`] if a float's text has no digit where it needs one.
 pub fn parse_number(
     alloc: Global,
+    rules: Rules,
     inner: &mut LexerCharIterator<'_>,
 ) -> Result<Result<TokenValue, PreprocessorError>, AllocError>
     requires { IsTrue (begins_number (letters inner.old.rest)) }
-    ensures value { IsGiven result (number_at (letters inner.old.rest)).value }
-    ensures state { inner.new ≡ advanced (number_at (letters inner.old.rest)).taken inner.old }
+    ensures value { IsGiven result (number_at rules (letters inner.old.rest)).value }
+    ensures state { inner.new ≡ advanced (number_at rules (letters inner.old.rest)).taken
+        inner.old }
 {
     let start = inner.twin();
     let length = take_number(inner);
     let word = Spelling::new(&start, length);
     if is_float(&word) {
-        return finish_float(alloc, &word, inner);
+        return finish_float(alloc, rules, &word, inner);
     }
-    Ok(finish_integer(&word, inner))
+    Ok(finish_integer(rules, &word, inner))
 }

@@ -3,12 +3,13 @@
 ghost use Rattle.std.specs.Prelude.{◌≡◌, ◌==◌, ◌&&◌, option_map, take};
 ghost use Rattle.std.specs.List.{find};
 ghost use Rattle.pp_lexer.specs.Longest.{longest};
-ghost use Rattle.pp_lexer.specs.Punctuators.{punct_of, is_punctuator, punctuation_at};
+ghost use Rattle.pp_lexer.specs.Punctuators.{punct_of, is_punctuator, bad_length, punctuation_at};
 ghost use Rattle.pp_lexer.specs.Reading.{letters, advanced};
 
 use crate::lexer::char_iterator::LexerCharIterator;
 use crate::lexer::item::TokenValue;
 use crate::lexer::look_ahead::is_next;
+use crate::rules::Rules;
 use crate::token::{PreprocessorError, Punct};
 
 // The punctuators of one character, of two and of three.
@@ -118,11 +119,27 @@ fn take_punct(inner: &mut LexerCharIterator<'_>) -> Option<Punct>
     Some(three)
 }
 
+// Takes a bad character, and up to two more if the rules say so.
+fn skip_bad_character(rules: Rules, inner: &mut LexerCharIterator<'_>)
+    ensures { inner.new ≡ advanced (bad_length rules) inner.old }
+{
+    inner.next_char();
+    if rules.takes_one_bad_character {
+        return;
+    }
+    inner.next_char();
+    inner.next_char();
+}
+
 /// Takes the longest punctuator or a `#`. Any other character is [`PreprocessorError::UnexpectedCharacter`], which
-/// takes it and up to two more of any kind. It allocates nothing.
-pub fn parse_punctuation(inner: &mut LexerCharIterator<'_>) -> Result<TokenValue, PreprocessorError>
-    ensures value { result ≡ (punctuation_at (letters inner.old.rest)).value }
-    ensures state { inner.new ≡ advanced (punctuation_at (letters inner.old.rest)).taken inner.old }
+/// takes it and, by pp-rs's rules, up to two more of any kind. It allocates nothing.
+pub fn parse_punctuation(
+    rules: Rules,
+    inner: &mut LexerCharIterator<'_>,
+) -> Result<TokenValue, PreprocessorError>
+    ensures value { result ≡ (punctuation_at rules (letters inner.old.rest)).value }
+    ensures state { inner.new
+        ≡ advanced (punctuation_at rules (letters inner.old.rest)).taken inner.old }
 {
     if is_next(inner, '#') {
         inner.next_char();
@@ -131,8 +148,6 @@ pub fn parse_punctuation(inner: &mut LexerCharIterator<'_>) -> Result<TokenValue
     if let Some(punct) = take_punct(inner) {
         return Ok(TokenValue::Punct(punct));
     }
-    inner.next_char();
-    inner.next_char();
-    inner.next_char();
+    skip_bad_character(rules, inner);
     Err(PreprocessorError::UnexpectedCharacter)
 }

@@ -5,9 +5,9 @@ ghost use Rattle.std.specs.Fmt.{WritesOnOk};
 ghost use Rattle.std.specs.Str.{chars, encode_utf8_all};
 ghost use Rattle.pp_lexer.specs.ItemText.{item_text, with_tokens};
 ghost use Rattle.pp_lexer.specs.Punctuators.{punctuator};
-ghost use Rattle.pp_lexer.specs.Spelling.{integer_literal, spelling};
+ghost use Rattle.pp_lexer.specs.Spelling.{width_letters, sign_letter, integer_literal, float_literal, spelling};
 
-use crate::token::{Integer, Punct, Text, Token, TokenValue, Tokens};
+use crate::token::{Float, Integer, Punct, Text, Token, TokenValue, Tokens};
 use std::fmt;
 
 impl Punct {
@@ -81,16 +81,43 @@ impl fmt::Display for Text {
     }
 }
 
-// The digits of an integer, and a `u` if it is unsigned.
+/// The letters of a width: the first ones for 64 bits, the others for 16, and none for the usual 32.
+pub fn width_letters(long: &'static str, short: &'static str, width: i32) -> &'static str
+    ensures { result.now ≡ width_letters long.now short.now width }
+{
+    if width == 64 {
+        return long;
+    }
+    if width == 16 {
+        return short;
+    }
+    ""
+}
+
+/// The letter of an integer's sign: a `u` if it is unsigned.
+pub fn sign_letter(signed: bool) -> &'static str
+    ensures { result.now ≡ sign_letter signed }
+{
+    if signed { "" } else { "u" }
+}
+
+// The digits of an integer, the letter of its sign and that of its width.
 fn write_integer<W: fmt::Write>(integer: Integer, f: &mut fmt::Formatter<W>) -> fmt::Result
     ensures { WritesOnOk W.write_str_gives f.old result
         (encode_utf8_all (integer_literal integer)) f.new }
 {
     write!(f, "{}", integer.value)?;
-    if !integer.signed {
-        f.write_str("u")?;
-    }
-    Ok(())
+    f.write_str(sign_letter(integer.signed))?;
+    f.write_str(width_letters("l", "s", integer.width))
+}
+
+// The text of a float, and the letters of its width.
+fn write_float<W: fmt::Write>(float: &Float, f: &mut fmt::Formatter<W>) -> fmt::Result
+    ensures { WritesOnOk W.write_str_gives f.old result
+        (encode_utf8_all (float_literal float.now.text float.now.width)) f.new }
+{
+    f.write_str(float.text.as_str())?;
+    f.write_str(width_letters("lf", "hf", float.width))
 }
 
 // The spelling of an ordinary token, and nothing for a directive.
@@ -101,7 +128,7 @@ fn write_word<W: fmt::Write>(value: &TokenValue, f: &mut fmt::Formatter<W>) -> f
     match value {
         TokenValue::Ident(name) => f.write_str(name.as_str()),
         TokenValue::Integer(integer) => write_integer(*integer, f),
-        TokenValue::Float(float) => f.write_str(float.text.as_str()),
+        TokenValue::Float(float) => write_float(float, f),
         TokenValue::Punct(punct) => f.write_str(punct.spelling()),
         TokenValue::Version(_) | TokenValue::Extension(_) | TokenValue::Pragma(_) => f.write_str(
             "",

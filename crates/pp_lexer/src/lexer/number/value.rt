@@ -84,33 +84,37 @@ fn whole_value(base: u32, text: &mut Spelling<'_>) -> Option<u64>
     }
 }
 
-fn integer(signed: bool, value: Option<u64>) -> Result<TokenValue, PreprocessorError>
-    ensures { result ≡ integer_of signed value }
+fn integer(signed: bool, width: i32, value: Option<u64>) -> Result<TokenValue, PreprocessorError>
+    ensures { result ≡ integer_of signed width value }
 {
     match value {
         Some(value) => Ok(TokenValue::Integer(Integer {
             value,
             signed,
-            width: 32,
+            width,
         })),
         None => Err(PreprocessorError::IntegerOverflow),
     }
 }
 
-// The integer with this spelling.
-pub fn read_integer(signed: bool, word: &Spelling<'_>) -> Result<TokenValue, PreprocessorError>
-    ensures { result ≡ integer_value signed word.now }
+// The integer of this width with this spelling.
+pub fn read_integer(
+    signed: bool,
+    width: i32,
+    word: &Spelling<'_>,
+) -> Result<TokenValue, PreprocessorError>
+    ensures { result ≡ integer_value signed width word.now }
 {
     let mut text = word.twin();
     if has_hex_mark(word) {
         text.next();
         text.next();
-        return integer(signed, whole_value(16, &mut text));
+        return integer(signed, width, whole_value(16, &mut text));
     }
     if has_octal_mark(word) {
-        return integer(signed, whole_value(8, &mut text));
+        return integer(signed, width, whole_value(8, &mut text));
     }
-    integer(signed, whole_value(10, &mut text))
+    integer(signed, width, whole_value(10, &mut text))
 }
 
 // Passes the digits, and returns whether there was one.
@@ -196,16 +200,17 @@ fn gather(alloc: Global, text: &mut FloatText<'_>) -> Result<Text, AllocError>
     }
 }
 
-// The float with this spelling. The outer error is that its text could not be allocated.
+// The float of this width with this spelling. The outer error is that its text could not be allocated.
 pub fn read_float(
     alloc: Global,
+    width: i32,
     word: &Spelling<'_>,
 ) -> Result<Result<TokenValue, PreprocessorError>, AllocError>
-    ensures { IsGiven result (float_value word.now) }
+    ensures { IsGiven result (float_value width word.now) }
 {
     if !reads_as_float(&mut FloatText::new(word)) {
         return Ok(Err(PreprocessorError::FloatParsingError));
     }
     let text = gather(alloc, &mut FloatText::new(word))?;
-    Ok(Ok(TokenValue::Float(Float { text, width: 32 })))
+    Ok(Ok(TokenValue::Float(Float { text, width })))
 }

@@ -16,7 +16,7 @@ returns-clause-lexed c =
     let n = c.in-Some.taken in
     let e = c.left-left.ensures.rest_is in
     let w : IsPlainNewline text n = subst (λ t. IsPlainNewline t n) c.as_bytes.ensures.value c.in-Some.ensures in
-    record {
-      lexed = lexed_newline f r c.go.new.self line at n text c.range_from.result.now e w c.range_from.ensures.value c.go.ensures;
-      placed = placed_newline f r c.go.new.self line at n text c.range_from.result.now e w c.range_from.ensures.value c.go.ensures c.args.self.now.place;
+    λ rules. record {
+      lexed = lexed_newline rules f r c.go.new.self line at n text c.range_from.result.now e w c.range_from.ensures.value c.go.ensures;
+      placed = placed_newline rules f r c.go.new.self line at n text c.range_from.result.now e w c.range_from.ensures.value c.go.ensures c.args.self.now.place;
     }

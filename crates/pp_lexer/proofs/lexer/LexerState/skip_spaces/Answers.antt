@@ -28,8 +28,8 @@ returns c =
     let there = gone q line at n text c.as_bytes-bytes.result.now c.range_from.result.now c.go.ensures c.as_bytes-bytes.ensures.value
     c.range_from.ensures.value in
     record {
-      items = spaces_same f r line at text e u q n some le passes there;
-      at_end = spaces_comments f r line at text e u q n some le passes there;
-      places = spaces_placed f r line at text e u q n some le passes there;
+      items = λ rules. spaces_same rules f r line at text e u q n some le passes there;
+      at_end = λ rules. spaces_comments rules f r line at text e u q n some le passes there;
+      places = λ rules. spaces_placed rules f r line at text e u q n some le passes there;
       place = refl;
     }

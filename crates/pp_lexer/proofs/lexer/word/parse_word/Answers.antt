@@ -8,7 +8,7 @@ on_ok : {T E : Type 0} (r : Result T E) (P : Type 0) → P → OnOk r P
 on_ok r P h = grind arith
 
 pub returns-then-is_next-clause-value : goal.returns-then-is_next-clause-value
-returns-then-is_next-clause-value c = inl (ap (λ x. Ok x.value) (sym (newline_first _ (sym c.is_next.ensures.test ∙ c.if-is_next.true))))
+returns-then-is_next-clause-value c = inl (ap (λ x. Ok x.value) (sym (newline_first _ _ (sym c.is_next.ensures.test ∙ c.if-is_next.true))))
 
 pub returns-then-is_next-clause-state : goal.returns-then-is_next-clause-state
 returns-then-is_next-clause-state c = grind (arith, newline_first, after_first-one)

@@ -1,10 +1,16 @@
-use Rattle.std.proofs.Common.{arith}
-use Rattle.std.proofs.Output.{has_written_append}
-use Rattle.pp_lexer.proofs.spelling.ItemTextLemmas.{signed_bytes, unsigned_bytes}
+use Rattle.std.proofs.Common.{◌≡◌, ◌++◌, refl, arith}
+use Rattle.std.specs.Fmt.{decimal}
+use Rattle.std.specs.Str.{encode_utf8_all}
+use Rattle.std.proofs.Output.{has_written_append, has_written_of_eq}
+use Rattle.pp_lexer.specs.Spelling.{integer_literal}
+use Rattle.pp_lexer.proofs.spelling.ItemTextLemmas.{integer_bytes}
 use Rattle.pp_lexer.proofs.token.spelling.write_integer.Goals as goal
 
-pub returns-in_ok-write_str : goal.returns-in_ok-write_str
-returns-in_ok-write_str g c = grind (arith, unsigned_bytes, has_written_append)
-
-pub returns-else-not-integer : goal.returns-else-not-integer
-returns-else-not-integer g c = grind (arith, signed_bytes)
+pub returns : goal.returns
+returns g c = λ plain ok.
+    let digits = c.in_ok-write.ensures.writes plain refl in
+    let sign = c.in_ok-write_str.ensures.writes digits.plain refl in
+    let width = c.write_str-2.ensures.writes sign.plain ok in
+    let e : (decimal c.args.integer.value ++ c.sign_letter.result.now) ++ c.width_letters.result.now ≡ encode_utf8_all (integer_literal c.args.integer) =
+    grind (arith, integer_bytes) in
+    has_written_of_eq _ _ _ _ _ e (has_written_append _ _ _ _ _ _ (has_written_append _ _ _ _ _ _ digits sign) width)

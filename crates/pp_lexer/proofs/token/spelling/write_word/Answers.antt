@@ -10,8 +10,7 @@ pub returns-in-Integer : goal.returns-in-Integer
 returns-in-Integer g c = λ plain ok. rw c.in-Integer.is (c.write_integer.ensures plain ok)
 
 pub returns-in-Float : goal.returns-in-Float
-returns-in-Float g c = λ plain ok.
-    rw (c.in-Float.is, ← c.as_str-in-Float.ensures, encodes-chars _ c.as_str-in-Float.utf8) (c.write_str-in-Float.ensures.writes plain ok)
+returns-in-Float g c = λ plain ok. rw c.in-Float.is (c.write_float.ensures plain ok)
 
 pub returns-in-Punct : goal.returns-in-Punct
 returns-in-Punct g c = λ plain ok.
