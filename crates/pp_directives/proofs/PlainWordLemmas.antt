@@ -18,6 +18,7 @@ source_lexed l error_place = record {
   had_comments = l.had_comments;
   at_end = l.at_end;
   spent = l.spent;
+  rules = l.rules;
 }
 
 -- the place that was noted last makes no difference

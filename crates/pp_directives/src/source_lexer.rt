@@ -38,6 +38,7 @@ impl<'a> Model for SourceLexer<'a> {
       had_comments = s.lexer.had_comments;
       at_end = s.lexer.at_end;
       spent = s.lexer.spent;
+      rules = s.lexer.rules;
     } };
 
     ghost invariant = { λ s. s.lexer.spent ≡ false → AreEnded s.lexer.rest

@@ -8,6 +8,7 @@ use Rattle.std.proofs.lemmas.List.Elements.{All-head, All-tail, All-nil, All-con
 use Rattle.pp_lexer.specs.ItemLaws.{HasLineWithin}
 use Rattle.pp_lexer.specs.Items.{Lexeme, Item, items_of as lexed_items}
 use Rattle.pp_lexer.specs.Lexed.{Seen, seen}
+use Rattle.pp_lexer.specs.Rules.{pp_rs}
 use Rattle.pp_lexer.specs.Respelling.{IsSpellable, IsSpelled, lexer_value, item_value, ending}
 use Rattle.pp_lexer.specs.Spelling.{spelled_text, values_of}
 use Rattle.pp_lexer.specs.Spots.{spots_of}
@@ -80,22 +81,22 @@ shown_is_line (negsuc k) n e = cc
 abbrev HasLines : List Seen → Type 0
 HasLines items = Each (λ s. IfOk s.item (λ token. IsLine token.location.line)) items
 
-good_value : (token : LexerToken) (value : LexerTokenValue) → IsSpelled (Ok value) → IsLine token.location.line
+good_value : (token : LexerToken) (value : LexerTokenValue) → IsSpelled pp_rs (Ok value) → IsLine token.location.line
     → HoldsOfLexeme IsGood (Ok (record token { value = value }))
 good_value token Hash h l = tt
 good_value token NewLine h l = tt
 good_value token (LexerPunct p) h l = (λ o. tt, l)
 good_value token _ h l = (λ o. h, l)
 
-good_item : (item : Lexeme) → IsSpelled (item_value item) → IfOk item (λ token. IsLine token.location.line) → HoldsOfLexeme IsGood item
+good_item : (item : Lexeme) → IsSpelled pp_rs (item_value item) → IfOk item (λ token. IsLine token.location.line) → HoldsOfLexeme IsGood item
 good_item (Ok token) h l = good_value token token.value h l
 good_item (Err fault) h l = tt
 
-good_items : (items : List Seen) → All IsSpelled (map (λ s. item_value s.item) items) → HasLines items → HoldInItems IsGood items
+good_items : (items : List Seen) → All (IsSpelled pp_rs) (map (λ s. item_value s.item) items) → HasLines items → HoldInItems IsGood items
 good_items [] all lines = tt
 good_items (s ∷ rest) all lines = (
-  good_item s.item (All-head IsSpelled (item_value s.item) (map (λ t. item_value t.item) rest) all) lines.0,
-  good_items rest (All-tail IsSpelled (item_value s.item) (map (λ t. item_value t.item) rest) all) lines.1,
+  good_item s.item (All-head (IsSpelled pp_rs) (item_value s.item) (map (λ t. item_value t.item) rest) all) lines.0,
+  good_items rest (All-tail (IsSpelled pp_rs) (item_value s.item) (map (λ t. item_value t.item) rest) all) lines.1,
 )
 
 item_good : (x : Taken) → HoldsOfTaken IsGood x → HoldsOfOutcome IsGood (item_of x)
@@ -118,7 +119,7 @@ lines_hold total (i ∷ items) short all = (
     line_holds (Err fault) h = tt
 
 lines : (text : List ℕ) → IsText text → HasLines (items_of text)
-lines text t = lines_hold (length text) (lexed_items (spots_of text)) t.1 (tokens_have_lines text t.0)
+lines text t = lines_hold (length text) (lexed_items (spots_of text)) t.1 (tokens_have_lines pp_rs text t.0)
 
 -- so are the texts' tokens
 module _ (level : ℕ) where
@@ -126,7 +127,7 @@ module _ (level : ℕ) where
   K = HoldsOfReader IsGood IsLine good_closed
 
   text_good : (text : List ℕ) → IsText text → HoldInItems IsGood (items_of text)
-  text_good text t = good_items (items_of text) (values_spelled text t.0) (lines text t)
+  text_good text t = good_items (items_of text) (values_spelled pp_rs text t.0) (lines text t)
 
   keeps : ReaderKeeps IsGood IsLine (source_reading (answers_at level)) K
   keeps = source_keeps IsGood IsLine good_closed good_directives (answers_at level) shown_is_line
@@ -225,7 +226,7 @@ module _ (level : ℕ) where
   read_afresh : (values : List TokenValue) → Each IsPlain values → IsReadAfresh (answers_at level) values
   read_afresh values all =
       let items = items_of (encode_utf8_all (spelled_text values)) in
-      let e : map (λ s. item_value s.item) items ≡ map Ok (map lexer_value values ++ ending values) = read_back values (spellable values all) in
+      let e : map (λ s. item_value s.item) items ≡ map Ok (map lexer_value values ++ ending values) = read_back pp_rs values (spellable values all) in
       let none = no_hash_items items (map lexer_value values ++ ending values) e (no_hash_before values (ending values) all (ending_has_none values)) in
       let g = gives_from (answers_at level) items none values (ending values) 0 items refl e (ends_once values) all in
       record {

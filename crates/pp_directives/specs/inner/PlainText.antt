@@ -33,6 +33,7 @@ lexed_of l = record {
   spent = l.spent;
   place = nowhere;
   places = l.places;
+  rules = l.rules;
 }
 
 -- this word comes next, and can be passed

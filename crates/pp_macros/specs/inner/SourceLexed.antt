@@ -1,13 +1,14 @@
 -- The state of a source's lexer.
 use Rattle.std.specs.Prelude.{◌≡◌, Bool, false, List, [], ◌∷◌, Option, Some, None, Result, Ok, Err, ⊤}
 use Rattle.pp_lexer.specs.Lexed.{Seen, Lexed}
+use Rattle.pp_lexer.specs.declared.rules.Rules.{Rules}
 use Rattle.pp_lexer.specs.declared.token.Location.{Location}
 use Rattle.pp_lexer.specs.declared.lexer.item.Token.{Token as LexerToken}
 use Rattle.pp_macros.specs.declared.halt.Halt.{Halt}
 use Rattle.pp_macros.specs.inner.Unreported.{Unreported, unreported}
 
 -- the items to come, with their places; the place of an error that was read and not reported; whether comments were
--- passed so far, and whether any will have been at the end; and whether memory ran out
+-- passed so far, and whether any will have been at the end; whether memory ran out; and the rules
 pub record SourceLexed : Type 0 where
   pub rest : List Seen
   pub places : List Location
@@ -15,6 +16,7 @@ pub record SourceLexed : Type 0 where
   pub had_comments : Bool
   pub at_end : Bool
   pub spent : Bool
+  pub rules : Rules
 
 -- a lexer from which nothing was read
 abbrev pub beginning : Lexed → SourceLexed
@@ -26,6 +28,7 @@ beginning l =
       had_comments = l.had_comments;
       at_end = l.at_end;
       spent = false;
+      rules = l.rules;
     }
 
 -- the errors that were not reported yet
