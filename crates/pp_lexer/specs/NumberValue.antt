@@ -1,12 +1,13 @@
 -- The value of a number, by its spelling and the characters after it: GLSL ES 3.20, sections 4.1.3 and 4.1.4. What the
 -- language's types can't hold is an error, and so is a literal of 64 or of 16 bits, unless the rules take these widths.
-use Rattle.std.specs.Prelude.{ℕ, ℤ, ◌+◌, ◌^◌, pos, Bool, true, false, not, ◌&&◌, ◌||◌, ◌==◌, nat_lt, if◌then◌else◌}
+use Rattle.std.specs.Prelude.{ℕ, ℤ, ◌+◌, ◌^◌, pos, Bool, not, ◌&&◌, ◌||◌, ◌==◌, nat_eq, nat_lt, if◌then◌else◌}
 use Rattle.std.specs.Prelude.{List, [], ◌∷◌, Option, Some, None, Ok, Err, codes, length, take, drop, map, filter}
 use Rattle.std.specs.Prelude.{ok_or, option_map}
 use Rattle.std.specs.List.{list_all, list_any}
 use Rattle.std.specs.Char.{is_digit}
 use Rattle.std.specs.Str.Parse.{digits_value_after}
 use Rattle.std.specs.Option.{option_map_or}
+use lib.Pointwise.{pointwise}
 use Rattle.pp_lexer.specs.declared.token.PreprocessorError.{PreprocessorError}
 use Rattle.pp_lexer.specs.declared.token.PreprocessorError.TheVariants.{NotSupported64BitLiteral}
 use Rattle.pp_lexer.specs.declared.token.PreprocessorError.TheVariants.{NotSupported16BitLiteral, IntegerOverflow}
@@ -44,22 +45,17 @@ width_refusal rules is_short after =
     else if begins_with is_short after then Some NotSupported16BitLiteral
     else None
 
--- a suffix of so many characters that says this width
-abbrev pub suffix_of : ℕ → ℤ → Suffix
-suffix_of taken width = record { taken = taken; width = width }
-
 -- the suffix of 32 bits: one letter if it is here, and none otherwise
 abbrev pub usual_suffix : (ℕ → Bool) → List ℕ → Suffix
-usual_suffix is_suffix after = suffix_of (if begins_with is_suffix after then 1 else 0) (pos 32)
+usual_suffix is_suffix after = record { taken = if begins_with is_suffix after then 1 else 0; width = pos 32 }
 
 -- the characters begin with these
 abbrev pub begins_as : List ℕ → List ℕ → Bool
-begins_as [] cs = true
-begins_as (c ∷ w) [] = false
-begins_as (c ∷ w) (d ∷ cs) = (d == c) && begins_as w cs
+begins_as w cs = pointwise nat_eq (take (length w) cs) w
 
-abbrev pub begins_as_either : List ℕ → List ℕ → List ℕ → Bool
-begins_as_either small capital cs = begins_as small cs || begins_as capital cs
+-- the rules take the suffixes of widths, and this one is here, small or in capitals
+abbrev pub has_suffix : Rules → List ℕ → List ℕ → List ℕ → Bool
+has_suffix rules small capital after = rules.takes_widths && (begins_as small after || begins_as capital after)
 
 -- the spelling begins with `0x`
 abbrev pub begins_hex : List ℕ → Bool
@@ -97,22 +93,17 @@ float_value width w =
     if is_float_text (float_text w) then Ok (Float (record { text = float_text w; width = width }))
     else Err FloatParsingError
 
--- `lf`, `hf` or `f`, all of it small or all of it capital
-abbrev pub width_of_float : List ℕ → Suffix
-width_of_float after =
-    if begins_as_either (codes "lf") (codes "LF") after then suffix_of 2 (pos 64)
-    else if begins_as_either (codes "hf") (codes "HF") after then suffix_of 2 (pos 16)
-    else usual_suffix is_f after
-
+-- the suffix of a float: `lf` for 64 bits, `hf` for 16, or `f`
 abbrev pub float_suffix : Rules → List ℕ → Suffix
-float_suffix rules after = if rules.takes_widths then width_of_float after else usual_suffix is_f after
+float_suffix rules after =
+    if has_suffix rules (codes "lf") (codes "LF") after then record { taken = 2; width = pos 64 }
+    else if has_suffix rules (codes "hf") (codes "HF") after then record { taken = 2; width = pos 16 }
+    else usual_suffix is_f after
 
 -- the suffix of a float is taken; the letter of a width that isn't is reported before any fault of the value
 abbrev pub float_outcome : Rules → List ℕ → List ℕ → Outcome
 float_outcome rules w after = record {
-  value =
-      option_map_or Err (width_refusal rules is_h after)
-      (float_value (float_suffix rules after).width w);
+  value = option_map_or Err (width_refusal rules is_h after) (float_value (float_suffix rules after).width w);
   taken = length w + (float_suffix rules after).taken;
 }
 
@@ -140,17 +131,14 @@ integer_value signed width w =
     (whole (base_of w) (digits_of w)))
     IntegerOverflow
 
--- `l`, `ul`, `s`, `us` or `u`, all of it small or all of it capital
-abbrev pub width_of_integer : List ℕ → Suffix
-width_of_integer after =
-    if begins_with is_l after then suffix_of 1 (pos 64)
-    else if begins_as_either (codes "ul") (codes "UL") after then suffix_of 2 (pos 64)
-    else if begins_with is_s after then suffix_of 1 (pos 16)
-    else if begins_as_either (codes "us") (codes "US") after then suffix_of 2 (pos 16)
-    else usual_suffix is_u after
-
+-- the suffix of an integer: `l` for 64 bits, `s` for 16, each also after a `u`, or `u` alone
 abbrev pub integer_suffix : Rules → List ℕ → Suffix
-integer_suffix rules after = if rules.takes_widths then width_of_integer after else usual_suffix is_u after
+integer_suffix rules after =
+    if has_suffix rules (codes "l") (codes "L") after then record { taken = 1; width = pos 64 }
+    else if has_suffix rules (codes "ul") (codes "UL") after then record { taken = 2; width = pos 64 }
+    else if has_suffix rules (codes "s") (codes "S") after then record { taken = 1; width = pos 16 }
+    else if has_suffix rules (codes "us") (codes "US") after then record { taken = 2; width = pos 16 }
+    else usual_suffix is_u after
 
 -- the suffix of an integer is taken, and one that begins with a `u` makes it unsigned
 abbrev pub integer_outcome : Rules → List ℕ → List ℕ → Outcome

@@ -15,14 +15,13 @@ abbrev pub width_letters : List ℕ → List ℕ → ℤ → List ℕ
 width_letters long short width =
     if int_eq width (pos 64) then long else if int_eq width (pos 16) then short else []
 
--- an unsigned integer has a `u`
-abbrev pub sign_letter : Bool → List ℕ
-sign_letter signed = if signed then [] else codes "u"
+-- the letters after the digits of an integer: a `u` if it is unsigned, and that of its width
+abbrev pub integer_letters : Bool → ℤ → List ℕ
+integer_letters signed width = (if signed then [] else codes "u") ++ width_letters (codes "l") (codes "s") width
 
--- the decimal digits of an integer, the letter of its sign and that of its width
+-- the decimal digits of an integer, and its letters
 abbrev pub integer_literal : IntegerLiteral → List ℕ
-integer_literal i =
-    decimal i.value ++ (sign_letter i.signed ++ width_letters (codes "l") (codes "s") i.width)
+integer_literal i = decimal i.value ++ integer_letters i.signed i.width
 
 -- the text of a float, and the letters of its width
 abbrev pub float_literal : List ℕ → ℤ → List ℕ

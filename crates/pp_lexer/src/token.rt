@@ -20,6 +20,7 @@ mod text;
 pub use error::out_of_memory;
 pub(crate) use error::refused;
 pub use placed_error::PlacedError;
+pub use spelling::{float_letters, integer_letters};
 pub use text::Text;
 
 /// The place of a token in its source.

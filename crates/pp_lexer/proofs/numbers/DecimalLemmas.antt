@@ -13,7 +13,7 @@ use Rattle.pp_lexer.specs.Numbers.{is_zero, is_x, is_decimal, is_number}
 use Rattle.pp_lexer.specs.NumberValue.{begins_hex, begins_octal, whole, integer_value, integer_outcome, number_outcome}
 use Rattle.pp_lexer.specs.inner.NumberValue.{is_float_mark}
 use Rattle.pp_lexer.specs.Respelling.{IsWidth}
-use Rattle.pp_lexer.specs.Spelling.{integer_literal}
+use Rattle.pp_lexer.specs.Spelling.{integer_letters, integer_literal}
 use Rattle.pp_lexer.specs.Spellings.{after_first}
 use Rattle.pp_lexer.specs.Surroundings.{begins_with}
 use Rattle.pp_lexer.specs.Words.{word_at}
@@ -21,7 +21,7 @@ use Rattle.pp_lexer.proofs.numbers.NumbersLemmas.{either_apart, e_apart, point_a
 use Rattle.pp_lexer.proofs.numbers.NumberSetsLemmas.{decimal_number}
 use Rattle.pp_lexer.proofs.words.SetsLemmas.{all_many}
 use Rattle.pp_lexer.proofs.spelling.SpelledWordLemmas.{IsBreak, spelled_number}
-use Rattle.pp_lexer.proofs.spelling.SuffixSpellingLemmas.{integer_letters, integer_ends, integer_unrefused}
+use Rattle.pp_lexer.proofs.spelling.SuffixSpellingLemmas.{integer_ends, integer_unrefused}
 
 -- the digits of a number below 2^64, without a zero at their front unless it is all
 pub record IsDecimalText (n : ℕ) (w : List ℕ) : Type 0 where

@@ -1,5 +1,5 @@
 -- The text of an item, as it is written piece by piece.
-use Rattle.std.proofs.Common.{◌≡◌, ℕ, ℤ, pos, ◌^◌, ◌<◌, Bool, true, false, if◌then◌else◌, append_assoc, List, [], ◌∷◌, ◌++◌, filter, codes, get_or, length, take, ◌+◌, refl, sym, ap, ◌∙◌, lit<, arith}
+use Rattle.std.proofs.Common.{◌≡◌, ℕ, ℤ, pos, ◌^◌, ◌<◌, Bool, true, false, if◌then◌else◌, List, [], ◌∷◌, ◌++◌, filter, codes, get_or, length, take, ◌+◌, refl, sym, ap, ◌∙◌, lit<, arith}
 use Rattle.std.specs.Fmt.{decimal}
 use Rattle.std.specs.List.{flat_map}
 use Rattle.std.specs.Ordering.{int_eq}
@@ -12,7 +12,7 @@ use Rattle.pp_lexer.specs.Entry.{Entry, is_outermost}
 use Rattle.pp_lexer.specs.ItemText.{leaf_spelling, with_tokens}
 use Rattle.pp_lexer.specs.Preorder.{leaf_of, inner, preorder}
 use Rattle.pp_lexer.specs.Punctuators.{punctuator}
-use Rattle.pp_lexer.specs.Spelling.{sign_letter, width_letters, integer_literal, float_literal, spelling}
+use Rattle.pp_lexer.specs.Spelling.{width_letters, integer_letters, integer_literal, float_literal, spelling}
 use Rattle.pp_lexer.specs.declared.token.Integer.{Integer as IntegerLiteral}
 use Rattle.pp_lexer.specs.declared.token.Punct.{Punct as Punctuator}
 use Rattle.pp_lexer.specs.declared.token.Punct.TheVariants.{AddAssign}
@@ -41,31 +41,32 @@ one_ascii c h = IsAscii-cons c [] h IsAscii-nil
 two_ascii : (c d : ℕ) → c < 128 → d < 128 → IsAscii (c ∷ d ∷ [])
 two_ascii c d h k = IsAscii-cons c (d ∷ []) h (one_ascii d k)
 
--- with an integer, piece by piece
-pub integer_bytes : (i : IntegerLiteral) → i.value < 2 ^ 64
-    → (decimal i.value ++ sign_letter i.signed) ++ width_letters (codes "l") (codes "s") i.width ≡ encode_utf8_all (integer_literal i)
-integer_bytes i fits =
-    let digits = decimal i.value in
-    let letters = width_letters (codes "l") (codes "s") i.width in
-    append_assoc digits (sign_letter i.signed) letters
-    ∙ sym (encodes-IsAscii (integer_literal i)
-    (IsAscii-append digits (sign_letter i.signed ++ letters) (IsAscii-decimal i.value fits)
-    (IsAscii-append (sign_letter i.signed) letters (sign i.signed)
-    (letters_ascii (codes "l") (codes "s") i.width (one_ascii 108 (omega arith)) (one_ascii 115 (omega arith))))))
+-- with those of an integer
+pub integer_letters_ascii : (signed : Bool) (width : ℤ) → IsAscii (integer_letters signed width)
+integer_letters_ascii signed width = by signed (letters_ascii (codes "l") (codes "s") width (one_ascii 108 (omega arith)) (one_ascii 115 (omega arith)))
   where
-    sign : (signed : Bool) → IsAscii (sign_letter signed)
-    sign true = IsAscii-nil
-    sign false = one_ascii 117 (omega arith)
+    by : (signed : Bool) → IsAscii (width_letters (codes "l") (codes "s") width) → IsAscii (integer_letters signed width)
+    by true h = h
+    by false h = IsAscii-cons 117 (width_letters (codes "l") (codes "s") width) (omega arith) h
 
--- and with what is after the text of a float
+pub integer_bytes : (i : IntegerLiteral) → i.value < 2 ^ 64
+    → decimal i.value ++ integer_letters i.signed i.width ≡ encode_utf8_all (integer_literal i)
+integer_bytes i fits =
+    sym (encodes-IsAscii (integer_literal i)
+    (IsAscii-append (decimal i.value) (integer_letters i.signed i.width) (IsAscii-decimal i.value fits) (integer_letters_ascii i.signed i.width)))
+
+-- and with those after the text of a float
+pub float_letters_ascii : (width : ℤ) → IsAscii (width_letters (codes "lf") (codes "hf") width)
+float_letters_ascii width =
+    letters_ascii (codes "lf") (codes "hf") width (two_ascii 108 102 (omega arith) (omega arith)) (two_ascii 104 102 (omega arith) (omega arith))
+
 pub float_bytes : (text : List ℕ) (width : ℤ)
     → encode_utf8_all text ++ width_letters (codes "lf") (codes "hf") width ≡ encode_utf8_all (float_literal text width)
 float_bytes text width =
     let letters = width_letters (codes "lf") (codes "hf") width in
     sym (encodes-append text letters
     ∙ ap (λ bytes. encode_utf8_all text ++ bytes)
-    (encodes-IsAscii letters
-    (letters_ascii (codes "lf") (codes "hf") width (two_ascii 108 102 (omega arith) (omega arith)) (two_ascii 104 102 (omega arith) (omega arith)))))
+    (encodes-IsAscii letters (float_letters_ascii width)))
 
 -- the entry of a token is spelled as the token is
 pub leaf_spelled : (value : TokenValue) → leaf_spelling (leaf_of value) ≡ spelling value

@@ -22,13 +22,12 @@ use Rattle.pp_lexer.specs.Numbers.{is_decimal}
 use Rattle.pp_lexer.specs.NumberValue.{is_float_text}
 use Rattle.pp_lexer.specs.Punctuators.{punctuator}
 use Rattle.pp_lexer.specs.Respelling.{IsSpellableBy}
-use Rattle.pp_lexer.specs.Spelling.{width_letters, sign_letter, integer_literal, float_literal, spelling, spelled_text}
+use Rattle.pp_lexer.specs.Spelling.{width_letters, integer_letters, integer_literal, float_literal, spelling, spelled_text}
 use Rattle.pp_lexer.specs.Spellings.{nothing, many}
 use Rattle.pp_lexer.specs.Surroundings.{begins_with}
 use Rattle.pp_lexer.proofs.numbers.DecimalLemmas.{decimal_text}
 use Rattle.pp_lexer.proofs.numbers.NumberSetsLemmas.{made_float_text}
 use Rattle.pp_lexer.proofs.characters.PlainPhasesLemmas.{is_second, IsPlain, plain-space}
-use Rattle.pp_lexer.proofs.spelling.SuffixSpellingLemmas.{integer_letters}
 use Rattle.pp_lexer.proofs.words.SetsLemmas.{Implies, IsMadeOf, is_other, made_nothing, made_one, made_many}
 use Rattle.pp_lexer.proofs.words.WordsLemmas.{digit_low, ascii_no_start}
 
@@ -90,10 +89,6 @@ decimal_safe c d = and_from (is_calm c) (scalar c) (calm_class is_decimal refl r
 float_safe : IsMadeOf is_safe is_float_text
 float_safe = made_float_text is_safe decimal_safe refl refl refl refl
 
-suffix_safe : (signed : Bool) → list_all is_safe (sign_letter signed) ≡ true
-suffix_safe true = refl
-suffix_safe false = refl
-
 letters_safe : (long short : List ℕ) (width : ℤ) → list_all is_safe long ≡ true → list_all is_safe short ≡ true
     → list_all is_safe (width_letters long short width) ≡ true
 letters_safe long short width h k = by (int_eq width (pos 64)) (int_eq width (pos 16))
@@ -107,8 +102,12 @@ integer_safe : (i : IntegerLiteral) → i.value < 2 ^ 64 → list_all is_safe (i
 integer_safe i h =
     all_append is_safe (decimal i.value) (integer_letters i.signed i.width)
     (all_implied is_decimal is_safe decimal_safe (decimal i.value) (decimal_text i.value h).digits)
-    (all_append is_safe (sign_letter i.signed) (width_letters (codes "l") (codes "s") i.width) (suffix_safe i.signed)
-    (letters_safe (codes "l") (codes "s") i.width refl refl))
+    (by i.signed (letters_safe (codes "l") (codes "s") i.width refl refl))
+  where
+    by : (signed : Bool) → list_all is_safe (width_letters (codes "l") (codes "s") i.width) ≡ true
+        → list_all is_safe (integer_letters signed i.width) ≡ true
+    by true e = e
+    by false e = e
 
 -- Punctuators
 

@@ -3,9 +3,9 @@ use Rattle.std.proofs.Common.{◌≡◌, ℕ, ℤ, List, [], ◌++◌, codes, le
 use Rattle.std.proofs.lemmas.List.{drop_at}
 use Rattle.pp_lexer.specs.declared.rules.Rules.{Rules}
 use Rattle.pp_lexer.specs.Numbers.{is_number}
-use Rattle.pp_lexer.specs.NumberValue.{is_l, is_h, is_s, is_f, is_u, width_refusal, suffix_of, float_suffix, integer_suffix}
+use Rattle.pp_lexer.specs.NumberValue.{is_l, is_h, is_s, is_f, is_u, width_refusal, float_suffix, integer_suffix}
 use Rattle.pp_lexer.specs.Respelling.{IsWidth}
-use Rattle.pp_lexer.specs.Spelling.{width_letters, sign_letter}
+use Rattle.pp_lexer.specs.Spelling.{width_letters, integer_letters}
 use Rattle.pp_lexer.specs.Surroundings.{begins_with}
 use Rattle.pp_lexer.proofs.numbers.SuffixesLemmas.{none_refused, float_usual, integer_usual, unsigned_usual}
 use Rattle.pp_lexer.proofs.numbers.NumberSetsLemmas.{number_lacks}
@@ -25,15 +25,11 @@ width_cases rules width = by rules.takes_widths refl
 
 -- Integers
 
--- the letters after the digits of an integer
-abbrev pub integer_letters : Bool → ℤ → List ℕ
-integer_letters signed width = sign_letter signed ++ width_letters (codes "l") (codes "s") width
-
 module _ (rules : Rules) (cs : List ℕ) (b : IsBreak cs) where
-  -- what they are read as, with a break after them
+  -- what the letters of an integer are read as, with a break after them
   pub record EndsInteger (letters : List ℕ) (signed : Bool) (width : ℤ) : Type 0 where
     pub ends : EndsBefore is_number (letters ++ cs)
-    pub suffix : integer_suffix rules (letters ++ cs) ≡ suffix_of (length letters) width
+    pub suffix : integer_suffix rules (letters ++ cs) ≡ record { taken = length letters; width = width }
     pub sign : not (begins_with is_u (letters ++ cs)) ≡ signed
 
   usual : (signed : Bool) → EndsInteger (integer_letters signed (pos 32)) signed (pos 32)
@@ -75,7 +71,7 @@ module _ (rules : Rules) (cs : List ℕ) (b : IsBreak cs) where
 
   pub record EndsFloat (letters : List ℕ) (width : ℤ) : Type 0 where
     pub ends : EndsBefore is_number (letters ++ cs)
-    pub suffix : float_suffix rules (letters ++ cs) ≡ suffix_of (length letters) width
+    pub suffix : float_suffix rules (letters ++ cs) ≡ record { taken = length letters; width = width }
     pub unrefused : width_refusal rules is_h (letters ++ cs) ≡ None
 
   usual_float : EndsFloat [] (pos 32)

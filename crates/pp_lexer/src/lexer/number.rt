@@ -1,8 +1,7 @@
 //! Numbers: the longest one at the front of the characters, and its value.
 
-ghost use Rattle.std.specs.Prelude.{◌≡◌, ◌==◌, ◌||◌, IsTrue};
-ghost use Rattle.pp_lexer.specs.NumberValue.{width_refusal, suffix_of, usual_suffix, width_of_float, float_suffix};
-ghost use Rattle.pp_lexer.specs.NumberValue.{width_of_integer, integer_suffix};
+ghost use Rattle.std.specs.Prelude.{◌≡◌, ◌==◌, ◌||◌, IsTrue, [], ◌∷◌};
+ghost use Rattle.pp_lexer.specs.NumberValue.{width_refusal, usual_suffix, has_suffix, float_suffix, integer_suffix};
 ghost use Rattle.pp_lexer.specs.NumberValue.{float_outcome, integer_outcome, number_at};
 ghost use Rattle.pp_lexer.specs.Outcome.{IsGiven};
 ghost use Rattle.pp_lexer.specs.Numbers.{begins_number};
@@ -30,57 +29,42 @@ struct Suffix {
     width: i32,
 }
 
-// The suffix of this many characters that says this width.
-fn suffix_of(taken: u32, width: i32) -> Suffix
-    ensures { result ≡ suffix_of taken width }
-{
-    Suffix { taken, width }
-}
-
 // The suffix of 32 bits: one of the two letters if it is here, and none otherwise.
 fn usual_suffix(first: char, second: char, inner: &mut LexerCharIterator<'_>) -> Suffix
     ensures value { result ≡ usual_suffix (λ c. (c == first) || (c == second))
         (letters inner.old.rest) }
     ensures same { inner.new ≡ inner.old }
 {
-    if is_either_next(inner, first, second) {
-        return suffix_of(1, 32);
+    let found = is_either_next(inner, first, second);
+    Suffix {
+        taken: if found { 1 } else { 0 },
+        width: 32,
     }
-    suffix_of(0, 32)
 }
 
-// The suffix here that a float may have if widths are taken.
-fn width_of_float(inner: &mut LexerCharIterator<'_>) -> Suffix
-    ensures value { result ≡ width_of_float (letters inner.old.rest) }
+// Whether one of these suffixes of one letter is here, and the rules take it.
+fn has_letter(rules: Rules, small: char, capital: char, inner: &mut LexerCharIterator<'_>) -> bool
+    ensures test { result ≡ has_suffix rules (small ∷ []) (capital ∷ []) (letters inner.old.rest) }
     ensures same { inner.new ≡ inner.old }
 {
-    if is_pair_next(inner, 'l', 'f') || is_pair_next(inner, 'L', 'F') {
-        return suffix_of(2, 64);
-    }
-    if is_pair_next(inner, 'h', 'f') || is_pair_next(inner, 'H', 'F') {
-        return suffix_of(2, 16);
-    }
-    usual_suffix('f', 'F', inner)
+    rules.takes_widths && is_either_next(inner, small, capital)
 }
 
-// The suffix here that an integer may have if widths are taken.
-fn width_of_integer(inner: &mut LexerCharIterator<'_>) -> Suffix
-    ensures value { result ≡ width_of_integer (letters inner.old.rest) }
+// Whether one of these suffixes of two letters is here, and the rules take it.
+fn has_letters(
+    rules: Rules,
+    small: (char, char),
+    capital: (char, char),
+    inner: &mut LexerCharIterator<'_>,
+) -> bool
+    ensures test { result ≡ has_suffix rules (small.0 ∷ small.1 ∷ []) (capital.0 ∷ capital.1 ∷ [])
+        (letters inner.old.rest) }
     ensures same { inner.new ≡ inner.old }
 {
-    if is_either_next(inner, 'l', 'L') {
-        return suffix_of(1, 64);
+    if !rules.takes_widths {
+        return false;
     }
-    if is_pair_next(inner, 'u', 'l') || is_pair_next(inner, 'U', 'L') {
-        return suffix_of(2, 64);
-    }
-    if is_either_next(inner, 's', 'S') {
-        return suffix_of(1, 16);
-    }
-    if is_pair_next(inner, 'u', 's') || is_pair_next(inner, 'U', 'S') {
-        return suffix_of(2, 16);
-    }
-    usual_suffix('u', 'U', inner)
+    is_pair_next(inner, small.0, small.1) || is_pair_next(inner, capital.0, capital.1)
 }
 
 // The suffix of a float by these rules.
@@ -88,8 +72,17 @@ fn float_suffix(rules: Rules, inner: &mut LexerCharIterator<'_>) -> Suffix
     ensures value { result ≡ float_suffix rules (letters inner.old.rest) }
     ensures same { inner.new ≡ inner.old }
 {
-    if rules.takes_widths {
-        return width_of_float(inner);
+    if has_letters(rules, ('l', 'f'), ('L', 'F'), inner) {
+        return Suffix {
+            taken: 2,
+            width: 64,
+        };
+    }
+    if has_letters(rules, ('h', 'f'), ('H', 'F'), inner) {
+        return Suffix {
+            taken: 2,
+            width: 16,
+        };
     }
     usual_suffix('f', 'F', inner)
 }
@@ -99,8 +92,29 @@ fn integer_suffix(rules: Rules, inner: &mut LexerCharIterator<'_>) -> Suffix
     ensures value { result ≡ integer_suffix rules (letters inner.old.rest) }
     ensures same { inner.new ≡ inner.old }
 {
-    if rules.takes_widths {
-        return width_of_integer(inner);
+    if has_letter(rules, 'l', 'L', inner) {
+        return Suffix {
+            taken: 1,
+            width: 64,
+        };
+    }
+    if has_letters(rules, ('u', 'l'), ('U', 'L'), inner) {
+        return Suffix {
+            taken: 2,
+            width: 64,
+        };
+    }
+    if has_letter(rules, 's', 'S', inner) {
+        return Suffix {
+            taken: 1,
+            width: 16,
+        };
+    }
+    if has_letters(rules, ('u', 's'), ('U', 'S'), inner) {
+        return Suffix {
+            taken: 2,
+            width: 16,
+        };
     }
     usual_suffix('u', 'U', inner)
 }

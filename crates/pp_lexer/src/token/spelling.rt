@@ -1,11 +1,11 @@
 //! Tokens as text: `{}` writes the spelling of a token, and a directive with the tokens of its line.
 
-ghost use Rattle.std.specs.Prelude.{◌≡◌, Some};
+ghost use Rattle.std.specs.Prelude.{◌≡◌, Some, codes};
 ghost use Rattle.std.specs.Fmt.{WritesOnOk};
 ghost use Rattle.std.specs.Str.{chars, encode_utf8_all};
 ghost use Rattle.pp_lexer.specs.ItemText.{item_text, with_tokens};
 ghost use Rattle.pp_lexer.specs.Punctuators.{punctuator};
-ghost use Rattle.pp_lexer.specs.Spelling.{width_letters, sign_letter, integer_literal, float_literal, spelling};
+ghost use Rattle.pp_lexer.specs.Spelling.{width_letters, integer_letters, integer_literal, float_literal, spelling};
 
 use crate::token::{Float, Integer, Punct, Text, Token, TokenValue, Tokens};
 use std::fmt;
@@ -81,8 +81,9 @@ impl fmt::Display for Text {
     }
 }
 
-/// The letters of a width: the first ones for 64 bits, the others for 16, and none for the usual 32.
-pub fn width_letters(long: &'static str, short: &'static str, width: i32) -> &'static str
+// The letters of a width: the first ones for 64 bits, the others for 16, and none for the usual 32.
+#[inline(always)]
+fn width_letters(long: &'static str, short: &'static str, width: i32) -> &'static str
     ensures { result.now ≡ width_letters long.now short.now width }
 {
     if width == 64 {
@@ -94,21 +95,39 @@ pub fn width_letters(long: &'static str, short: &'static str, width: i32) -> &'s
     ""
 }
 
-/// The letter of an integer's sign: a `u` if it is unsigned.
-pub fn sign_letter(signed: bool) -> &'static str
-    ensures { result.now ≡ sign_letter signed }
+/// Returns the letters after the digits of an integer: a `u` if it is unsigned, and then an `l` if its width is 64 and an
+/// `s` if it is 16.
+#[inline(always)]
+pub fn integer_letters(signed: bool, width: i32) -> &'static str
+    ensures { result.now ≡ integer_letters signed width }
 {
-    if signed { "" } else { "u" }
+    if signed {
+        return width_letters("l", "s", width);
+    }
+    if width == 64 {
+        return "ul";
+    }
+    if width == 16 {
+        return "us";
+    }
+    "u"
 }
 
-// The digits of an integer, the letter of its sign and that of its width.
+/// Returns the letters after the text of a float: `lf` if its width is 64, and `hf` if it is 16.
+#[inline(always)]
+pub fn float_letters(width: i32) -> &'static str
+    ensures { result.now ≡ width_letters (codes "lf") (codes "hf") width }
+{
+    width_letters("lf", "hf", width)
+}
+
+// The digits of an integer, and its letters.
 fn write_integer<W: fmt::Write>(integer: Integer, f: &mut fmt::Formatter<W>) -> fmt::Result
     ensures { WritesOnOk W.write_str_gives f.old result
         (encode_utf8_all (integer_literal integer)) f.new }
 {
     write!(f, "{}", integer.value)?;
-    f.write_str(sign_letter(integer.signed))?;
-    f.write_str(width_letters("l", "s", integer.width))
+    f.write_str(integer_letters(integer.signed, integer.width))
 }
 
 // The text of a float, and the letters of its width.
@@ -117,7 +136,7 @@ fn write_float<W: fmt::Write>(float: &Float, f: &mut fmt::Formatter<W>) -> fmt::
         (encode_utf8_all (float_literal float.now.text float.now.width)) f.new }
 {
     f.write_str(float.text.as_str())?;
-    f.write_str(width_letters("lf", "hf", float.width))
+    f.write_str(float_letters(float.width))
 }
 
 // The spelling of an ordinary token, and nothing for a directive.

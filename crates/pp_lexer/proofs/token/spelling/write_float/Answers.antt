@@ -12,6 +12,6 @@ returns g c = λ plain ok.
     let text = c.in_ok-write_str.ensures.writes plain refl in
     let width = c.write_str-2.ensures.writes text.plain ok in
     let bytes = encodes-chars c.as_str.result.now c.as_str.utf8 in
-    let e : c.as_str.result.now ++ c.width_letters.result.now ≡ encode_utf8_all (float_literal float.text float.width) =
+    let e : c.as_str.result.now ++ c.float_letters.result.now ≡ encode_utf8_all (float_literal float.text float.width) =
     grind (arith, float_bytes) in
     has_written_of_eq _ _ _ _ _ e (has_written_append _ _ _ _ _ _ text width)

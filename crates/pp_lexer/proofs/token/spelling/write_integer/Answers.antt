@@ -9,8 +9,6 @@ use Rattle.pp_lexer.proofs.token.spelling.write_integer.Goals as goal
 pub returns : goal.returns
 returns g c = λ plain ok.
     let digits = c.in_ok-write.ensures.writes plain refl in
-    let sign = c.in_ok-write_str.ensures.writes digits.plain refl in
-    let width = c.write_str-2.ensures.writes sign.plain ok in
-    let e : (decimal c.args.integer.value ++ c.sign_letter.result.now) ++ c.width_letters.result.now ≡ encode_utf8_all (integer_literal c.args.integer) =
-    grind (arith, integer_bytes) in
-    has_written_of_eq _ _ _ _ _ e (has_written_append _ _ _ _ _ _ (has_written_append _ _ _ _ _ _ digits sign) width)
+    let letters = c.write_str.ensures.writes digits.plain ok in
+    let e : decimal c.args.integer.value ++ c.integer_letters.result.now ≡ encode_utf8_all (integer_literal c.args.integer) = grind (arith, integer_bytes) in
+    has_written_of_eq _ _ _ _ _ e (has_written_append _ _ _ _ _ _ digits letters)
