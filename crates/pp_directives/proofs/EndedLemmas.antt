@@ -1,5 +1,6 @@
 -- In the items of a text each line ends: an item that doesn't end its line is followed by another.
 use Rattle.std.proofs.Common.{◌≡◌, ◌≢◌, ◌∙◌, Bool, true, false, List, [], ◌∷◌, ◌++◌, sym, ap, refl, subst}
+use Rattle.pp_lexer.specs.Rules.{pp_rs}
 use Rattle.pp_lexer.specs.declared.lexer.char_iterator.Spot.{Spot}
 use Rattle.pp_lexer.specs.declared.lexer.Flags.{Flags}
 use Rattle.pp_lexer.specs.Lexed.{Seen, start_of, after_first_item}
@@ -35,7 +36,7 @@ start_ended ss =
     let f : Flags = record { leading_whitespace = true; start_of_line = true; had_comments = false } in
     let last : Spot = record { c = 0; line = 0; begin = 0; end = 0 } in
     let r : Reading = record { rest = ss; last = last } in
-    subst AreEnded (ap (λ l. l.rest) (start_seen r ss last refl)) (ended_from (segments ss) f last).0
+    subst AreEnded (ap (λ l. l.rest) (start_seen pp_rs r ss last refl)) (ended_from (segments pp_rs ss) f last).0
 
 -- and after the first of them
 pub ended_after : (items : List Seen) → AreEnded items → AreEnded (after_first_item items)

@@ -2,6 +2,7 @@
 -- error is before it on its line.
 use Rattle.std.proofs.Common.{◌≡◌, ◌∙◌, ℕ, zero, suc, Bool, true, false, ◌&&◌, List, [], ◌∷◌, ◌++◌, drop, refl, sym, ap, subst}
 use Rattle.std.specs.Prelude.{Result, Ok, Err}
+use Rattle.pp_lexer.specs.Rules.{pp_rs}
 use Rattle.pp_lexer.specs.declared.lexer.char_iterator.Spot.{Spot}
 use Rattle.pp_lexer.specs.declared.lexer.Flags.{Flags}
 use Rattle.pp_lexer.specs.declared.lexer.item.TokenValue.{TokenValue}
@@ -70,7 +71,7 @@ lined_at_start ss =
     let f : Flags = record { leading_whitespace = true; start_of_line = true; had_comments = false } in
     let last : Spot = record { c = 0; line = 0; begin = 0; end = 0 } in
     let r : Reading = record { rest = ss; last = last } in
-    subst AreLined (ap (λ l. l.rest) (start_seen r ss last refl)) (lined_from (segments ss) f last).0
+    subst AreLined (ap (λ l. l.rest) (start_seen pp_rs r ss last refl)) (lined_from (segments pp_rs ss) f last).0
 
 -- so in the items of a text they stand only where a line begins
 pub items_lined : (text : List ℕ) → AreLined (items_of text)

@@ -1,5 +1,6 @@
 -- What reading does to the errors of the lexer that were not reported yet.
 use Rattle.std.proofs.Common.{◌≡◌, List, [], ◌∷◌, map, refl, subst, Result}
+use Rattle.pp_lexer.specs.Rules.{pp_rs}
 use Rattle.pp_lexer.specs.Items.{Item, items_of, places_of}
 use Rattle.pp_lexer.specs.ItemLaws.{StandAt}
 use Rattle.pp_lexer.specs.Lexed.{Seen, seen, after_first_item, places_after_first}
@@ -19,7 +20,7 @@ items_have_places (i ∷ items) [] h = absurd h
 items_have_places (i ∷ items) (place ∷ places) h = items_have_places items places h.1
 
 pub start_has_places : (ss : List Spot) → HavePlaces (map seen (items_of ss)) (places_of ss)
-start_has_places ss = items_have_places (items_of ss) (places_of ss) (places_of_items ss)
+start_has_places ss = items_have_places (items_of ss) (places_of ss) (places_of_items pp_rs ss)
 
 -- and those after the first have
 pub places_after : (rest : List Seen) (places : List Location) → HavePlaces rest places → HavePlaces (after_first_item rest) (places_after_first places)

@@ -1,5 +1,5 @@
 -- A text that grows token by token.
-use Rattle.std.proofs.Common.{◌≡◌, ℕ, ◌/◌, ◌%◌, map, lit≤, ◌^◌, ◌<◌, true, false, if◌then◌else◌, List, [], ◌∷◌, ◌++◌, Result, Ok, Err, OnOk, refl, sym, ◌∙◌, ap, append_assoc, length, drop, get_or, ◌+◌, ◌≤◌, arith, suc, subst, All}
+use Rattle.std.proofs.Common.{◌≡◌, ℕ, ℤ, codes, ◌/◌, ◌%◌, map, lit≤, ◌^◌, ◌<◌, true, false, if◌then◌else◌, List, [], ◌∷◌, ◌++◌, Result, Ok, Err, OnOk, refl, sym, ◌∙◌, ap, append_assoc, length, drop, get_or, ◌+◌, ◌≤◌, arith, suc, subst, All}
 use Rattle.std.specs.Prelude.{is_ok, OnErr}
 use Rattle.std.proofs.Math.Nat.{le_refl}
 use Rattle.std.specs.Fmt.{decimal}
@@ -12,13 +12,14 @@ use Rattle.std.proofs.lemmas.Int.Digits.{digits_of_step}
 use Rattle.std.specs.Int.Digits.{digits_of}
 use Rattle.std.proofs.lemmas.Str.{chars-append, chars-IsAscii, chars-nil, encodes-append, encodes-chars, IsCharBoundary-from_take}
 use Rattle.pp_lexer.specs.Punctuators.{punctuator}
-use Rattle.pp_lexer.specs.Spelling.{integer_literal, spelling, spelled_text, values_of}
+use Rattle.pp_lexer.specs.Spelling.{width_letters, integer_letters, integer_literal, spelling, spelled_text, values_of}
 use Rattle.pp_lexer.specs.declared.token.Integer.{Integer}
 use Rattle.pp_lexer.specs.declared.token.Punct.{Punct}
 use Rattle.pp_lexer.specs.declared.token.Punct.TheVariants.{AddAssign}
 use Rattle.pp_lexer.specs.TokenValue.{is_ordinary}
 use Rattle.pp_lexer.specs.declared.token.Token.{Token}
 use Rattle.pp_lexer.specs.declared.token.TokenValue.{TokenValue}
+use Rattle.pp_lexer.proofs.spelling.ItemTextLemmas.{integer_letters_ascii, float_letters_ascii}
 use Rattle.pp_lexer.specs.declared.token.TokenValue.TheVariants.{Ident, Integer as IntegerValue, Float, Punct as PunctValue}
 
 -- each punctuator is plain ASCII
@@ -36,13 +37,28 @@ module _ (i : Integer) (old digits : List ℕ) (u : IsUtf8 old) (fits : i.value 
   pub chars-digits : chars digits ≡ chars old ++ decimal i.value
   chars-digits = ap chars written ∙ chars-append old (decimal i.value) u ∙ ap (λ t. chars old ++ t) (chars-decimal i.value fits)
 
-  pub signed-pushed : i.signed ≡ true → chars digits ≡ chars old ++ integer_literal i
-  signed-pushed e = rw e (chars-digits ∙ ap (λ t. chars old ++ t) (sym (append-nil (decimal i.value))))
+-- and its letters after these
+pub integer-pushed : {E : Type 0} (r : Result (Unit {0}) E) (i : Integer) (new digits old letters : List ℕ) → IsUtf8 old → IsUtf8 digits
+    → i.value < 2 ^ 64 → digits ≡ old ++ decimal i.value → letters ≡ integer_letters i.signed i.width
+    → new ≡ (if is_ok r then digits ++ letters else digits) → OnOk r (chars new ≡ chars old ++ integer_literal i)
+integer-pushed (Ok x) i new digits old letters u v fits written l e =
+    let same : chars letters ≡ integer_letters i.signed i.width =
+    ap chars l ∙ chars-IsAscii (integer_letters i.signed i.width) (integer_letters_ascii i.signed i.width) in
+    ap chars e ∙ chars-append digits letters v ∙ (λ k. chars-digits i old digits u fits written k ++ same k)
+    ∙ append_assoc (chars old) (decimal i.value) (integer_letters i.signed i.width)
+integer-pushed (Err x) i new digits old letters u v fits written l e = tt
 
-  pub unsigned-pushed : (new : List ℕ) → IsUtf8 digits → i.signed ≡ false → new ≡ digits ++ (117 ∷ []) → chars new ≡ chars old ++ integer_literal i
-  unfolding chars
-  unsigned-pushed new v e f = rw e (ap chars f ∙ chars-append digits (117 ∷ []) v ∙ ap (λ t. t ++ (117 ∷ [])) chars-digits
-      ∙ append_assoc (chars old) (decimal i.value) (117 ∷ []))
+-- two texts put after another
+pub both-pushed : {E : Type 0} (r : Result (Unit {0}) E) (new mid old first second : List ℕ) → IsUtf8 old → IsUtf8 mid → mid ≡ old ++ first
+    → new ≡ (if is_ok r then mid ++ second else mid) → OnOk r (chars new ≡ chars old ++ (chars first ++ chars second))
+both-pushed (Ok x) new mid old first second u v m e =
+    ap chars e ∙ chars-append mid second v ∙ ap (λ t. t ++ chars second) (ap chars m ∙ chars-append old first u)
+    ∙ append_assoc (chars old) (chars first) (chars second)
+both-pushed (Err x) new mid old first second u v m e = tt
+
+-- the letters of a float's width are plain ASCII
+pub chars-float_letters : (width : ℤ) → chars (width_letters (codes "lf") (codes "hf") width) ≡ width_letters (codes "lf") (codes "hf") width
+chars-float_letters width = chars-IsAscii (width_letters (codes "lf") (codes "hf") width) (float_letters_ascii width)
 
 -- a text put after another puts its characters after those of the other
 pub chars-pushed : {E : Type 0} (r : Result (Unit {0}) E) (new old more : List ℕ) → IsUtf8 old → new ≡ (if is_ok r then old ++ more else old)
@@ -120,6 +136,12 @@ grown new old more e = rw e (take_at old more (length old) refl)
 
 pub not_grown : (new old : List ℕ) → new ≡ old → StartsWith new old
 not_grown new old e = rw e (take_all (length old) old (le_refl (length old)))
+
+-- what was added first is there, if the next was refused
+pub first_grown : {E : Type 0} (r : Result (Unit {0}) E) (new mid old first second : List ℕ) → mid ≡ old ++ first
+    → new ≡ (if is_ok r then mid ++ second else mid) → OnErr r (StartsWith new old)
+first_grown (Ok x) new mid old first second m e = tt
+first_grown (Err x) new mid old first second m e = grown new old first (e ∙ m)
 
 -- a directive has no spelling
 pub unspelled : (value : TokenValue) → is_ordinary value ≡ false → encode_utf8_all (spelling value) ≡ []

@@ -7,17 +7,21 @@ ghost use Rattle.std.specs.Str.{chars};
 ghost use Rattle.pp_lexer.specs.TokenValue.{is_ordinary};
 ghost use Rattle.pp_lexer.specs.PreprocessorError.{out_of_memory};
 ghost use Rattle.pp_lexer.specs.Punctuators.{punctuator};
-ghost use Rattle.pp_lexer.specs.Spelling.{integer_literal, spelling, spelled_text, values_of};
+ghost use Rattle.pp_lexer.specs.Spelling.{integer_literal, float_literal, spelling, spelled_text, values_of};
 
 use crate::pp::token_ref::ValueRef;
-use crate::token::{Integer, Location, PreprocessorError, Punct, Token, TokenValue, out_of_memory};
+use crate::token::{
+    Integer, Location, PreprocessorError, Punct, Token, TokenValue, float_letters, integer_letters,
+    out_of_memory,
+};
 use std::alloc::{AllocError, Global};
 
 /// Returns the text of ordinary tokens, with one space between each two and none at the ends.
 ///
-/// A word and a float have their text, an integer its decimal digits and a `u` if it is unsigned, a
-/// punctuator its characters. No tokens give the empty text. The only error is `OutOfMemory`, with
-/// the place (0, 0, line 1), if an allocation fails.
+/// A word has its text, a float its text and the letters of its width, an integer its decimal
+/// digits, a `u` if it is unsigned and the letter of its width, a punctuator its characters. No
+/// tokens give the empty text. The only error is `OutOfMemory`, with the place (0, 0, line 1), if an
+/// allocation fails.
 pub fn spell_tokens(
     alloc: Global,
     tokens: &[Token],
@@ -88,17 +92,14 @@ fn push_decimal(text: &mut String, value: u64) -> Result<(), AllocError>
     Ok(())
 }
 
-// Appends the digits of an integer, and a `u` if it is unsigned. If memory runs out, the first of them may be there.
+// Appends the digits of an integer, and its letters. If memory runs out, the first of them may be there.
 fn push_digits(text: &mut String, integer: Integer) -> Result<(), AllocError>
     ensures appended { OnOk result (chars (string_bytes text.new)
         ≡ chars (string_bytes text.old) ++ integer_literal integer) }
     ensures refused { OnErr result (StartsWith (string_bytes text.new) (string_bytes text.old)) }
 {
     push_decimal(text, integer.value)?;
-    if !integer.signed {
-        text.push('u')?;
-    }
-    Ok(())
+    text.push_str(integer_letters(integer.signed, integer.width))
 }
 
 // Appends an integer. If memory runs out, what was appended is taken back.
@@ -109,6 +110,32 @@ pub(crate) fn push_integer(text: &mut String, integer: Integer) -> Result<(), Al
 {
     let length = text.len();
     if let Err(refused) = push_digits(text, integer) {
+        text.truncate(length);
+        return Err(refused);
+    }
+    Ok(())
+}
+
+// Appends two texts. If memory runs out, the first of them may be there.
+#[inline(always)]
+fn push_both(text: &mut String, first: &str, second: &str) -> Result<(), AllocError>
+    ensures appended { OnOk result (chars (string_bytes text.new)
+        ≡ chars (string_bytes text.old) ++ (chars first.now ++ chars second.now)) }
+    ensures refused { OnErr result (StartsWith (string_bytes text.new) (string_bytes text.old)) }
+{
+    text.push_str(first)?;
+    text.push_str(second)
+}
+
+// Appends a float: its text and the letters of its width. If memory runs out, what was appended is taken back.
+#[inline(always)]
+pub(crate) fn push_float(text: &mut String, digits: &str, width: i32) -> Result<(), AllocError>
+    ensures appended { OnOk result (chars (string_bytes text.new)
+        ≡ chars (string_bytes text.old) ++ float_literal (chars digits.now) width) }
+    ensures refused { OnErr result (string_bytes text.new ≡ string_bytes text.old) }
+{
+    let length = text.len();
+    if let Err(refused) = push_both(text, digits, float_letters(width)) {
         text.truncate(length);
         return Err(refused);
     }

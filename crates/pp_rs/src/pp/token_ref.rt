@@ -9,7 +9,7 @@ ghost use Rattle.pp_rs.specs.inner.NextWord.{IsPlain};
 ghost use Rattle.pp_rs.specs.TokenRefs.{TakesText, token_of, value_of};
 
 use crate::lexer::{Form, PlainItem, without_suffix};
-use crate::pp::spelling::{push_integer, push_punct};
+use crate::pp::spelling::{push_float, push_integer, push_punct};
 use crate::token::{Integer, Location, Punct, Token, TokenValue};
 use std::alloc::AllocError;
 
@@ -104,7 +104,7 @@ impl<'a> ValueRef<'a> {
         match self {
             ValueRef::Ident(name) => text.push_str(name),
             ValueRef::Integer(integer) => push_integer(text, integer),
-            ValueRef::Float(digits, _) => text.push_str(digits),
+            ValueRef::Float(digits, width) => push_float(text, digits, width),
             ValueRef::Punct(punct) => push_punct(text, punct),
         }
     }

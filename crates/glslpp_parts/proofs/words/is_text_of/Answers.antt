@@ -3,7 +3,7 @@ use Rattle.std.specs.Cmp.Lexicographic.{bytes_decides}
 use Rattle.std.specs.Str.{chars}
 use Rattle.pp_lexer.specs.declared.token.TokenValue.TheVariants.{Ident, Integer, Float, Punct}
 use Rattle.pp_rs.proofs.runs.SpellingLemmas.{chars-punctuator, chars-decimal}
-use Rattle.glslpp_parts.proofs.SpelledLemmas.{spelled_read, signed_literal}
+use Rattle.glslpp_parts.proofs.SpelledLemmas.{spelled_read, signed_literal, usual_float}
 use Rattle.glslpp_parts.proofs.words.is_text_of.Goals as goal
 
 pub returns-in-Ident : goal.returns-in-Ident
@@ -23,13 +23,13 @@ returns-in-Integer c =
     rw c.in-Integer.is
     (λ _ h. spelled_read (Integer c.in-Integer.integer) c.args.word.now c.utf8.word
     (ap chars (sym c.as_bytes.ensures.value ∙ c.is_decimal.ensures c.if-is_decimal.true) ∙ chars-decimal c.in-Integer.integer.value h.0
-    ∙ sym (signed_literal c.in-Integer.integer c.if-integer.true)) h)
+    ∙ sym (signed_literal c.in-Integer.integer c.if-integer.true h.1)) h)
 
 pub returns-in-Float : goal.returns-in-Float
 returns-in-Float c =
-    rw c.in-Float.is (λ _.
+    rw c.in-Float.is (λ _ h.
     let is = c.in-Float.text-is in
     let known = (bytes_decides _ c.args.word.now).0 (sym (c.if-eq.ensures {u = tt})) in
     let same : c.in-Float.text.now ≡ c.args.word.now = cc in
     spelled_read (Float (record { text = chars c.in-Float.text.now; width = c.in-Float.field-1 })) c.args.word.now c.utf8.word
-    (ap chars (sym same)))
+    (ap chars (sym same) ∙ sym (usual_float (chars c.in-Float.text.now) c.in-Float.field-1 h.2)) h)

@@ -1,17 +1,12 @@
-use Rattle.std.proofs.Common.{◌++◌, ap, ◌∙◌, arith, rules}
-use Rattle.std.specs.String.{string_bytes}
+use Rattle.std.proofs.Common.{rules}
 use Rattle.std.proofs.lemmas.Str.{IsUtf8-string_bytes}
-use Rattle.pp_rs.proofs.runs.SpellingLemmas.{unsigned-pushed, signed-pushed}
+use Rattle.pp_rs.proofs.runs.SpellingLemmas.{integer-pushed, first_grown}
 use Rattle.pp_rs.proofs.pp.spelling.push_digits.Goals as goal
 
-pub returns-in_ok-push-clause-appended : goal.returns-in_ok-push-clause-appended
-returns-in_ok-push-clause-appended c =
-    let h = (c.in_ok-push_decimal.ensures {u = tt}).appended in
-    let k = c.in_ok-push.ensures {u = tt} in
-    unsigned-pushed c.args.integer _ _ (IsUtf8-string_bytes c.args.text.now) (search rules) h _
-    (IsUtf8-string_bytes c.push_decimal.new.text) (search rules) (k.bytes ∙ ap (λ t. string_bytes c.push_decimal.new.text ++ t) (k.ascii (omega arith)))
+pub returns-clause-appended : goal.returns-clause-appended
+returns-clause-appended c =
+    integer-pushed c.push_str.result c.args.integer _ _ _ _ (IsUtf8-string_bytes c.args.text.now) (IsUtf8-string_bytes c.push_decimal.new.text)
+    (search rules) (c.in_ok-push_decimal.ensures {u = tt}).appended (search rules) c.push_str.ensures.bytes
 
-pub returns-else-not-integer-clause-appended : goal.returns-else-not-integer-clause-appended
-returns-else-not-integer-clause-appended c =
-    let h = (c.in_ok-push_decimal.ensures {u = tt}).appended in
-    signed-pushed c.args.integer _ _ (IsUtf8-string_bytes c.args.text.now) (search rules) h (search rules)
+pub returns-clause-refused : goal.returns-clause-refused
+returns-clause-refused c = first_grown c.push_str.result _ _ _ _ _ (c.in_ok-push_decimal.ensures {u = tt}).appended c.push_str.ensures.bytes

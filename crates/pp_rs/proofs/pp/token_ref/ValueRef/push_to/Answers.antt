@@ -8,12 +8,7 @@ returns-in-Ident-clause-appended c =
     rw c.in-Ident.is h
 
 pub returns-in-Float-clause-appended : goal.returns-in-Float-clause-appended
-returns-in-Float-clause-appended c =
-    let h = chars-pushed c.push_str-in-Float.result _ _ _ (IsUtf8-string_bytes c.args.text.now) c.push_str-in-Float.ensures.bytes in
-    rw c.in-Float.is h
+returns-in-Float-clause-appended c = rw c.in-Float.is c.push_float.ensures.appended
 
 pub returns-in-Ident-clause-refused : goal.returns-in-Ident-clause-refused
 returns-in-Ident-clause-refused c = not-pushed c.push_str.result _ _ _ c.push_str.ensures.bytes
-
-pub returns-in-Float-clause-refused : goal.returns-in-Float-clause-refused
-returns-in-Float-clause-refused c = not-pushed c.push_str-in-Float.result _ _ _ c.push_str-in-Float.ensures.bytes
