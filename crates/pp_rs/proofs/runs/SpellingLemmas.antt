@@ -1,5 +1,5 @@
 -- A text that grows token by token.
-use Rattle.std.proofs.Common.{◌≡◌, ℕ, ℤ, codes, ◌/◌, ◌%◌, map, lit≤, ◌^◌, ◌<◌, true, false, if◌then◌else◌, List, [], ◌∷◌, ◌++◌, Result, Ok, Err, OnOk, refl, sym, ◌∙◌, ap, append_assoc, length, drop, get_or, ◌+◌, ◌≤◌, arith, suc, subst, All}
+use Rattle.std.proofs.Common.{◌≡◌, ℕ, ℤ, codes, ◌/◌, ◌%◌, map, lit≤, ◌^◌, ◌<◌, false, if◌then◌else◌, List, [], ◌∷◌, ◌++◌, Result, Ok, Err, OnOk, refl, sym, ◌∙◌, ap, append_assoc, length, drop, get_or, ◌+◌, ◌≤◌, arith, suc, subst, All}
 use Rattle.std.specs.Prelude.{is_ok, OnErr}
 use Rattle.std.proofs.Math.Nat.{le_refl}
 use Rattle.std.specs.Fmt.{decimal}

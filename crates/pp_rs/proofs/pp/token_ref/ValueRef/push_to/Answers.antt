@@ -7,8 +7,5 @@ returns-in-Ident-clause-appended c =
     let h = chars-pushed c.push_str.result _ _ _ (IsUtf8-string_bytes c.args.text.now) c.push_str.ensures.bytes in
     rw c.in-Ident.is h
 
-pub returns-in-Float-clause-appended : goal.returns-in-Float-clause-appended
-returns-in-Float-clause-appended c = rw c.in-Float.is c.push_float.ensures.appended
-
 pub returns-in-Ident-clause-refused : goal.returns-in-Ident-clause-refused
 returns-in-Ident-clause-refused c = not-pushed c.push_str.result _ _ _ c.push_str.ensures.bytes
