@@ -147,6 +147,9 @@ fn widths_are_spelled(rt: HostRuntime) -> Result<(), Fail> {
         let spelled = format!(in alloc; "{value} ")?;
         shown.push_str(spelled.as_str())?;
     }
-    assert!(rt; shown.as_str() == "1.0lf 1.0hf 1.0 7ul 8l 3s 4us 5u 6 ", "{shown}");
+    assert!(rt;
+        shown.as_str() == "1.0lf 1.0hf 1.0 7ul 8l 3s 4us 5u 6 ",
+        "{shown}"
+    );
     Ok(())
 }

@@ -107,7 +107,8 @@ module _ (rules : Rules) (f : Flags) (r q : Reading) (line at n : ℕ) (text res
       ∙ ap (λ o. advanced o.taken r) (sym word)
 
   -- its place is noted
-  pub placed_newline : (old : Location) → IsPlaced rules f r old (record { leading_whitespace = true; start_of_line = true; had_comments = f.had_comments }) q
+  pub placed_newline : (old : Location)
+      → IsPlaced rules f r old (record { leading_whitespace = true; start_of_line = true; had_comments = f.had_comments }) q
       (record { start = at; end = at + 1; line = line })
   unfolding first
   placed_newline old =

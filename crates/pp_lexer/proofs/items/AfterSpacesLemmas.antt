@@ -55,7 +55,10 @@ module _ (line at n : ℕ) (text rest : List ℕ) (r : Reading) (left : IsLeft l
   after_some = record {
     there = after;
     left = left_after;
-    seen = λ rules f. ap (λ g. seen_of rules g after) (spaced_is f) ∙ spaces_same rules f r line at text left.rest_is u after n some le passes after_is;
-    at_end = λ rules f. ap (λ g. comments_at_end rules g after) (spaced_is f) ∙ spaces_comments rules f r line at text left.rest_is u after n some le passes after_is;
-    places = λ rules f. ap (λ g. places_left rules g after) (spaced_is f) ∙ spaces_placed rules f r line at text left.rest_is u after n some le passes after_is;
+    seen = λ rules f. ap (λ g. seen_of rules g after) (spaced_is f)
+        ∙ spaces_same rules f r line at text left.rest_is u after n some le passes after_is;
+    at_end = λ rules f. ap (λ g. comments_at_end rules g after) (spaced_is f)
+        ∙ spaces_comments rules f r line at text left.rest_is u after n some le passes after_is;
+    places = λ rules f. ap (λ g. places_left rules g after) (spaced_is f)
+        ∙ spaces_placed rules f r line at text left.rest_is u after n some le passes after_is;
   }

@@ -33,4 +33,5 @@ nowhere_spot = record { c = 0; line = 0; begin = 0; end = 0 }
 pub places_of_items : (rules : Rules) (ss : List Spot) → StandAt (items_by rules ss) (places_by rules ss)
 places_of_items rules ss =
     subst (λ items. StandAt items (places_by rules ss)) (sym (items_at_start rules ss))
-    (subst (StandAt (items_from [] (segments rules ss))) (sym (places_at_start rules ss nowhere_spot)) (items_stand (segments rules ss) [] nowhere_spot))
+    (subst (StandAt (items_from [] (segments rules ss))) (sym (places_at_start rules ss nowhere_spot))
+    (items_stand (segments rules ss) [] nowhere_spot))

@@ -35,7 +35,8 @@ items_surrounded (g ∷ gs) before =
     ∙ ap (λ xs. item_at before g g.kind ++ xs) (items_surrounded gs (g ∷ before))
 
 pub items_at_start : (rules : Rules) (ss : List Spot) → items_by rules ss ≡ items_from [] (segments rules ss)
-items_at_start rules ss = ap (λ xs. flat_map item_of (surrounded (segments rules ss)) ++ final_newline xs) (sym (append-nil (reverse (segments rules ss))))
+items_at_start rules ss = ap (λ xs. flat_map item_of (surrounded (segments rules ss)) ++ final_newline xs)
+    (sym (append-nil (reverse (segments rules ss))))
     ∙ items_surrounded (segments rules ss) []
 
 -- the flags of a lexer after these segments
@@ -98,7 +99,8 @@ places_surrounded (g ∷ gs) before s =
     ∙ ap (λ xs. places_at g g.kind ++ xs) (places_surrounded gs (g ∷ before) s ∙ ap (λ f. places_from f g.last gs) (flags_step g.kind g.first g.last before))
 
 pub places_at_start : (rules : Rules) (ss : List Spot) (s : Spot) → places_by rules ss ≡ places_from (flags_after []) s (segments rules ss)
-places_at_start rules ss s = ap (λ xs. flat_map (λ g. places_at g g.kind) (segments rules ss) ++ final_place xs) (sym (append-nil (reverse (segments rules ss))))
+places_at_start rules ss s = ap (λ xs. flat_map (λ g. places_at g g.kind) (segments rules ss) ++ final_place xs)
+    (sym (append-nil (reverse (segments rules ss))))
     ∙ places_surrounded (segments rules ss) [] s
 
 pub start_seen : (rules : Rules) (r : Reading) (ss : List Spot) (last : Spot) → r ≡ record { rest = ss; last = last }
@@ -116,5 +118,13 @@ start_seen rules r ss last e =
     }) (sym (places_at_start rules ss last))
     ∙ ap (λ xs. record { rest = xs; had_comments = false; at_end = at_end; spent = false; place = nowhere; places = places_by rules ss; rules = rules })
     (sym (ap (map seen) (items_at_start rules ss) ∙ items_seen (segments rules ss) [] last))
-    ∙ ap (λ b. record { rest = map seen (items_by rules ss); had_comments = false; at_end = b; spent = false; place = nowhere; places = places_by rules ss; rules = rules })
+    ∙ ap (λ b. record {
+      rest = map seen (items_by rules ss);
+      had_comments = false;
+      at_end = b;
+      spent = false;
+      place = nowhere;
+      places = places_by rules ss;
+      rules = rules;
+    })
     (sym (comments_some (segments rules ss))))

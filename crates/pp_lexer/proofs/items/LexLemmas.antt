@@ -22,7 +22,8 @@ use Rattle.pp_lexer.proofs.items.SegmentsLemmas.{segments_none, advanced-rest}
 use Rattle.pp_lexer.proofs.items.PassingLemmas.{front_first, last_same}
 
 -- what was skipped before makes no difference
-pub lexed_before : (rules : Rules) (f g h : Flags) (r p q : Reading) (answer : Result (Option Lexeme) AllocError) → seen_of rules g p ≡ seen_of rules f r
+pub lexed_before : (rules : Rules) (f g h : Flags) (r p q : Reading) (answer : Result (Option Lexeme) AllocError)
+    → seen_of rules g p ≡ seen_of rules f r
     → comments_at_end rules g p ≡ comments_at_end rules f r → IsLexed rules g p answer h q → IsLexed rules f r answer h q
 lexed_before rules f g h r p q answer same at_end (inl x) = inl (record {
   value = x.value;
@@ -84,7 +85,8 @@ given_refused e answer (inl h) = cc
 given_refused e answer (inr h) = h.1
 
 -- a token or an error was taken
-pub lexed_front : (rules : Rules) (f : Flags) (r p q : Reading) (first last : Spot) (v : Answer) (answer : Lexeme) (line : Bool) → Some first ≡ first_char r
+pub lexed_front : (rules : Rules) (f : Flags) (r p q : Reading) (first last : Spot) (v : Answer) (answer : Lexeme) (line : Bool)
+    → Some first ≡ first_char r
     → MatchOption (first_char r) ⊤ (λ s. is_blank s.c ≡ false)
     → p ≡ r → IsGiven (Ok v) (word_at rules (letters p.rest)).value → q ≡ advanced (word_at rules (letters p.rest)).taken p → last ≡ q.last
     → answer ≡ lexeme_seen f first last v → line ≡ is_newline_result v
@@ -100,7 +102,8 @@ lexed_refused rules f r p q first e answer here plain same k h = grind (arith, r
 newline_comments : (f : Flags) (last : Spot) (b : Bool) → b ≡ f.had_comments → f.had_comments ≡ comments_before (newline_seen f last) b
 newline_comments f last b h = grind arith
 
-end_at : (rules : Rules) (f g : Flags) (ss : List Spot) (last : Spot) (answer : Option Lexeme) → None ≡ first_of ss → answer ≡ first_item (newline_seen f last)
+end_at : (rules : Rules) (f g : Flags) (ss : List Spot) (last : Spot) (answer : Option Lexeme) → None ≡ first_of ss
+    → answer ≡ first_item (newline_seen f last)
     → newline_seen g last ≡ after_first_item (newline_seen f last)
     → g.had_comments ≡ f.had_comments → IsLexed rules f (record { rest = ss; last = last }) (Ok answer) g (record { rest = ss; last = last })
 end_at rules f g ss last answer h k e l = grind (arith, segments_none, newline_comments)
@@ -114,7 +117,8 @@ lexed_end rules f g r p last answer e same l a n c = grind (arith, end_at)
 -- Where the item that was taken stands
 
 -- what was skipped before makes no difference
-pub placed_before : (rules : Rules) (f g h : Flags) (r p q : Reading) (old mid new : Location) → places_left rules g p ≡ places_left rules f r → mid ≡ old
+pub placed_before : (rules : Rules) (f g h : Flags) (r p q : Reading) (old mid new : Location) → places_left rules g p ≡ places_left rules f r
+    → mid ≡ old
     → IsPlaced rules g p mid h q new → IsPlaced rules f r old h q new
 placed_before rules f g h r p q old mid new same e x = grind arith
 
@@ -123,17 +127,21 @@ pub placed_refused : {T E : Type 0} (answer : Result T E) (P : Type 0) → IsErr
 placed_refused (Ok _) P h = cc
 placed_refused (Err _) P h = tt
 
-placed_at : (rules : Rules) (f : Flags) (ss : List Spot) (last : Spot) (q : Reading) (first : Spot) (r : Answer) (old : Location) → Some first ≡ first_of ss
+placed_at : (rules : Rules) (f : Flags) (ss : List Spot) (last : Spot) (q : Reading) (first : Spot) (r : Answer) (old : Location)
+    → Some first ≡ first_of ss
     → MatchOption (first_of ss) ⊤ (λ s. is_blank s.c ≡ false)
     → r ≡ (word_at rules (letters ss)).value → q ≡ advanced (word_at rules (letters ss)).taken (record { rest = ss; last = last })
-    → IsPlaced rules f (record { rest = ss; last = last }) old (passed f (item r)) q (record { start = first.begin; end = q.last.end; line = first.line })
+    → IsPlaced rules f (record { rest = ss; last = last }) old (passed f (item r)) q
+    (record { start = first.begin; end = q.last.end; line = first.line })
 unfolding value after
 placed_at rules f ss last q first r old h k e l = grind (arith, places_front)
 
 -- a token or an error
-pub placed_front : (rules : Rules) (f : Flags) (r p q : Reading) (first last : Spot) (v : Answer) (line : Bool) (old : Location) → Some first ≡ first_char r
+pub placed_front : (rules : Rules) (f : Flags) (r p q : Reading) (first last : Spot) (v : Answer) (line : Bool) (old : Location)
+    → Some first ≡ first_char r
     → MatchOption (first_char r) ⊤ (λ s. is_blank s.c ≡ false)
-    → p ≡ r → IsGiven (Ok v) (word_at rules (letters p.rest)).value → q ≡ advanced (word_at rules (letters p.rest)).taken p → last ≡ q.last → line ≡ is_newline_result v
+    → p ≡ r → IsGiven (Ok v) (word_at rules (letters p.rest)).value → q ≡ advanced (word_at rules (letters p.rest)).taken p → last ≡ q.last
+    → line ≡ is_newline_result v
     → IsPlaced rules f r old (record { leading_whitespace = line; start_of_line = line; had_comments = f.had_comments }) q
     (record { start = first.begin; end = last.end; line = first.line })
 placed_front rules f r p q first last v line old e plain same h k l n =

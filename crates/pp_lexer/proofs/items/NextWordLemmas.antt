@@ -20,7 +20,8 @@ use Rattle.pp_lexer.proofs.items.LexLemmas.{lexed_before, placed_before}
 use Rattle.pp_lexer.proofs.items.PlainLexLemmas.{lexed_plain, placed_plain}
 
 -- what is given was taken
-pub taken : (rules : Rules) (f g : Flags) (r q : Reading) (item : Lexeme) → IsLexed rules f r (Ok (Some item)) g q → IsLexTaken rules f r g q (Ok (Some item))
+pub taken : (rules : Rules) (f g : Flags) (r q : Reading) (item : Lexeme) → IsLexed rules f r (Ok (Some item)) g q
+    → IsLexTaken rules f r g q (Ok (Some item))
 taken rules f g r q item (inl h) = let refused = h.value in cc
 taken rules f g r q item (inr h) = h
 

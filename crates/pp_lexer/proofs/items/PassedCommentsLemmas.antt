@@ -14,7 +14,8 @@ use Rattle.pp_lexer.proofs.items.PassingLemmas.{IsBlanked, blanked, blank_passed
 abbrev pub commented : Flags → Flags
 commented f = record { leading_whitespace = true; start_of_line = f.start_of_line; had_comments = true }
 
-pub comment_passed : (rules : Rules) (f : Flags) (r q : Reading) (line at : ℕ) (text rest : List ℕ) (comment : Comment) → r.rest ≡ spots_from line at text
+pub comment_passed : (rules : Rules) (f : Flags) (r q : Reading) (line at : ℕ) (text rest : List ℕ) (comment : Comment)
+    → r.rest ≡ spots_from line at text
     → IsPlainComment text comment → rest ≡ drop comment.taken text
     → q ≡ record {
       rest = spots_from (line + comment.newlines) (at + comment.taken) rest;

@@ -64,7 +64,8 @@ pub record IsBlanked (rules : Rules) (f g : Flags) (r q : Reading) : Type 0 wher
   pub at_end : comments_at_end rules g q ≡ comments_at_end rules f r
   pub places : places_left rules g q ≡ places_left rules f r
 
-blanked_at : (rules : Rules) (f : Flags) (last : Spot) (ss : List Spot) (c : ℕ) (q : Reading) → Some c ≡ option_map (λ s. s.c) (first_of ss) → true ≡ is_blank c
+blanked_at : (rules : Rules) (f : Flags) (last : Spot) (ss : List Spot) (c : ℕ) (q : Reading) → Some c ≡ option_map (λ s. s.c) (first_of ss)
+    → true ≡ is_blank c
     → q ≡ past ss last
     → IsBlanked rules f (blanked f c) (record { rest = ss; last = last }) q
 blanked_at rules f last ss c q h k e = grind (arith, blank_seen, blank_at_end, blank_places)

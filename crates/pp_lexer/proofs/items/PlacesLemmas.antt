@@ -93,6 +93,7 @@ each_all P [] h = λ k d l. absurd (omega arith)
 each_all P (x ∷ xs) h = All-cons P x xs h.0 (each_all P xs h.1)
 
 -- the tokens of characters whose stretches follow one another lie in the source
-pub items_within : (rules : Rules) (at total : ℕ) (ps : List Placed) → StretchesFollow at total ps → All (λ i. IsWithin total i.item) (items_by rules (spots at ps))
+pub items_within : (rules : Rules) (at total : ℕ) (ps : List Placed) → StretchesFollow at total ps
+    → All (λ i. IsWithin total i.item) (items_by rules (spots at ps))
 unfolding Each segments
 items_within rules at total ps h = grind (arith, each_all, items_at_start, items_lie, segments_lie, ordered_spots)

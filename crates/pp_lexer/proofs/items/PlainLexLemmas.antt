@@ -47,7 +47,8 @@ record PassesSpaces (rules : Rules) (f : Flags) (line at n : ℕ) (text : List �
   at_end : (f.had_comments || list_any (λ g. is_comment g.kind) (segments rules (spots_from line at text)))
       ≡ (f.had_comments || list_any (λ g. is_comment g.kind) (segments rules (advanced_of n (spots_from line at text) last).rest))
   places : places_from f last (segments rules (spots_from line at text))
-      ≡ places_from (spaced f) (advanced_of n (spots_from line at text) last).last (segments rules (advanced_of n (spots_from line at text) last).rest)
+      ≡ places_from (spaced f) (advanced_of n (spots_from line at text) last).last
+      (segments rules (advanced_of n (spots_from line at text) last).rest)
 
 spaces_passed : (rules : Rules) (f : Flags) (line at n : ℕ) (text : List ℕ) (last : Spot) → IsUtf8 text → 0 < n → n ≤ length text
     → list_all is_space (take n text) ≡ true → PassesSpaces rules f line at n text last
@@ -104,7 +105,8 @@ module _ (rules : Rules) (f : Flags) (r : Reading) (line at : ℕ) (text : List 
     unfolding first
     lexed_plain q k =
         let last : Spot = record { c = get_or text (n - 1) 0; line = line; begin = at + n - 1; end = at + n } in
-        let word : word_at rules (letters r.rest) ≡ record { value = Ok value; taken = n } = ap (λ ss. word_at rules (letters ss)) e ∙ w.word rules line at in
+        let word : word_at rules (letters r.rest) ≡ record { value = Ok value; taken = n } = ap (λ ss. word_at rules (letters ss)) e
+        ∙ w.word rules line at in
         lexed_front rules f r r q first last (Ok value) _ false here (no_blank_first first (first_char r) here w.no_blank) refl
         (inl (ap (λ o. Ok o.value) (sym word))) (there q k) (ap (λ x. x.last) (sym k)) refl (sym w.no_newline)
 
@@ -119,7 +121,8 @@ module _ (rules : Rules) (f : Flags) (r : Reading) (line at : ℕ) (text : List 
     unfolding first
     placed_plain q old k =
         let last : Spot = record { c = get_or text (n - 1) 0; line = line; begin = at + n - 1; end = at + n } in
-        let word : word_at rules (letters r.rest) ≡ record { value = Ok value; taken = n } = ap (λ ss. word_at rules (letters ss)) e ∙ w.word rules line at in
+        let word : word_at rules (letters r.rest) ≡ record { value = Ok value; taken = n } = ap (λ ss. word_at rules (letters ss)) e
+        ∙ w.word rules line at in
         placed_front rules f r r q first last (Ok value) false old here (no_blank_first first (first_char r) here w.no_blank) refl
         (inl (ap (λ o. Ok o.value) (sym word))) (there q k) (ap (λ x. x.last) (sym k)) (sym w.no_newline)
 
@@ -133,7 +136,8 @@ module _ (rules : Rules) (f : Flags) (r : Reading) (line at : ℕ) (text : List 
 
     pub spaces_same : seen_of rules (spaced f) q ≡ seen_of rules f r
     spaces_same =
-        ap (seen_of rules (spaced f)) moved ∙ sym (spaces_passed rules f line at n text r.last u more le passes).seen ∙ ap (λ ss. seen_from f r.last (segments rules ss)) (sym e)
+        ap (seen_of rules (spaced f)) moved ∙ sym (spaces_passed rules f line at n text r.last u more le passes).seen
+        ∙ ap (λ ss. seen_from f r.last (segments rules ss)) (sym e)
 
     pub spaces_placed : places_left rules (spaced f) q ≡ places_left rules f r
     spaces_placed =

@@ -26,7 +26,8 @@ pub segments_none : (rules : Rules) → segments rules [] ≡ []
 unfolding segments
 segments_none rules = refl
 
-pub segments_first : (rules : Rules) (s : Spot) (ss : List Spot) → segments rules (s ∷ ss) ≡ segment_at rules s ss ∷ segments rules (drop (taken_by rules s ss) (s ∷ ss))
+pub segments_first : (rules : Rules) (s : Spot) (ss : List Spot)
+    → segments rules (s ∷ ss) ≡ segment_at rules s ss ∷ segments rules (drop (taken_by rules s ss) (s ∷ ss))
 unfolding segments
 segments_first rules s ss = grind (arith, taken_some, length-drop, segments_enough)
 

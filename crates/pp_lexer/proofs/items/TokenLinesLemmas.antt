@@ -151,4 +151,5 @@ lines-items_of rules total ss h =
 
 -- each token of a source has a line that is at least 1, and at most one more than the source's bytes
 pub tokens_have_lines : TokensHaveLines
-tokens_have_lines rules source u = lines-items_of rules (length source) (spots_of source) (lines-spots 0 (length source) (replaced_of source) (lines-replaced_of source u))
+tokens_have_lines rules source u = lines-items_of rules (length source) (spots_of source)
+    (lines-spots 0 (length source) (replaced_of source) (lines-replaced_of source u))

@@ -63,7 +63,8 @@ module _ (n x : ℕ) (w : List ℕ) (t : IsHexText n x w) where
   hex_word rules cs e = number_of rules (48 ∷ x ∷ w) cs refl (word_len cs e)
 
 -- no float
-no_float : (rules : Rules) (u cs : List ℕ) → list_any (is_float_mark (begins_hex u)) u ≡ false → number_outcome rules u cs ≡ integer_outcome rules u cs
+no_float : (rules : Rules) (u cs : List ℕ) → list_any (is_float_mark (begins_hex u)) u ≡ false
+    → number_outcome rules u cs ≡ integer_outcome rules u cs
 no_float rules u cs e = rw e refl
 
 marks : (b : Bool) (x : ℕ) (w : List ℕ) → b ≡ true → is_x x ≡ true → list_all is_hex w ≡ true → list_any (is_float_mark b) (48 ∷ x ∷ w) ≡ false
@@ -95,15 +96,18 @@ hex_unsigned_ends u cs h =
     either_letter (λ c. NoHexMore (c ∷ cs)) u 117 85 h (record { hex = refl; point = refl }) (record { hex = refl; point = refl })
 
 module _ (cs : List ℕ) (h : begins_with continues_number cs ≡ false) (n : ℕ) (w : List ℕ) (t : IsHexWord n w) where
-  hex_at : (rules : Rules) → word_at rules (w ++ cs) ≡ record { value = Ok (Integer (record { value = n; signed = true; width = pos 32 })); taken = length w }
+  hex_at : (rules : Rules)
+      → word_at rules (w ++ cs) ≡ record { value = Ok (Integer (record { value = n; signed = true; width = pos 32 })); taken = length w }
   hex_at rules =
       t.word rules cs (record { hex = ends_class is_hex no_hex cs h; point = ends_class is_point no_point cs h })
       ∙ integer_alone rules w cs _ (ends_class is_l no_l cs h) (t.value true (pos 32)) (ends_class is_s no_s cs h) (ends_class is_u no_u cs h)
 
   hex_unsigned_at : (rules : Rules) (u : ℕ) → is_u u ≡ true
-      → word_at rules ((w ++ u ∷ []) ++ cs) ≡ record { value = Ok (Integer (record { value = n; signed = false; width = pos 32 })); taken = length w + 1 }
+      → word_at rules ((w ++ u ∷ []) ++ cs)
+      ≡ record { value = Ok (Integer (record { value = n; signed = false; width = pos 32 })); taken = length w + 1 }
   hex_unsigned_at rules u e =
-      ap (word_at rules) (append_assoc w (u ∷ []) cs) ∙ t.word rules (u ∷ cs) (hex_unsigned_ends u cs e) ∙ integer_unsigned rules w cs _ (ends_class is_l no_l cs h) u (t.value false (pos 32)) (ends_class is_s no_s cs h) e
+      ap (word_at rules) (append_assoc w (u ∷ []) cs) ∙ t.word rules (u ∷ cs) (hex_unsigned_ends u cs e)
+      ∙ integer_unsigned rules w cs _ (ends_class is_l no_l cs h) u (t.value false (pos 32)) (ends_class is_s no_s cs h) e
 
 hex_split : (n : ℕ) (text : List ℕ) → BeginsHex text → take (n + 2) text ≡ 48 ∷ get_or text 1 0 ∷ take n (drop 2 text)
 hex_split n text h = grind arith

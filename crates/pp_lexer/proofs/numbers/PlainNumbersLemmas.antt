@@ -92,7 +92,8 @@ module _ (cs : List ℕ) (h : begins_with is_decimal cs ≡ false) where
       by false z = digit_number_len ((c ∷ w) ++ cs) begins (point_apart c d) z ∙ digits_len (c ∷ w) (and_from (is_decimal c) (list_all is_decimal w) d all)
 
 -- a number of that many characters
-pub number_of : (rules : Rules) (w cs : List ℕ) → begins_number (w ++ cs) ≡ true → longest is_number (w ++ cs) ≡ length w → word_at rules (w ++ cs) ≡ number_outcome rules w cs
+pub number_of : (rules : Rules) (w cs : List ℕ) → begins_number (w ++ cs) ≡ true → longest is_number (w ++ cs) ≡ length w
+    → word_at rules (w ++ cs) ≡ number_outcome rules w cs
 unfolding number_at
 number_of rules w cs b n = grind (arith, number_first, take_seam, drop_front)
 
@@ -105,7 +106,8 @@ pub record NoMore (cs : List ℕ) : Type 0 where
   pub point : begins_with is_point cs ≡ false
   pub mark : begins_with is_e cs ≡ false
 
-digits_word : (rules : Rules) (cs w : List ℕ) → NoMore cs → 0 < length w → list_all is_decimal w ≡ true → word_at rules (w ++ cs) ≡ number_outcome rules w cs
+digits_word : (rules : Rules) (cs w : List ℕ) → NoMore cs → 0 < length w → list_all is_decimal w ≡ true
+    → word_at rules (w ++ cs) ≡ number_outcome rules w cs
 digits_word rules cs w h k e = grind (arith, and_parts, decimal_tail_none, exponent_none, number_of, number_len, add-zero)
 
 -- a suffix letter, each also as a capital
@@ -126,12 +128,15 @@ module _ (cs : List ℕ) (h : begins_with continues_number cs ≡ false) where
     taken = length w;
   }
   integer_at rules n w t = digits_word rules cs w ended t.some t.digits ∙ digits_outcome n w t rules cs
-      ∙ integer_alone rules w cs _ (ends_class is_l no_l cs h) (digits_value n w t true (pos 32)) (ends_class is_s no_s cs h) (ends_class is_u no_u cs h)
+      ∙ integer_alone rules w cs _ (ends_class is_l no_l cs h) (digits_value n w t true (pos 32)) (ends_class is_s no_s cs h)
+      (ends_class is_u no_u cs h)
 
   unsigned_at : (rules : Rules) (n u : ℕ) (w : List ℕ) → IsDecimalText n w → is_u u ≡ true
-      → word_at rules ((w ++ u ∷ []) ++ cs) ≡ record { value = Ok (Integer (record { value = n; signed = false; width = pos 32 })); taken = length w + 1 }
+      → word_at rules ((w ++ u ∷ []) ++ cs)
+      ≡ record { value = Ok (Integer (record { value = n; signed = false; width = pos 32 })); taken = length w + 1 }
   unsigned_at rules n u w t e =
-      ap (word_at rules) (append_assoc w (u ∷ []) cs) ∙ digits_word rules (u ∷ cs) w (unsigned_ends u cs e) t.some t.digits ∙ digits_outcome n w t rules (u ∷ cs)
+      ap (word_at rules) (append_assoc w (u ∷ []) cs) ∙ digits_word rules (u ∷ cs) w (unsigned_ends u cs e) t.some t.digits
+      ∙ digits_outcome n w t rules (u ∷ cs)
       ∙ integer_unsigned rules w cs _ (ends_class is_l no_l cs h) u (digits_value n w t false (pos 32)) (ends_class is_s no_s cs h) e
 
 pub take_whole : (n : ℕ) (xs : List ℕ) → length xs ≤ n → take n xs ≡ xs

@@ -42,7 +42,8 @@ pub value_same : (w : List ℕ) → is_float_text w ≡ true → (width : ℤ) �
 value_same w h width = grind (arith, float_text_same)
 
 -- a float is read as itself
-pub spelled_float : (rules : Rules) (f : FloatLiteral) (cs : List ℕ) → is_float_text f.text ≡ true → is_float f.text ≡ true → IsWidth rules f.width → IsBreak cs
+pub spelled_float : (rules : Rules) (f : FloatLiteral) (cs : List ℕ) → is_float_text f.text ≡ true → is_float f.text ≡ true → IsWidth rules f.width
+    → IsBreak cs
     → word_at rules (float_literal f.text f.width ++ cs) ≡ record { value = Ok (Float f); taken = length (float_literal f.text f.width) }
 spelled_float rules f cs h k e b =
     let letters : List ℕ = width_letters (codes "lf") (codes "hf") f.width in

@@ -43,7 +43,8 @@ two_ascii c d h k = IsAscii-cons c (d ∷ []) h (one_ascii d k)
 
 -- with those of an integer
 pub integer_letters_ascii : (signed : Bool) (width : ℤ) → IsAscii (integer_letters signed width)
-integer_letters_ascii signed width = by signed (letters_ascii (codes "l") (codes "s") width (one_ascii 108 (omega arith)) (one_ascii 115 (omega arith)))
+integer_letters_ascii signed width = by signed
+    (letters_ascii (codes "l") (codes "s") width (one_ascii 108 (omega arith)) (one_ascii 115 (omega arith)))
   where
     by : (signed : Bool) → IsAscii (width_letters (codes "l") (codes "s") width) → IsAscii (integer_letters signed width)
     by true h = h

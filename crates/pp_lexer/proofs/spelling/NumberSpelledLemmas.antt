@@ -90,4 +90,5 @@ number_spelled rules w after = by (is_float w) refl
         let signed : Bool = not (begins_with is_u after) in
         let suffix = integer_suffix rules after in
         refused_spelled rules (width_refusal rules is_s (drop suffix.taken after)) (integer_value signed suffix.width w)
-        (integer_spelled rules signed suffix.width (whole (base_of w) (digits_of w)) (integer_width rules after) (whole_small (base_of w) (digits_of w)))
+        (integer_spelled rules signed suffix.width (whole (base_of w) (digits_of w)) (integer_width rules after)
+        (whole_small (base_of w) (digits_of w)))

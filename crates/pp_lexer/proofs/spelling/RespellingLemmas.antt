@@ -39,7 +39,8 @@ abbrev outcome_of : TokenValue → Outcome
 outcome_of v = record { value = Ok (lexer_value v); taken = length (spelling v) }
 
 -- a spelling with a space or the end after it is read as its value
-pub spelled_word : (rules : Rules) (v : TokenValue) (cs : List ℕ) → IsSpellableBy rules v → IsBreak cs → word_at rules (spelling v ++ cs) ≡ outcome_of v
+pub spelled_word : (rules : Rules) (v : TokenValue) (cs : List ℕ) → IsSpellableBy rules v → IsBreak cs
+    → word_at rules (spelling v ++ cs) ≡ outcome_of v
 spelled_word rules (Ident name) cs h k = spelled_identifier rules name cs h.0 k
 spelled_word rules (Integer i) cs h k = spelled_integer rules i cs h.0 h.1 k
 spelled_word rules (Float f) cs h k = spelled_float rules f cs h.0 h.1 h.2 k
@@ -63,7 +64,8 @@ record IsFirst (rules : Rules) (s : Spot) (ss : List Spot) (v : TokenValue) (cs 
   kind : kind_of rules s ss ≡ item (Ok (lexer_value v))
   after : letters (drop (taken_by rules s ss) (s ∷ ss)) ≡ cs
 
-first_value : (rules : Rules) (s : Spot) (ss : List Spot) (v : TokenValue) (cs : List ℕ) → IsSpellableBy rules v → IsBreak cs → letters (s ∷ ss) ≡ spelling v ++ cs → IsFirst rules s ss v cs
+first_value : (rules : Rules) (s : Spot) (ss : List Spot) (v : TokenValue) (cs : List ℕ) → IsSpellableBy rules v → IsBreak cs
+    → letters (s ∷ ss) ≡ spelling v ++ cs → IsFirst rules s ss v cs
 first_value rules s ss v cs h b e = grind (arith, spelled_word, no_word, longest_blank, letters-drop, drop_at)
 
 nothing_read : (rules : Rules) (v : TokenValue) (cs : List ℕ) → IsSpellableBy rules v → IsBreak cs → [] ≡ spelling v ++ cs → ⊥
@@ -75,7 +77,8 @@ values_in is = map (λ i. item_value i.item) is
 
 -- the items of a text, by its first segment
 module _ (rules : Rules) (before : List Segment) (s : Spot) (ss : List Spot) where
-  items_first : (k : Kind) → kind_of rules s ss ≡ k → items_from before (segments rules (s ∷ ss)) ≡ item_at before (segment_at rules s ss) k ++ items_from
+  items_first : (k : Kind) → kind_of rules s ss ≡ k
+      → items_from before (segments rules (s ∷ ss)) ≡ item_at before (segment_at rules s ss) k ++ items_from
       (segment_at rules s ss ∷ before) (segments rules (drop (taken_by rules s ss) (s ∷ ss)))
   unfolding items_from
   items_first k e = grind (arith, segments_first)
@@ -95,12 +98,19 @@ space_passed : (rules : Rules) (before : List Segment) (ss : List Spot) (cs : Li
 space_passed rules before [] cs e = cc
 space_passed rules before (s ∷ ss) cs e =
     let first : s.c ≡ 32 = cc in
-    let here : kind_of rules s ss ≡ blank = ap (λ c. if is_blank c then (if is_mark c then comment else blank) else item (word_at rules (letters (s ∷ ss))).value) first in
-    let one : taken_by rules s ss ≡ 1 = ap (λ c. if is_blank c then 1 else (word_at rules (letters (s ∷ ss))).taken) first in
-    (ss, segment_at rules s ss, cc, items_first rules before s ss blank here ∙ ap (λ n. items_from (segment_at rules s ss ∷ before) (segments rules (drop n (s ∷ ss)))) one)
+    let here : kind_of rules s ss ≡ blank =
+    ap (λ c. if is_blank c then (if is_mark c then comment else blank) else item (word_at rules (letters (s ∷ ss))).value) first in
+    let one : taken_by rules s ss ≡ 1 = ap (λ c. if is_blank c then 1 else (word_at rules (letters (s ∷ ss))).taken) first in (
+      ss,
+      segment_at rules s ss,
+      cc,
+      items_first rules before s ss blank here
+          ∙ ap (λ n. items_from (segment_at rules s ss ∷ before) (segments rules (drop n (s ∷ ss)))) one,
+    )
 
 -- the values of a text after other segments
-read_from : (rules : Rules) (values : List TokenValue) (v : TokenValue) (before : List Segment) (ss : List Spot) → IsSpellableBy rules v → All (IsSpellableBy rules) values
+read_from : (rules : Rules) (values : List TokenValue) (v : TokenValue) (before : List Segment) (ss : List Spot) → IsSpellableBy rules v
+    → All (IsSpellableBy rules) values
     → letters ss ≡ spelled_text (v ∷ values)
     → values_in (items_from before (segments rules ss)) ≡ map Ok (map lexer_value (v ∷ values) ++ NewLine ∷ [])
 read_from rules [] v before [] h k e = absurd (nothing_read rules v [] h tt (e ∙ sym (append-nil (spelling v))))
@@ -108,7 +118,8 @@ read_from rules [] v before (s ∷ ss) h k e =
     let f = first_value rules s ss v [] h tt (e ∙ sym (append-nil (spelling v))) in
     let g : Segment = segment_at rules s ss in
     ap values_in (items_first rules before s ss (item (Ok (lexer_value v))) f.kind)
-    ∙ ap (λ xs. Ok (lexer_value v) ∷ values_in (items_from (g ∷ before) (segments rules xs))) (no_letters (drop (taken_by rules s ss) (s ∷ ss)) f.after)
+    ∙ ap (λ xs. Ok (lexer_value v) ∷ values_in (items_from (g ∷ before) (segments rules xs)))
+    (no_letters (drop (taken_by rules s ss) (s ∷ ss)) f.after)
     ∙ ap (λ xs. Ok (lexer_value v) ∷ xs) (last_newline rules g before (lexer_value v) f.kind (no_newline v))
 read_from rules (u ∷ values) v before [] h k e = absurd (nothing_read rules v (32 ∷ spelled_text (u ∷ values)) h refl e)
 read_from rules (u ∷ values) v before (s ∷ ss) h k e =
@@ -116,14 +127,17 @@ read_from rules (u ∷ values) v before (s ∷ ss) h k e =
     let p = space_passed rules (segment_at rules s ss ∷ before) (drop (taken_by rules s ss) (s ∷ ss)) (spelled_text (u ∷ values)) f.after in
     ap values_in (items_first rules before s ss (item (Ok (lexer_value v))) f.kind)
     ∙ ap (λ xs. Ok (lexer_value v) ∷ values_in xs) p.3
-    ∙ ap (λ xs. Ok (lexer_value v) ∷ xs) (read_from rules values u (p.1 ∷ segment_at rules s ss ∷ before) p.0 (All-head (IsSpellableBy rules) u values k)
+    ∙ ap (λ xs. Ok (lexer_value v) ∷ xs)
+    (read_from rules values u (p.1 ∷ segment_at rules s ss ∷ before) p.0 (All-head (IsSpellableBy rules) u values k)
     (All-tail (IsSpellableBy rules) u values k) p.2)
 
 read_all : (rules : Rules) (values : List TokenValue) (ss : List Spot) → All (IsSpellableBy rules) values → letters ss ≡ spelled_text values
     → values_in (items_by rules ss) ≡ map Ok (map lexer_value values ++ ending values)
 unfolding items_from
-read_all rules [] ss h e = ap (λ xs. values_in (items_by rules xs)) (no_letters ss e) ∙ ap values_in (items_at_start rules [] ∙ ap (items_from []) (segments_none rules))
-read_all rules (v ∷ values) ss h e = ap values_in (items_at_start rules ss) ∙ read_from rules values v [] ss (All-head (IsSpellableBy rules) v values h) (All-tail (IsSpellableBy rules) v values h) e
+read_all rules [] ss h e = ap (λ xs. values_in (items_by rules xs)) (no_letters ss e)
+    ∙ ap values_in (items_at_start rules [] ∙ ap (items_from []) (segments_none rules))
+read_all rules (v ∷ values) ss h e = ap values_in (items_at_start rules ss)
+    ∙ read_from rules values v [] ss (All-head (IsSpellableBy rules) v values h) (All-tail (IsSpellableBy rules) v values h) e
 
 -- values that can be spelled are read back from their spellings
 pub read_back : (rules : Rules) (values : List TokenValue) → All (IsSpellableBy rules) values

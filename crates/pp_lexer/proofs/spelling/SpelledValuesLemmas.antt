@@ -69,7 +69,8 @@ KindIsSpelled rules (item r) = IsSpelled rules r
 kind_spelled : (rules : Rules) (s : Spot) (ss : List Spot) → list_all scalar (letters (s ∷ ss)) ≡ true → KindIsSpelled rules (kind_of rules s ss)
 kind_spelled rules s ss h = grind (arith, place_spelled)
 
-item_spelled : (rules : Rules) (before : List Segment) (g : Segment) (k : Kind) (is : List Item) → KindIsSpelled rules k → All (IsSpelled rules) (values_in is)
+item_spelled : (rules : Rules) (before : List Segment) (g : Segment) (k : Kind) (is : List Item) → KindIsSpelled rules k
+    → All (IsSpelled rules) (values_in is)
     → All (IsSpelled rules) (values_in (item_at before g k ++ is))
 item_spelled rules before g k is h e = grind arith
 
@@ -85,12 +86,14 @@ segments_spelled rules (suc n) before (s ∷ ss) h =
     let rest : List Spot = drop (taken_by rules s ss) (s ∷ ss) in
     let still : list_all scalar (letters rest) ≡ true = ap (list_all scalar) (letters-drop (taken_by rules s ss) (s ∷ ss))
     ∙ drop_scalar (taken_by rules s ss) (letters (s ∷ ss)) h in
-    item_spelled rules before (segment_at rules s ss) (kind_of rules s ss) (items_from (segment_at rules s ss ∷ before) (segments_within rules n rest)) (kind_spelled rules s ss h)
+    item_spelled rules before (segment_at rules s ss) (kind_of rules s ss)
+    (items_from (segment_at rules s ss ∷ before) (segments_within rules n rest)) (kind_spelled rules s ss h)
     (segments_spelled rules n (segment_at rules s ss ∷ before) rest still)
 
 items_spelled : (rules : Rules) (ss : List Spot) → list_all scalar (letters ss) ≡ true → All (IsSpelled rules) (values_in (items_by rules ss))
 unfolding segments
-items_spelled rules ss h = subst (λ is. All (IsSpelled rules) (values_in is)) (sym (items_at_start rules ss)) (segments_spelled rules (length ss) [] ss h)
+items_spelled rules ss h = subst (λ is. All (IsSpelled rules) (values_in is)) (sym (items_at_start rules ss))
+    (segments_spelled rules (length ss) [] ss h)
 
 -- the values of a source's items
 pub values_spelled : (rules : Rules) (source : List ℕ) → IsUtf8 source → All (IsSpelled rules) (read_values_by rules source)

@@ -56,7 +56,8 @@ unfolding is_identifier
 identifier_some w e = some_of is_identifier w refl e
 
 -- an identifier is read as itself
-pub spelled_identifier : (rules : Rules) (w cs : List ℕ) → is_identifier w ≡ true → IsBreak cs → word_at rules (w ++ cs) ≡ record { value = Ok (Ident w); taken = length w }
+pub spelled_identifier : (rules : Rules) (w cs : List ℕ) → is_identifier w ≡ true → IsBreak cs
+    → word_at rules (w ++ cs) ≡ record { value = Ok (Ident w); taken = length w }
 spelled_identifier rules w cs e b = by (begins_identifier (w ++ cs)) refl
   where
     ends : EndsBefore is_identifier cs
@@ -72,7 +73,8 @@ unfolding is_number
 number_some w e = some_of is_number w refl e
 
 -- a number that ends here is read by its spelling and what stands after it
-pub spelled_number : (rules : Rules) (w cs : List ℕ) → is_number w ≡ true → EndsBefore is_number cs → word_at rules (w ++ cs) ≡ number_outcome rules w cs
+pub spelled_number : (rules : Rules) (w cs : List ℕ) → is_number w ≡ true → EndsBefore is_number cs
+    → word_at rules (w ++ cs) ≡ number_outcome rules w cs
 unfolding number_at
 spelled_number rules w cs e ends = grind (arith, no_number_here, taken_before, number_some, after_before, number_first)
 
@@ -137,5 +139,6 @@ spelled_punctuator rules p cs b =
     let ends : EndsBefore is_punctuation cs = ends_at_break is_punctuation punctuation_lacks_space cs b in
     let text : take (longest is_punctuation (w ++ cs)) (w ++ cs) ≡ w = taken_before is_punctuation w (punctuator_some p) (punctuator_word p) cs ends in
     let size : longest is_punctuation (w ++ cs) ≡ length w = longest_before is_punctuation w (punctuator_some p) (punctuator_word p) cs ends in
-    other_first rules (w ++ cs) (no_line_end p cs) (first_begins is_start p cs ∙ punct_no_start p) (no_number p cs (break_begins is_decimal refl cs b))
+    other_first rules (w ++ cs) (no_line_end p cs) (first_begins is_start p cs ∙ punct_no_start p)
+    (no_number p cs (break_begins is_decimal refl cs b))
     ∙ (λ i. punctuation_outcome rules (size i) (punctuation_value (text i))) ∙ ap (punctuation_outcome rules (length w)) (value_of_punctuator p)

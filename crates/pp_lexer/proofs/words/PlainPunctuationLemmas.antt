@@ -88,7 +88,8 @@ starts_nothing c f = ap (λ t. t || (c == 95)) (is_xid_start-ascii c f.small) �
 no_number : (c : ℕ) (cs : List ℕ) → First c → (is_point c && begins_with is_decimal cs) ≡ false → begins_number (c ∷ cs) ≡ false
 no_number c cs f h = or_from (is_decimal c) (is_point c && begins_with is_decimal cs) f.no_decimal h
 
-longest_word : (rules : Rules) (c : ℕ) (cs : List ℕ) (n : ℕ) (p : Punctuator) → First c → (is_point c && begins_with is_decimal cs) ≡ false → IsLongest (c ∷ cs) n (Some p)
+longest_word : (rules : Rules) (c : ℕ) (cs : List ℕ) (n : ℕ) (p : Punctuator) → First c → (is_point c && begins_with is_decimal cs) ≡ false
+    → IsLongest (c ∷ cs) n (Some p)
     → word_at rules (c ∷ cs) ≡ record { value = Ok (Punct p); taken = n }
 longest_word rules c cs n p f h l =
     other_first rules (c ∷ cs) f.no_feed (starts_nothing c f) (no_number c cs f h) ∙ at_punct rules (c ∷ cs) p f.no_hash (sym l.value)
@@ -118,7 +119,8 @@ pair_at : (rules : Rules) (c d : ℕ) (cs : List ℕ) (q : Punctuator) → punct
     → word_at rules (c ∷ d ∷ cs) ≡ record { value = Ok (Punct q); taken = 2 }
 pair_at rules c d cs q two h =
     let one = one_of c d q two in
-    longest_word rules c (d ∷ cs) 2 q (first_of c (d ∷ []) q two) (and_right (is_point c) (is_decimal d) (second_no_decimal c d [] q two)) (by cs h one.0 one.1)
+    longest_word rules c (d ∷ cs) 2 q (first_of c (d ∷ []) q two) (and_right (is_point c) (is_decimal d) (second_no_decimal c d [] q two))
+    (by cs h one.0 one.1)
   where
     by : (cs : List ℕ) → begins_with (continues_pair c d) cs ≡ false → (p : Punctuator) → punct_of (c ∷ []) ≡ Some p → IsLongest (c ∷ d ∷ cs) 2 (Some q)
     by [] h p one = two_at_end c p one d q two

@@ -25,7 +25,8 @@ use Rattle.pp_lexer.proofs.words.WordAtLemmas.{identifier_first}
 -- a word at the front of each text that begins so
 pub word_always : (text : List ℕ) (n : ℕ) (value : TokenValue) → 0 < n → n ≤ length text → IsCharBoundary text n → IsAscii (take n text)
     → IsFront text n → is_blank (get_or text 0 0) ≡ false → is_newline_value value ≡ false
-    → ((rules : Rules) (line at : ℕ) → word_at rules (take n text ++ letters (spots_from line at (drop n text))) ≡ record { value = Ok value; taken = n }) → IsPlainWord text value n
+    → ((rules : Rules) (line at : ℕ)
+    → word_at rules (take n text ++ letters (spots_from line at (drop n text))) ≡ record { value = Ok value; taken = n }) → IsPlainWord text value n
 word_always text n value some le cut ascii front blank newline word = grind (arith, letters-run)
 
 -- a word that ends before each character which fails
@@ -36,13 +37,16 @@ module _ (P : ℕ → Bool) (feed : P 10 ≡ false) (mark : P 13 ≡ false) (tex
 
   pub word_before : (value : TokenValue) → IsCharBoundary text n → IsAscii (take n text) → IsFront text n → is_blank (get_or text 0 0) ≡ false
       → is_newline_value value ≡ false
-      → ((rules : Rules) (cs : List ℕ) → begins_with P cs ≡ false → word_at rules (take n text ++ cs) ≡ record { value = Ok value; taken = n }) → IsPlainWord text value n
+      → ((rules : Rules) (cs : List ℕ) → begins_with P cs ≡ false → word_at rules (take n text ++ cs) ≡ record { value = Ok value; taken = n })
+      → IsPlainWord text value n
   word_before value cut ascii front blank newline word =
-      word_always text n value some le cut ascii front blank newline (λ rules line at. word rules (letters (spots_from line at (drop n text))) (ends_there line at cut))
+      word_always text n value some le cut ascii front blank newline
+      (λ rules line at. word rules (letters (spots_from line at (drop n text))) (ends_there line at cut))
 
   -- one whose bytes no phase looks at
   pub plain_before : (value : TokenValue) → list_all is_plain (take n text) ≡ true → is_blank (get_or text 0 0) ≡ false → is_newline_value value ≡ false
-      → ((rules : Rules) (cs : List ℕ) → begins_with P cs ≡ false → word_at rules (take n text ++ cs) ≡ record { value = Ok value; taken = n }) → IsPlainWord text value n
+      → ((rules : Rules) (cs : List ℕ) → begins_with P cs ≡ false → word_at rules (take n text ++ cs) ≡ record { value = Ok value; taken = n })
+      → IsPlainWord text value n
   plain_before value plain =
       word_before value (cut_after_plain n text u some le plain) (plain_ascii (take n text) plain) (front_plain n text u le plain)
 
@@ -91,4 +95,5 @@ plain_identifier text n u le some b passes stops ends =
     plain_before is_xid_continue (is_xid_continue-ascii 10 (omega arith)) (is_xid_continue-ascii 13 (omega arith)) text n u more le stopped
     (Ident (take n text))
     (all_plain continues continues_plain (take n text) passes) (begins_no_blank (get_or text 0 0) b) refl
-    (λ rules cs k. identifier_of rules (get_or text 0 0) (drop 1 (take n text)) (take n text) cs n (front_of n text more some) (length-take-le n text le) b passes k)
+    (λ rules cs k. identifier_of rules (get_or text 0 0) (drop 1 (take n text)) (take n text) cs n (front_of n text more some)
+    (length-take-le n text le) b passes k)

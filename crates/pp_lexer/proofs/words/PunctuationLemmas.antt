@@ -43,12 +43,14 @@ unfolding is_punctuation
 punct_longest [] h = longest_empty is_punctuation ∙ sym (longest_empty is_punctuator)
 punct_longest (c ∷ cs) h = longest_same is_punctuation is_punctuator c cs (λ w. rw (no_hash c w h) refl)
 
-at_found : (rules : Rules) (cs : List ℕ) (o : Option Punctuator) → begins_with (λ c. c == 35) cs ≡ false → o ≡ punct_of (take (longest is_punctuator cs) cs)
+at_found : (rules : Rules) (cs : List ℕ) (o : Option Punctuator) → begins_with (λ c. c == 35) cs ≡ false
+    → o ≡ punct_of (take (longest is_punctuator cs) cs)
     → punctuation_at rules cs ≡ punctuation_outcome rules (longest is_punctuator cs) (option_map Punct o)
 unfolding punctuation_at
 at_found rules cs o h f = grind (arith, punct_longest)
 
-pub at_punct : (rules : Rules) (cs : List ℕ) (p : Punctuator) → begins_with (λ c. c == 35) cs ≡ false → Some p ≡ punct_of (take (longest is_punctuator cs) cs)
+pub at_punct : (rules : Rules) (cs : List ℕ) (p : Punctuator) → begins_with (λ c. c == 35) cs ≡ false
+    → Some p ≡ punct_of (take (longest is_punctuator cs) cs)
     → punctuation_at rules cs ≡ record { value = Ok (Punct p); taken = longest is_punctuator cs }
 at_punct rules cs p h f = at_found rules cs (Some p) h f
 

@@ -58,16 +58,19 @@ number_first rules cs h =
     at_len rules cs n (longest_number_word cs h) ∙ of_number rules (take n cs) (drop n cs) (no_newline_front cs n b.no_newline)
     (no_identifier_front cs n b.no_identifier) (longest_in is_number cs b.some)
 
-pub other_first : (rules : Rules) (cs : List ℕ) → begins_with is_line_end cs ≡ false → begins_identifier cs ≡ false → begins_number cs ≡ false → word_at rules cs ≡ punctuation_at rules cs
+pub other_first : (rules : Rules) (cs : List ℕ) → begins_with is_line_end cs ≡ false → begins_identifier cs ≡ false → begins_number cs ≡ false
+    → word_at rules cs ≡ punctuation_at rules cs
 unfolding punctuation_at
 other_first rules cs h i d =
     let n = longest is_punctuation cs in
     let l : length (take n cs) ≡ n = length-take-le n cs (longest_le is_punctuation cs) in
-    at_len rules cs n (longest_other_word cs h i d) ∙ of_other rules (take n cs) (drop n cs) (no_newline_front cs n h) (no_identifier_front cs n i) (no_number_here cs n d)
+    at_len rules cs n (longest_other_word cs h i d)
+    ∙ of_other rules (take n cs) (drop n cs) (no_newline_front cs n h) (no_identifier_front cs n i) (no_number_here cs n d)
     ∙ ap (λ k. punctuation_outcome rules k (punctuation_value (take n cs))) l
 
 -- where no word stands there is a bad character
-pub no_word : (rules : Rules) (cs : List ℕ) → longest is_word cs ≡ 0 → word_at rules cs ≡ record { value = Err UnexpectedCharacter; taken = bad_length rules }
+pub no_word : (rules : Rules) (cs : List ℕ) → longest is_word cs ≡ 0
+    → word_at rules cs ≡ record { value = Err UnexpectedCharacter; taken = bad_length rules }
 unfolding is_newline_word is_identifier is_number punct_of
 no_word rules cs h = at_len rules cs 0 h
 
@@ -95,7 +98,8 @@ pub word_at-some : (rules : Rules) (c : ℕ) (cs : List ℕ) → 0 < (word_at ru
 unfolding number_at punctuation_at
 word_at-some rules c cs = by_line (begins_with is_line_end (c ∷ cs)) (begins_identifier (c ∷ cs)) (begins_number (c ∷ cs)) refl refl refl
   where
-    by_line : (a i n : Bool) → begins_with is_line_end (c ∷ cs) ≡ a → begins_identifier (c ∷ cs) ≡ i → begins_number (c ∷ cs) ≡ n → 0 < (word_at rules (c ∷ cs)).taken
+    by_line : (a i n : Bool) → begins_with is_line_end (c ∷ cs) ≡ a → begins_identifier (c ∷ cs) ≡ i → begins_number (c ∷ cs) ≡ n
+        → 0 < (word_at rules (c ∷ cs)).taken
     by_line true i n e f g = rw (newline_first rules (c ∷ cs) e) (omega arith)
     by_line false true n e f g = rw (identifier_first rules (c ∷ cs) f) (identifier_len (c ∷ cs) f)
     by_line false false true e f g = grind (arith, number_begins, length-take-le, longest_le, number_first, number_some)

@@ -95,8 +95,8 @@ fn width_letters(long: &'static str, short: &'static str, width: i32) -> &'stati
     ""
 }
 
-/// Returns the letters after the digits of an integer: a `u` if it is unsigned, and then an `l` if its width is 64 and an
-/// `s` if it is 16.
+/// Returns the letters after the digits of an integer: a `u` if it is unsigned, and then an `l` if its width is 64 and
+/// an `s` if it is 16.
 #[inline(always)]
 pub fn integer_letters(signed: bool, width: i32) -> &'static str
     ensures { result.now ≡ integer_letters signed width }

@@ -10,7 +10,8 @@ returns-clause-word c =
     let s = c.find_front-front.new.self in
     let unspent : c.self.inside.spent ≡ false = ap (λ l. l.spent) c.self.view_is ∙ c.requires in
     rw unspent (next_word s.flags s.inner s.place left.line left.at n left.text.now c.find_front-front.result.spaced c.in-Some.word.form c.range.result
-    c.range_from.result c.find_front-front.ensures.front c.in-Some.ensures (c.range.ensures.value ∙ range_front n left.text.now) c.range_from.ensures.value
+    c.range_from.result c.find_front-front.ensures.front c.in-Some.ensures
+    (c.range.ensures.value ∙ range_front n left.text.now) c.range_from.ensures.value
     c.self.inside.rules)
 
 pub returns-clause-passes : goal.returns-clause-passes
@@ -20,5 +21,6 @@ returns-clause-passes c =
     let s = c.find_front-front.new.self in
     let unspent : c.self.inside.spent ≡ false = ap (λ l. l.spent) c.self.view_is ∙ c.requires in
     rw unspent (can_pass s.flags s.inner s.place left.line left.at n left.text.now c.find_front-front.result.spaced c.in-Some.word.form c.range.result
-    c.range_from.result c.find_front-front.ensures.front c.in-Some.ensures (c.range.ensures.value ∙ range_front n left.text.now) c.range_from.ensures.value
+    c.range_from.result c.find_front-front.ensures.front c.in-Some.ensures
+    (c.range.ensures.value ∙ range_front n left.text.now) c.range_from.ensures.value
     c.self.inside.rules)

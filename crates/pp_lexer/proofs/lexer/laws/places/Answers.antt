@@ -11,7 +11,8 @@ use Rattle.pp_lexer.proofs.items.CountLemmas.{length-items_of}
 use Rattle.pp_lexer.proofs.lexer.laws.places.Goals as goal
 
 pub returns-clause-within : goal.returns-clause-within
-returns-clause-within c = λ rules source u. items_within rules 0 _ _ (stretches_follow 1 0 _ _ (rising-replaced 1 0 _ _ (rising-continued 1 0 _ _ (rising-lines source u))))
+returns-clause-within c = λ rules source u. items_within rules 0 _ _
+    (stretches_follow 1 0 _ _ (rising-replaced 1 0 _ _ (rising-continued 1 0 _ _ (rising-lines source u))))
 
 pub returns-clause-lines : goal.returns-clause-lines
 returns-clause-lines c = tokens_have_lines

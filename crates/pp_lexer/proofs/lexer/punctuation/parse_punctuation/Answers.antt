@@ -19,7 +19,8 @@ sought r = punct_of (take (longest is_punctuator (letters r.rest)) (letters r.re
 
 pub returns-in-Some-clause-value : goal.returns-in-Some-clause-value
 returns-in-Some-clause-value c =
-    ap (λ o. o.value) (sym (at_punct _ _ _ (sym c.is_next.ensures.test ∙ c.if-is_next.false) (c.in-Some.ensures.value ∙ ap sought c.is_next.ensures.same)))
+    ap (λ o. o.value) (sym
+    (at_punct _ _ _ (sym c.is_next.ensures.test ∙ c.if-is_next.false) (c.in-Some.ensures.value ∙ ap sought c.is_next.ensures.same)))
 
 pub returns-in-Some-clause-state : goal.returns-in-Some-clause-state
 returns-in-Some-clause-state c = grind (arith, at_punct)
