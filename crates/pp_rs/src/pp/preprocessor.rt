@@ -146,8 +146,8 @@ impl<'a> Preprocessor<'a> {
         }
     }
 
-    // Whether the next token is one of live text: no macro is open, nothing is held, and memory didn't run out. It notes
-    // that it is.
+    // Whether the next token is one of live text: no macro is open, nothing is held, and memory didn't run out. It
+    // notes that it is.
     #[inline(always)]
     pub(crate) fn is_in_text(&mut self) -> bool
         ensures reads { IsTrue result → ReadsText self.new }
