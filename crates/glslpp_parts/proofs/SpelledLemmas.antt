@@ -1,7 +1,6 @@
 -- A text that spells a value is read as the value.
 use Rattle.std.proofs.Common.{◌≡◌, ℕ, ℤ, pos, true, List, [], ◌∷◌, ◌++◌, sym, ◌∙◌, ap, subst}
 use Rattle.std.specs.Fmt.{decimal}
-use Rattle.std.specs.Prelude.{codes}
 use Rattle.std.proofs.lemmas.List.{append-nil}
 use Rattle.std.specs.Str.{IsUtf8, chars}
 use Rattle.std.proofs.lemmas.List.Elements.{All-cons, All-nil}
@@ -11,7 +10,7 @@ use Rattle.pp_lexer.specs.declared.token.Integer.{Integer as IntegerLiteral}
 use Rattle.pp_lexer.specs.declared.token.TokenValue.{TokenValue}
 use Rattle.pp_lexer.specs.Respelling.{IsSpellable}
 use Rattle.pp_lexer.specs.Rules.{pp_rs}
-use Rattle.pp_lexer.specs.Spelling.{sign_letter, width_letters, integer_literal, float_literal, spelling}
+use Rattle.pp_lexer.specs.Spelling.{integer_letters, integer_literal, float_literal, spelling}
 use Rattle.pp_lexer.proofs.spelling.RespellingLemmas.{read_back}
 use Rattle.glslpp_parts.specs.Reading.{IsReadAs}
 
@@ -23,8 +22,8 @@ spelled_read value text u e h =
 -- a signed number of 32 bits is its digits
 pub signed_literal : (i : IntegerLiteral) → i.signed ≡ true → i.width ≡ pos 32 → integer_literal i ≡ decimal i.value
 signed_literal i e w =
-    ap (λ s. decimal i.value ++ (sign_letter s ++ width_letters (codes "l") (codes "s") i.width)) e
-    ∙ ap (λ width. decimal i.value ++ width_letters (codes "l") (codes "s") width) w ∙ append-nil (decimal i.value)
+    ap (λ signed. decimal i.value ++ integer_letters signed i.width) e ∙ ap (λ width. decimal i.value ++ integer_letters true width) w
+    ∙ append-nil (decimal i.value)
 
 -- a float of 32 bits is its text
 pub usual_float : (text : List ℕ) (width : ℤ) → width ≡ pos 32 → float_literal text width ≡ text
