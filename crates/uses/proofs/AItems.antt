@@ -18,6 +18,7 @@ use Rattle.pp_lexer.specs.Numbers.{is_number}
 use Rattle.pp_lexer.specs.Outcome.{Outcome}
 use Rattle.pp_lexer.specs.Punctuators.{is_punctuation, punctuation_value, punctuation_outcome}
 use Rattle.pp_lexer.specs.Reading.{spots}
+use Rattle.pp_lexer.specs.Rules.{pp_rs}
 use Rattle.pp_lexer.specs.Segments.{item, segments, last_of}
 use Rattle.pp_lexer.specs.Surroundings.{surrounded}
 use Rattle.pp_lexer.specs.Words.{is_newline_word, is_word, word_at, word_outcome}
@@ -35,12 +36,12 @@ unfolding is_word is_newline_word
 word = ap (λ b. b || (is_number (97 ∷ []) || is_punctuation (97 ∷ []))) identifier
 
 -- its one word is the identifier
-pub word_of_a : word_at (97 ∷ []) ≡ record { value = Ok (Ident (97 ∷ [])); taken = 1 }
+pub word_of_a : word_at pp_rs (97 ∷ []) ≡ record { value = Ok (Ident (97 ∷ [])); taken = 1 }
 unfolding word_at longest is_newline_word
 word_of_a =
-    ap (λ n. word_outcome (take n (97 ∷ [])) (drop n (97 ∷ []))) (ap (λ b. if b then 1 else longest_within is_word (97 ∷ []) 0) word)
-    ∙ ap (λ b. if b then record { value = Ok (Ident (97 ∷ [])); taken = 1 } else if is_number (97 ∷ []) then number_outcome (97 ∷ []) []
-    else punctuation_outcome 1 (punctuation_value (97 ∷ []))) identifier
+    ap (λ n. word_outcome pp_rs (take n (97 ∷ [])) (drop n (97 ∷ []))) (ap (λ b. if b then 1 else longest_within is_word (97 ∷ []) 0) word)
+    ∙ ap (λ b. if b then record { value = Ok (Ident (97 ∷ [])); taken = 1 } else if is_number (97 ∷ []) then number_outcome pp_rs (97 ∷ []) []
+    else punctuation_outcome pp_rs 1 (punctuation_value (97 ∷ []))) identifier
 
 abbrev spot : Spot
 spot = record { c = 97; line = 1; begin = 0; end = 1 }
@@ -49,7 +50,7 @@ spots_of_a : spots 0 (replaced 1 (continued (lines (97 ∷ [])))) ≡ spot ∷ [
 unfolding lines continued replaced cut
 spots_of_a = refl
 
-segments_of_a : segments (spot ∷ []) ≡ record { kind = item (Ok (Ident (97 ∷ []))); first = spot; last = spot } ∷ []
+segments_of_a : segments pp_rs (spot ∷ []) ≡ record { kind = item (Ok (Ident (97 ∷ []))); first = spot; last = spot } ∷ []
 unfolding segments
 segments_of_a = ap (λ (o : Outcome). record { kind = item o.value; first = spot; last = last_of spot (take o.taken (spot ∷ [])) } ∷ []) word_of_a
 
