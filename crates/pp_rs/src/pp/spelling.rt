@@ -1,6 +1,6 @@
 //! The text of tokens.
 
-ghost use Rattle.std.specs.Prelude.{◌≡◌, ◌++◌, IsTrue, All, OnOk, OnErr, IfOk, MatchResult, string_bytes};
+ghost use Rattle.std.specs.Prelude.{◌≡◌, ◌++◌, IsTrue, All, OnOk, OnErr, IfOk, MatchResult, string_bytes, is_ok, if◌then◌else◌};
 ghost use Rattle.std.specs.Fmt.{decimal};
 ghost use Rattle.std.specs.Io.{StartsWith};
 ghost use Rattle.std.specs.Str.{chars};
@@ -92,6 +92,18 @@ fn push_decimal(text: &mut String, value: u64) -> Result<(), AllocError>
     Ok(())
 }
 
+// Appends the letters of a number. Most numbers have none.
+#[inline(always)]
+fn push_letters(text: &mut String, letters: &str) -> Result<(), AllocError>
+    ensures bytes { string_bytes text.new
+        ≡ if is_ok result then string_bytes text.old ++ letters.now else string_bytes text.old }
+{
+    if letters.is_empty() {
+        return Ok(());
+    }
+    text.push_str(letters)
+}
+
 // Appends the digits of an integer, and its letters. If memory runs out, the first of them may be there.
 fn push_digits(text: &mut String, integer: Integer) -> Result<(), AllocError>
     ensures appended { OnOk result (chars (string_bytes text.new)
@@ -99,7 +111,7 @@ fn push_digits(text: &mut String, integer: Integer) -> Result<(), AllocError>
     ensures refused { OnErr result (StartsWith (string_bytes text.new) (string_bytes text.old)) }
 {
     push_decimal(text, integer.value)?;
-    text.push_str(integer_letters(integer.signed, integer.width))
+    push_letters(text, integer_letters(integer.signed, integer.width))
 }
 
 // Appends an integer. If memory runs out, what was appended is taken back.
@@ -116,7 +128,7 @@ pub(crate) fn push_integer(text: &mut String, integer: Integer) -> Result<(), Al
     Ok(())
 }
 
-// Appends two texts. If memory runs out, the first of them may be there.
+// Appends a text, and the letters after it. If memory runs out, the text may be there.
 #[inline(always)]
 fn push_both(text: &mut String, first: &str, second: &str) -> Result<(), AllocError>
     ensures appended { OnOk result (chars (string_bytes text.new)
@@ -124,7 +136,7 @@ fn push_both(text: &mut String, first: &str, second: &str) -> Result<(), AllocEr
     ensures refused { OnErr result (StartsWith (string_bytes text.new) (string_bytes text.old)) }
 {
     text.push_str(first)?;
-    text.push_str(second)
+    push_letters(text, second)
 }
 
 // Appends a float: its text and the letters of its width. If memory runs out, what was appended is taken back.

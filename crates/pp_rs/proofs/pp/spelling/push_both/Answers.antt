@@ -4,8 +4,8 @@ use Rattle.pp_rs.proofs.pp.spelling.push_both.Goals as goal
 
 pub returns-clause-appended : goal.returns-clause-appended
 returns-clause-appended c =
-    both-pushed c.push_str-2.result _ _ _ _ _ (IsUtf8-string_bytes c.args.text.now) (IsUtf8-string_bytes c.push_str.new.self) c.in_ok-push_str.ensures.bytes
-    c.push_str-2.ensures.bytes
+    both-pushed c.push_letters.result _ _ _ _ _ (IsUtf8-string_bytes c.args.text.now) (IsUtf8-string_bytes c.push_str.new.self) c.in_ok-push_str.ensures.bytes
+    c.push_letters.ensures.bytes
 
 pub returns-clause-refused : goal.returns-clause-refused
-returns-clause-refused c = first_grown c.push_str-2.result _ _ _ _ _ c.in_ok-push_str.ensures.bytes c.push_str-2.ensures.bytes
+returns-clause-refused c = first_grown c.push_letters.result _ _ _ _ _ c.in_ok-push_str.ensures.bytes c.push_letters.ensures.bytes
