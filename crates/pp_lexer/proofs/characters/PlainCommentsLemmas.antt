@@ -1,17 +1,17 @@
 -- Comments at the front of a plain text.
-use Rattle.std.proofs.Common.{◌≡◌, ℕ, zero, suc, ◌+◌, ◌<◌, ◌≤◌, List, [], ◌∷◌, length, take, drop, get_or, Bool, true, false, ◌&&◌, ◌==◌, length-drop, add-one, add-zero, refl, sym, ◌∙◌, ap, subst, arith, Some, Option}
+use Rattle.std.proofs.Common.{◌≡◌, ℕ, ◌+◌, ◌<◌, ◌≤◌, List, [], ◌∷◌, length, take, drop, get_or, Bool, true, false, ◌&&◌, ◌==◌, length-drop, add-one, add-zero, refl, sym, ◌∙◌, ap, subst, arith, Some, Option}
 use Rattle.std.proofs.Math.Bool.{and-false}
 use Rattle.std.specs.List.{list_all}
 use Rattle.std.specs.Str.{chars, IsUtf8, IsCharBoundary}
 use Rattle.std.proofs.lemmas.List.{drop-drop}
-use Rattle.std.proofs.lemmas.Str.{IsCharBoundary-start, IsCharBoundary-from_drop, IsUtf8-drop, chars-nil}
+use Rattle.std.proofs.lemmas.Str.{IsCharBoundary-from_drop, IsUtf8-drop, chars-nil}
 use Rattle.std.proofs.Math.Seq.{drop-cons}
 use Rattle.pp_lexer.specs.Comments.{is_slash, is_star, line_length, replaced}
 use Rattle.pp_lexer.specs.Continuations.{continued}
 use Rattle.pp_lexer.specs.Cursor.{Placed, Cursor, first_of, after_of, passed}
 use Rattle.pp_lexer.specs.Lines.{is_line_break, pieces}
 use Rattle.pp_lexer.specs.Reading.{spots}
-use Rattle.pp_lexer.specs.inner.Fronts.{spots_from, left, is_straight}
+use Rattle.pp_lexer.specs.inner.Fronts.{spots_from, left, goes_on, is_straight}
 use Rattle.pp_lexer.specs.inner.PlainWords.{IsPlainComment}
 use Rattle.pp_lexer.specs.inner.Readers.{placed_from, joined, uncommented, past_line, past_block}
 use Rattle.pp_lexer.proofs.characters.CommentsLemmas.{past_block_after, block_goes_on, line_comment_step, block_comment_step}
@@ -19,7 +19,7 @@ use Rattle.pp_lexer.proofs.characters.ContinuationsLemmas.{continued-nil, contin
 use Rattle.pp_lexer.proofs.characters.FrontsLemmas.{ascii_chars, utf8_after}
 use Rattle.pp_lexer.proofs.characters.NewlinesLemmas.{pieces_newline}
 use Rattle.pp_lexer.proofs.characters.PlainFrontsLemmas.{get_or-drop}
-use Rattle.pp_lexer.proofs.characters.StraightLemmas.{Straight, straight_parts, reader, joined_first, straight_passed, cut_after_straight}
+use Rattle.pp_lexer.proofs.characters.StraightLemmas.{Straight, straight_parts, reader, joined_first, line_passed, cut_before_line_end}
 
 -- the text does not go on with a carriage return, and its first character is ASCII
 abbrev pub NoReturn : List ℕ → Type 0
@@ -70,9 +70,9 @@ block_begun : (body : List ℕ) → IsUtf8 body → IsBlockSoFar body 0 0 false
 block_begun body u = grind arith
 
 -- what follows a byte that does not close the comment
-goes_on : (star : Bool) (total offset : ℕ) (p : Placed) (ps : List Placed) → (star && is_slash p) ≡ false
+stays_open : (star : Bool) (total offset : ℕ) (p : Placed) (ps : List Placed) → (star && is_slash p) ≡ false
     → past_block_after star (reader (p ∷ ps) offset total) ≡ past_block_after (is_star p) (reader ps p.end total)
-goes_on star total offset p ps h = rw h (block_goes_on total offset p ps)
+stays_open star total offset p ps h = rw h (block_goes_on total offset p ps)
 
 module _ (body : List ℕ) (i newlines : ℕ) (star : Bool) (s : IsBlockSoFar body i newlines star) (l : i < length body) where
   split : drop i body ≡ get_or body i 0 ∷ drop (i + 1) body
@@ -100,7 +100,7 @@ module _ (body : List ℕ) (i newlines : ℕ) (star : Bool) (s : IsBlockSoFar bo
         state = λ _ line at.
             let more = continued (placed_from (line + newlines) (at + i + 1) (pieces (chars (drop (i + 1) body)))) in
             ap (λ k. past_block_after (c == 42) (joined (left (line + newlines) k (drop (i + 1) body)))) (moved at)
-            ∙ sym (goes_on star (at + i + 1 + length (drop (i + 1) body)) (at + i) (record { char = c; line = line + newlines; end = at + i + 1 }) more open_yet)
+            ∙ sym (stays_open star (at + i + 1 + length (drop (i + 1) body)) (at + i) (record { char = c; line = line + newlines; end = at + i + 1 }) more open_yet)
             ∙ ap (past_block_after star) (sym (joined_first (line + newlines) (at + i) c (drop (i + 1) body) p utf8_here)) ∙ here p.small p.no_return line at;
       }
 
@@ -119,7 +119,7 @@ module _ (body : List ℕ) (i newlines : ℕ) (star : Bool) (s : IsBlockSoFar bo
             let n : line + (newlines + 1) ≡ line + newlines + 1 = omega arith in
             ap (λ k. past_block (joined (left (line + (newlines + 1)) k rest))) (moved at)
             ∙ ap (λ k. past_block (joined (left k (at + i + 1) rest))) n
-            ∙ sym (goes_on star (at + i + 1 + length rest) (at + i) (record { char = 10; line = line + newlines; end = at + i + 1 }) more (and-false star))
+            ∙ sym (stays_open star (at + i + 1 + length rest) (at + i) (record { char = 10; line = line + newlines; end = at + i + 1 }) more (and-false star))
             ∙ ap (past_block_after star) (sym (joined_feed (line + newlines) (at + i) rest u h))
             ∙ ap (λ c. past_block_after star (joined (left (line + newlines) (at + i) (c ∷ rest)))) (sym feed) ∙ here small no_return line at;
       }
@@ -206,21 +206,19 @@ utf8_body text d p u two =
 pub block_start : (text : List ℕ) → IsUtf8 text → 1 < length text → get_or text 0 0 ≡ 47 → get_or text 1 0 ≡ 42 → IsBlockSoFar (drop 2 text) 0 0 false
 block_start text u some e f = block_begun (drop 2 text) (utf8_body text 42 (straight_parts 42 refl) u (two_first text 42 some e f))
 
-cut_straight : (n : ℕ) (text : List ℕ) → IsUtf8 text → n ≤ length text → list_all is_straight (take n text) ≡ true → IsCharBoundary text n
-cut_straight zero text u le h = IsCharBoundary-start text u
-cut_straight (suc n) text u le h = cut_after_straight (suc n) text u (omega arith) le h
-
 pub plain_line : (text : List ℕ) (n : ℕ) → IsUtf8 text → 1 < length text → get_or text 0 0 ≡ 47 → get_or text 1 0 ≡ 47 → n ≤ length (drop 2 text)
-    → list_all is_straight (take n (drop 2 text)) ≡ true → (n + 2 < length text → is_line_break (get_or text (n + 2) 0) ≡ true)
+    → list_all goes_on (take n (drop 2 text)) ≡ true → (n < length (drop 2 text) → goes_on (get_or (drop 2 text) n 0) ≡ false)
+    → (n + 2 < length text → is_line_break (get_or text (n + 2) 0) ≡ true)
     → IsPlainComment text (record { taken = n + 2; newlines = 0 })
-plain_line text n u some e f le passes ends =
+plain_line text n u some e f le passes stop ends =
     let two = two_first text 47 some e f in
     let body = drop 2 text in
     let size : length body + 2 ≡ length text = omega (arith, length-drop 2 text) in
     let order : 2 + n ≡ n + 2 = omega arith in
     let rest : drop n body ≡ drop (n + 2) text = drop-drop n 2 text ∙ ap (λ k. drop k text) order in
     let u' : IsUtf8 body = utf8_body text 47 (straight_parts 47 refl) u two in
-    let ended_text : IsUtf8 (drop n body) = IsUtf8-drop body n u' (cut_straight n body u' le passes) in
+    let cut : IsCharBoundary body n = cut_before_line_end n body le stop in
+    let ended_text : IsUtf8 (drop n body) = IsUtf8-drop body n u' cut in
     let stops : 0 < length (drop n body) → is_line_break (get_or (drop n body) 0 0) ≡ true =
     λ l. ap is_line_break (ap (λ t. get_or t 0 0) rest ∙ get_or-drop (n + 2) text) ∙ ends (omega (arith, length-drop n body, size)) in
     let within : n + 2 ≤ length text = omega (arith, size) in
@@ -230,12 +228,12 @@ plain_line text n u some e f le passes ends =
       lines = omega arith;
       front = λ line at.
           let start = joined (left line (at + 1 + 1) body) in
-          let stop = joined (left line (at + 1 + 1 + n) (drop n body)) in
+          let later = joined (left line (at + 1 + 1 + n) (drop n body)) in
           let place : at + 1 + 1 + n ≡ at + (n + 2) = omega arith in
-          let passed_by : past_line stop ≡ past_line start =
-          straight_passed start stop line (at + 1 + 1) n body (drop n body) u' le passes refl refl refl in
-          let ended : past_line stop ≡ stop = line_ended line (at + 1 + 1 + n) (drop n body) ended_text stops in
-          let there : stop ≡ joined (left (line + 0) (at + (n + 2)) (drop (n + 2) text)) = rw (rest, place, add-zero line) refl in
+          let passed_by : past_line later ≡ past_line start =
+          line_passed start later line (at + 1 + 1) n body (drop n body) u' cut passes refl refl refl in
+          let ended : past_line later ≡ later = line_ended line (at + 1 + 1 + n) (drop n body) ended_text stops in
+          let there : later ≡ joined (left (line + 0) (at + (n + 2)) (drop (n + 2) text)) = rw (rest, place, add-zero line) refl in
           ap (spots_from line at) two
           ∙ line_front line at body (line + 0) (at + (n + 2)) (drop (n + 2) text) (subst IsUtf8 two u) (sym passed_by ∙ ended ∙ there);
     }

@@ -1,24 +1,24 @@
--- A front of a comment's rest that no phase changes.
-use Rattle.std.proofs.Common.{◌≡◌, ℕ, ◌+◌, ◌<◌, ◌≤◌, List, [], ◌∷◌, ◌++◌, length, take, drop, get_or, Bool, true, false, ◌==◌, refl, sym, ◌∙◌, ap, subst, arith, ◌&&◌, append_assoc, length-append}
+-- A front of a comment's rest whose characters no phase changes.
+use Rattle.std.proofs.Common.{◌≡◌, ℕ, zero, suc, ◌+◌, ◌<◌, ◌≤◌, List, [], ◌∷◌, ◌++◌, length, take, drop, get_or, Bool, true, false, ◌==◌, refl, sym, ◌∙◌, ap, subst, arith, ◌&&◌, append_assoc, length-append}
 use Rattle.std.specs.List.{list_all}
 use Rattle.std.specs.Char.{len_utf8}
-use Rattle.std.specs.Str.{chars, IsUtf8, IsAscii, IsCharBoundary}
+use Rattle.std.specs.Str.{chars, IsUtf8, IsCharBoundary}
 use Rattle.std.proofs.lemmas.Bool.{and_parts, ne_eqb}
 use Rattle.std.proofs.lemmas.List.{length-take-le}
-use Rattle.std.proofs.lemmas.List.Folds.{list_all-append}
-use Rattle.std.proofs.lemmas.Str.{IsCharBoundary-after_ascii, IsUtf8-take, IsUtf8-past_char, chars_past_char, encode_ascii, encodes-IsAscii, len_utf8_ascii, length-encode}
-use Rattle.std.proofs.lemmas.Str.Ascii.{IsAscii-cons}
+use Rattle.std.proofs.lemmas.List.Folds.{list_all-append, list_all_more}
+use Rattle.std.proofs.lemmas.Str.{IsUtf8-take, IsUtf8-past_char, chars_past_char, encode_ascii, len_utf8_ascii, length-encode}
 use Rattle.std.proofs.Math.Utf8.{encode, encodes}
+use Rattle.memchr.specs.Find.{Nowhere, Passes, is_byte3}
 use Rattle.pp_lexer.specs.Comments.{is_star}
 use Rattle.pp_lexer.specs.Continuations.{continued}
 use Rattle.pp_lexer.specs.Cursor.{Placed, Cursor}
-use Rattle.pp_lexer.specs.inner.Fronts.{left, is_straight, is_starless}
+use Rattle.pp_lexer.specs.inner.Fronts.{left, goes_on, is_straight, is_starless}
 use Rattle.pp_lexer.specs.Lines.{is_newline, pieces}
 use Rattle.pp_lexer.specs.inner.Readers.{placed_from, joined, past_line, past_block}
 use Rattle.pp_lexer.proofs.characters.CommentsLemmas.{block_goes_on}
 use Rattle.pp_lexer.proofs.characters.ContinuationsLemmas.{continued-plain}
 use Rattle.pp_lexer.proofs.characters.FrontsLemmas.{pieces_plain}
-use Rattle.pp_lexer.proofs.characters.PlainFrontsLemmas.{passes_at, split_at}
+use Rattle.pp_lexer.proofs.characters.PlainFrontsLemmas.{split_at}
 
 pub record Straight (c : ℕ) : Type 0 where
   pub small : c < 128
@@ -47,9 +47,6 @@ joined_char line at c text p u = grind (arith, chars_past_char, pieces_plain, le
 
 kept : (c : ℕ) → Straight c → Kept c
 kept c p = record { no_feed = p.no_feed; no_return = p.no_return; no_backslash = p.no_backslash }
-
-straight_kept : (c : ℕ) → is_straight c ≡ true → Kept c
-straight_kept c h = kept c (straight_parts c h)
 
 -- an ASCII character
 pub joined_first : (line at c : ℕ) (text : List ℕ) → Straight c → IsUtf8 (c ∷ text)
@@ -95,27 +92,57 @@ module _ (passes : ℕ → Bool) (passes_kept : (c : ℕ) → passes c ≡ true 
       subst (λ d. Before old d) there (subst (λ c. Before c (joined (left line (at + length (encodes cs)) (drop n text)))) here
       (before_run line at cs (drop n text) h (subst IsUtf8 whole u)))
 
+-- Runs of bytes among which are all of each longer character
+
+module _ (passes : ℕ → Bool) (passes_large : (c : ℕ) → 128 ≤ c → passes c ≡ true) where
+  -- the characters of such bytes are such
+  passing_chars : (cs : List ℕ) → list_all passes (encodes cs) ≡ true → list_all passes cs ≡ true
+  passing_chars [] h = refl
+  passing_chars (c ∷ cs) h =
+      let b = and_parts (list_all passes (encode c)) (list_all passes (encodes cs)) (sym (list_all-append passes (encode c) (encodes cs)) ∙ h) in
+      ap (λ t. t && list_all passes cs) (first b.0) ∙ passing_chars cs b.1
+    where
+      first : list_all passes (encode c) ≡ true → passes c ≡ true
+      first k = grind (arith, encode_ascii, passes_large)
+
+  -- such bytes end at the end of a character
+  pub cut_after_run : (n : ℕ) (text : List ℕ) → n ≤ length text → (n < length text → passes (get_or text n 0) ≡ false) → IsCharBoundary text n
+  cut_after_run n text le stops = grind (arith, passes_large)
+
+large_kept : (c : ℕ) → 128 ≤ c → goes_on c ≡ true
+large_kept c h = rw (ne_eqb c 10 (λ k. omega arith), ne_eqb c 13 (λ k. omega arith), ne_eqb c 92 (λ k. omega arith)) refl
+
 -- A front of a line comment's rest
 
-straight_ascii : (w : List ℕ) → list_all is_straight w ≡ true → IsAscii w
-straight_ascii [] h = λ i. omega arith
-straight_ascii (c ∷ w) h =
-    let b = and_parts (is_straight c) (list_all is_straight w) h in
-    IsAscii-cons c w (straight_parts c b.0).small (straight_ascii w b.1)
+kept_parts : (c : ℕ) → goes_on c ≡ true → Kept c
+kept_parts c h = grind arith
 
-pub cut_after_straight : (n : ℕ) (text : List ℕ) → IsUtf8 text → 0 < n → n ≤ length text → list_all is_straight (take n text) ≡ true → IsCharBoundary text n
-cut_after_straight n text h k e l = grind (arith, IsCharBoundary-after_ascii, straight_parts, passes_at)
+pub cut_before_line_end : (n : ℕ) (text : List ℕ) → n ≤ length text → (n < length text → goes_on (get_or text n 0) ≡ false) → IsCharBoundary text n
+cut_before_line_end = cut_after_run goes_on large_kept
+
+ends_no_line : (c : ℕ) → ¬ (is_byte3 10 13 92 c ≡ true) → goes_on c ≡ true
+ends_no_line c h = grind arith
+
+-- the bytes before the first newline or backslash
+pub before_line_end : (n : ℕ) (bytes : List ℕ) → n ≤ length bytes → Nowhere (Passes (is_byte3 10 13 92) bytes) 0 n → list_all goes_on (take n bytes) ≡ true
+before_line_end zero bytes le none = refl
+before_line_end (suc n) bytes le none =
+    let here : goes_on (get_or bytes n 0) ≡ true = ends_no_line (get_or bytes n 0) (none n (omega arith) (omega arith)) in
+    let earlier : list_all goes_on (take n bytes) ≡ true = before_line_end n bytes (omega arith) (λ k l h. none k l (omega arith)) in
+    let more : suc n ≡ n + 1 = omega arith in
+    ap (λ m. list_all goes_on (take m bytes)) more ∙ list_all_more goes_on bytes n 0 (omega arith) ∙ rw (earlier, here) refl
 
 past_step : (p : Placed) (ps : List Placed) (offset total : ℕ) → is_newline p ≡ false → past_line (reader (p ∷ ps) offset total) ≡ past_line (reader ps p.end total)
 past_step p ps offset total h = rw h refl
 
--- the reader after a straight front ends the line at the same place
-pub straight_passed : (old new : Cursor) (line at n : ℕ) (text rest : List ℕ) → IsUtf8 text → n ≤ length text → list_all is_straight (take n text) ≡ true
+-- the reader after such a front ends the line at the same place
+pub line_passed : (old new : Cursor) (line at n : ℕ) (text rest : List ℕ) → IsUtf8 text → IsCharBoundary text n → list_all goes_on (take n text) ≡ true
     → old ≡ joined (left line at text) → rest ≡ drop n text → new ≡ joined (left line (at + n) rest) → past_line new ≡ past_line old
-straight_passed old new line at n text rest u le h =
-    run_passed is_straight straight_kept (λ c d. past_line d ≡ past_line c) (λ c. refl)
-    (λ p ps offset total d h e. e ∙ sym (past_step p ps offset total (straight_parts p.char h).no_feed)) old new line at n (take n text) text rest u le
-    (encodes-IsAscii (take n text) (straight_ascii (take n text) h)) h
+line_passed old new line at n text rest u cut h =
+    let front = IsUtf8-take text n u cut in
+    run_passed goes_on kept_parts (λ c d. past_line d ≡ past_line c) (λ c. refl)
+    (λ p ps offset total d h e. e ∙ sym (past_step p ps offset total (kept_parts p.char h).no_feed)) old new line at n front.0 text rest u cut.0
+    front.1.1 (passing_chars goes_on large_kept front.0 (ap (list_all goes_on) front.1.1 ∙ h))
 
 -- A front of a block comment's rest
 
@@ -133,19 +160,8 @@ large_starless : (c : ℕ) → 128 ≤ c → is_starless c ≡ true
 large_starless c h =
     rw (ne_eqb c 10 (λ k. omega arith), ne_eqb c 13 (λ k. omega arith), ne_eqb c 92 (λ k. omega arith), ne_eqb c 42 (λ k. omega arith)) refl
 
--- the characters of such bytes are such
-starless_chars : (cs : List ℕ) → list_all is_starless (encodes cs) ≡ true → list_all is_starless cs ≡ true
-starless_chars [] h = refl
-starless_chars (c ∷ cs) h =
-    let b = and_parts (list_all is_starless (encode c)) (list_all is_starless (encodes cs)) (sym (list_all-append is_starless (encode c) (encodes cs)) ∙ h) in
-    ap (λ t. t && list_all is_starless cs) (first b.0) ∙ starless_chars cs b.1
-  where
-    first : list_all is_starless (encode c) ≡ true → is_starless c ≡ true
-    first k = grind (arith, encode_ascii)
-
--- such bytes end at the end of a character
 pub cut_after_starless : (n : ℕ) (text : List ℕ) → n ≤ length text → (n < length text → is_starless (get_or text n 0) ≡ false) → IsCharBoundary text n
-cut_after_starless n text le stops = grind (arith, large_starless)
+cut_after_starless = cut_after_run is_starless large_starless
 
 no_star_step : (p : Placed) (ps : List Placed) (offset total : ℕ) → is_star p ≡ false → past_block (reader (p ∷ ps) offset total) ≡ past_block (reader ps p.end total)
 no_star_step p ps offset total h = block_goes_on total offset p ps ∙ rw h refl
@@ -163,4 +179,4 @@ starless_passed old new line at n text rest u cut h =
     (λ p ps offset total d h e. record {
       state = e.state ∙ sym (no_star_step p ps offset total (starless_parts p.char h).no_star);
       shorter = omega (arith, e.shorter);
-    }) old new line at n front.0 text rest u cut.0 front.1.1 (starless_chars front.0 (ap (list_all is_starless) front.1.1 ∙ h))
+    }) old new line at n front.0 text rest u cut.0 front.1.1 (passing_chars is_starless large_starless front.0 (ap (list_all is_starless) front.1.1 ∙ h))

@@ -1,9 +1,10 @@
 -- Decimal integers at the front of a plain text.
-use Rattle.std.proofs.Common.{◌≡◌, ℕ, zero, suc, ◌+◌, ◌-◌, ◌*◌, ◌^◌, ◌<◌, ◌≤◌, List, [], ◌∷◌, ◌++◌, length, take, drop, get_or, Bool, true, false, ◌&&◌, ◌||◌, ◌==◌, append_assoc, length-drop, add-one, add-zero, refl, sym, ◌∙◌, ap, arith, Ok, pos}
+use Rattle.std.proofs.Common.{pow-suc, ◌≡◌, ℕ, zero, suc, ◌+◌, ◌-◌, ◌*◌, ◌^◌, ◌<◌, ◌≤◌, List, [], ◌∷◌, ◌++◌, length, take, drop, get_or, Bool, true, false, ◌&&◌, ◌||◌, ◌==◌, append_assoc, length-drop, add-one, add-zero, refl, sym, ◌∙◌, ap, arith, Ok, pos}
 use Rattle.std.specs.List.{list_all}
 use Rattle.std.specs.Str.{IsUtf8}
 use Rattle.std.specs.Str.Parse.{digits_value_after}
 use Rattle.std.specs.Char.{digit_value}
+use Rattle.std.proofs.Math.Nat.{pow-le-pow_right}
 use Rattle.std.proofs.lemmas.Int.Digits.{digits_value_more}
 use Rattle.std.proofs.lemmas.Bool.{and_parts, eqb-true, and_from}
 use Rattle.std.proofs.lemmas.Bool.Decides.{nat_tests}
@@ -153,6 +154,9 @@ length_whole n xs = take_whole (length xs - n) (drop n xs) (omega (arith, length
 digit_is : (c : ℕ) → is_decimal c ≡ true → (48 ≤ c) × (digit_value c ≡ c - 48)
 digit_is c h = grind arith
 
+decimal_below : (c : ℕ) → is_decimal c ≡ true → c < 58
+decimal_below c h = grind arith
+
 pub all_at : (p : ℕ → Bool) (n : ℕ) (xs : List ℕ) → n < length xs → list_all p xs ≡ true → p (get_or xs n 0) ≡ true
 all_at p n [] l h = absurd (omega arith)
 all_at p zero (x ∷ xs) l h = (and_parts (p x) (list_all p xs) h).0
@@ -165,6 +169,23 @@ pub value_more : (n value more : ℕ) (xs : List ℕ) → n < length xs → list
     → more ≡ value * 10 + (get_or xs n 0 - 48)
     → more ≡ digits_value_after 10 0 (take (n + 1) xs)
 value_more n value more xs l h e k = grind (arith, digit_at, digits_value_more)
+
+pub decimal_below_at : (n : ℕ) (xs : List ℕ) → n < length xs → list_all is_decimal xs ≡ true → get_or xs n 0 < 58
+decimal_below_at n xs l h = decimal_below (get_or xs n 0) (all_at is_decimal n xs l h)
+
+-- one digit more
+pub small_more : (n value : ℕ) (xs : List ℕ) → n < length xs → list_all is_decimal xs ≡ true → value < 10 ^ n
+    → value * 10 + (get_or xs n 0 - 48) < 10 ^ (n + 1)
+small_more n value xs l h k =
+    let digit : get_or xs n 0 < 58 = decimal_below_at n xs l h in
+    let more : 10 ^ (n + 1) ≡ 10 ^ n * 10 = ap (λ m. 10 ^ m) (add-one n) ∙ pow-suc 10 n in
+    omega (arith, digit, more)
+
+-- a number of at most 18 digits
+pub eighteen_digits : (n value : ℕ) → n ≤ 18 → value < 10 ^ n → value < 10 ^ 18
+eighteen_digits n value le h =
+    let more : 10 ^ n ≤ 10 ^ 18 = pow-le-pow_right (omega arith) le in
+    omega (arith, more)
 
 pub decimal_plain : (c : ℕ) → is_decimal c ≡ true → is_plain c ≡ true
 decimal_plain c h = grind (arith, nat_tests)

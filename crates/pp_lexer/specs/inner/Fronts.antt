@@ -27,9 +27,13 @@ pub record IsLeft (line at : ℕ) (text : List ℕ) (rest : List Spot) : Type 0 
 abbrev pub is_plain : ℕ → Bool
 is_plain b = nat_lt b 128 && (not (b == 10) && (not (b == 13) && (not (b == 92) && not (b == 47))))
 
--- an ASCII character that a line comment goes on with: no newline and no backslash
+-- a character that a line comment goes on with, whatever comes next, or a byte of one: no newline and no backslash
+abbrev pub goes_on : ℕ → Bool
+goes_on b = not (b == 10) && (not (b == 13) && not (b == 92))
+
+-- an ASCII character that a line comment goes on with
 abbrev pub is_straight : ℕ → Bool
-is_straight b = nat_lt b 128 && (not (b == 10) && (not (b == 13) && not (b == 92)))
+is_straight b = nat_lt b 128 && goes_on b
 
 -- a character that a block comment goes on with, whatever comes next, or a byte of one: no star, no newline and no
 -- backslash

@@ -15,7 +15,7 @@ mod comment;
 mod number;
 mod punctuation;
 
-pub use comment::{plain_comment, starless_length, straight_length};
+pub use comment::{line_length, plain_comment, starless_length};
 
 /// What a word of ASCII text is.
 #[derive(Clone, Copy)]

@@ -10,7 +10,7 @@ ghost use Rattle.pp_lexer.specs.inner.Fronts.{left};
 ghost use Rattle.pp_lexer.specs.inner.Readers.{joined, uncommented, past_line, past_block};
 
 use crate::lexer::chars_and_line::{Left, is_char};
-use crate::lexer::plain::{starless_length, straight_length};
+use crate::lexer::plain::{line_length, starless_length};
 use crate::lexer::skip_backslash_newline::SkipBackslashNewline;
 use std::alloc::AllocError;
 use std::marker::Model;
@@ -41,14 +41,14 @@ impl<'a> Model for ReplaceComments<'a> {
     ghost view = { λ s. uncommented s.inner };
 }
 
-// Passes the ASCII characters at the front of a line comment's rest, up to a newline or a backslash.
-fn skip_straight(inner: &mut SkipBackslashNewline<'_>)
+// Passes the front of a line comment's rest, up to a newline or a backslash.
+fn skip_to_line_end(inner: &mut SkipBackslashNewline<'_>)
     ensures state { past_line inner.new ≡ past_line inner.old }
     ensures forward { inner.old.offset ≤ inner.new.offset }
 {
     let left = inner.left();
     let bytes = left.text.as_bytes();
-    let count = straight_length(bytes);
+    let count = line_length(bytes);
     if count == 0 {
         return;
     }
@@ -64,7 +64,7 @@ fn skip_line(inner: &mut SkipBackslashNewline<'_>)
     ensures state { inner.new ≡ past_line inner.old }
     ensures forward { inner.old.offset ≤ inner.new.offset }
 {
-    skip_straight(inner);
+    skip_to_line_end(inner);
     'line: loop {
         let mut peek = inner.duplicate();
         let Some((next, _)) = peek.next_item() else {

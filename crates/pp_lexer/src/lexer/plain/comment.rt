@@ -1,11 +1,13 @@
-//! Comments of ASCII text, and runs of bytes within comments.
+//! Comments that the bytes of a text alone show, and runs of bytes within comments.
 
 ghost use Rattle.std.specs.Prelude.{⊤, ◌≡◌, ◌<◌, ◌≤◌, true, false, length, take, slice_index, IsTrue, MatchOption};
 ghost use Rattle.std.specs.List.{list_all};
 ghost use Rattle.std.specs.Str.{IsUtf8};
 ghost use Rattle.pp_lexer.specs.Lines.{is_line_break};
-ghost use Rattle.pp_lexer.specs.inner.Fronts.{is_straight, is_starless};
+ghost use Rattle.pp_lexer.specs.inner.Fronts.{goes_on, is_straight, is_starless};
 ghost use Rattle.pp_lexer.specs.inner.PlainWords.{IsPlainComment};
+
+use memchr::memchr3;
 
 /// A comment at the front of a text: how many bytes it takes, and how many newlines are among them.
 #[derive(Clone, Copy)]
@@ -44,18 +46,17 @@ fn is_straight(byte: u8) -> bool
     STRAIGHT[byte as usize] == b'.'
 }
 
-/// How many bytes at the front are ASCII, and neither a newline nor a backslash.
+/// How many bytes there are before the next newline or backslash, or before the end.
 #[inline(always)]
-pub fn straight_length(bytes: &[u8]) -> usize
+pub fn line_length(bytes: &[u8]) -> usize
     ensures within { result ≤ length bytes.now }
-    ensures passes { list_all is_straight (take result bytes.now) ≡ true }
+    ensures passes { list_all goes_on (take result bytes.now) ≡ true }
+    ensures stops { result < length bytes.now → goes_on (slice_index bytes.now result) ≡ false }
 {
-    for (i, byte) in bytes.iter().enumerate() {
-        if !is_straight(*byte) {
-            return i;
-        }
+    match memchr3(b'\n', b'\r', b'\\', bytes) {
+        Some(at) => at,
+        None => bytes.len(),
     }
-    bytes.len()
 }
 
 // Whether the byte is none of a star, a newline, a carriage return and a backslash.
@@ -99,7 +100,7 @@ fn line_comment(bytes: &[u8]) -> Option<Comment>
     requires second { slice_index bytes.now 1 ≡ 47 }
     ensures { MatchOption result ⊤ (IsPlainComment bytes.now) }
 {
-    let taken = straight_length(&bytes[2..]) + 2;
+    let taken = line_length(&bytes[2..]) + 2;
     if !ends_line(bytes, taken) {
         return None;
     }

@@ -35,16 +35,18 @@ fn digits_length(bytes: &[u8]) -> usize
     bytes.len()
 }
 
-// The value of decimal digits, unless it is too large.
+// The value of decimal digits, unless there are more than 19. Each number of 19 digits is below 2^64.
 #[inline(always)]
 fn decimal_value(digits: &[u8]) -> Option<u64>
     requires { list_all is_decimal digits.now ≡ true }
     ensures { IfSome result (λ value. value ≡ digits_value 10 digits.now) }
 {
+    if digits.len() > 19 {
+        return None;
+    }
     let mut value: u64 = 0;
     for digit in digits {
-        let shifted = value.checked_mul(10)?;
-        value = shifted.checked_add((*digit - 48) as u64)?;
+        value = value * 10 + (*digit - 48) as u64;
     }
     Some(value)
 }

@@ -1,7 +1,0 @@
-use Rattle.std.proofs.Common.{◌≡◌, true, take}
-use Rattle.std.specs.List.{list_all}
-use Rattle.pp_lexer.specs.inner.Fronts.{is_straight}
-use Rattle.pp_lexer.proofs.lexer.plain.comment.straight_length.Given as goal
-
-abbrev pub invariant-loop-i : goal.invariant-loop-i
-invariant-loop-i l = list_all is_straight (take l.i l.bytes) ≡ true
