@@ -1,4 +1,7 @@
-"""The rules for characters and tokens of docs/RULES.md once more, in Python: slow, and written from the rules alone."""
+"""The rules for characters and tokens of docs/RULES.md once more, in Python: slow, and written from the rules alone.
+
+What says `is_glsl` goes by GLSL's rules, and otherwise by pp-rs's.
+"""
 
 import re
 
@@ -90,11 +93,12 @@ def number_at(text, i):
     return max((m.group() for m in (form.match(text, i) for form in NUMBERS) if m), key=len, default="")
 
 
-def float_item(number, suffix):
+def float_item(number, after, is_glsl):
     """Tokens 4: what is shown, and how many characters of the suffix are taken."""
-    if suffix in ("l", "L"):
+    letters = after[:2].lower() if is_glsl and after[:2] in ("lf", "LF", "hf", "HF") else ""
+    if not is_glsl and after[:1] in ("l", "L"):
         return "NotSupported64BitLiteral", 0
-    if suffix in ("h", "H"):
+    if not is_glsl and after[:1] in ("h", "H"):
         return "NotSupported16BitLiteral", 0
     if number[:2] in ("0x", "0X"):
         text = number[0] + number[2:]
@@ -102,18 +106,23 @@ def float_item(number, suffix):
         text = text[:point] + text[point:].replace("E", "e")
     else:
         text = number.replace("E", "e")
-    taken = 1 if suffix in ("f", "F") else 0
+    taken = len(letters) or (1 if after[:1] in ("f", "F") else 0)
     if FLOAT_TEXT.fullmatch(text):
-        return "Float " + text, taken
+        return "Float " + text + letters, taken
     return "FloatParsingError", taken
 
 
-def integer_item(number, after):
+def integer_item(number, after, is_glsl):
     """Tokens 5: what is shown, and how many characters of the suffix are taken."""
     taken = 1 if after[:1] in ("u", "U") else 0
-    if after[taken : taken + 1] in ("l", "L"):
+    letters = "u" if taken else ""
+    for suffix in ("ul", "UL", "us", "US", "l", "L", "s", "S") if is_glsl else ():
+        if after.startswith(suffix):
+            taken, letters = len(suffix), suffix.lower()
+            break
+    if not is_glsl and after[taken : taken + 1] in ("l", "L"):
         return "NotSupported64BitLiteral", taken
-    if after[taken : taken + 1] in ("s", "S"):
+    if not is_glsl and after[taken : taken + 1] in ("s", "S"):
         return "NotSupported16BitLiteral", taken
     if number[:2] in ("0x", "0X"):
         base, digits = 16, number[2:]
@@ -123,10 +132,10 @@ def integer_item(number, after):
         base, digits = 10, number
     if not digits or any(int(digit, 16) >= base for digit in digits) or int(digits, base) >= 2**64:
         return "IntegerOverflow", taken
-    return f"{int(digits, base)}{'u' if taken else ''}", taken
+    return f"{int(digits, base)}{letters}", taken
 
 
-def word_at(text, i):
+def word_at(text, i, is_glsl):
     """The word that begins there: what is shown of it, its length, and whether it is an error."""
     c = text[i]
     if c == "\n":
@@ -140,19 +149,19 @@ def word_at(text, i):
         return text[i:end], end - i, False
     number = number_at(text, i)
     if number:
-        after = text[i + len(number) : i + len(number) + 2]
+        after = text[i + len(number) : i + len(number) + 3]
         is_hexadecimal = number[:2] in ("0x", "0X")
         is_float = "." in number or (not is_hexadecimal and ("e" in number or "E" in number))
-        shown, taken = float_item(number, after[:1]) if is_float else integer_item(number, after)
+        shown, taken = (float_item if is_float else integer_item)(number, after, is_glsl)
         return shown, len(number) + taken, not (shown.startswith("Float ") or shown[0].isdigit())
     for length in (3, 2, 1):
         front = text[i : i + length]
         if front in PUNCTUATORS:
             return PUNCTUATORS[front], len(front), False
-    return "UnexpectedCharacter", min(3, len(text) - i), True
+    return "UnexpectedCharacter", 1 if is_glsl else min(3, len(text) - i), True
 
 
-def tokens(source):
+def tokens(source, is_glsl=False):
     """What test_calls prints of the items of the lexer: Tokens 1 to 8."""
     characters = uncommented(source)
     text = "".join(c for c, _, _ in characters)
@@ -171,7 +180,7 @@ def tokens(source):
             leading = True
             i += 1
             continue
-        shown, length, is_error = word_at(text, i)
+        shown, length, is_error = word_at(text, i, is_glsl)
         if is_error:
             found.append(f"Error {shown} 0..0 L1 comments={str(comments).lower()}")
         else:
