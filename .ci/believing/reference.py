@@ -13,7 +13,7 @@ from public import Public
 PAGE, GUIDE = 'docs/REFERENCE.md', 'docs/GUIDE.md'
 CRATE = 'pp_rs'
 # the modules at which a user of `pp_rs` finds what is public, and the types with which a module begins
-MODULES, FIRST = ('pp', 'token', 'lexer', 'laws', 'lexer::laws'), ('Preprocessor', 'Lexer', 'Token')
+MODULES, FIRST = ('pp', 'rules', 'token', 'lexer', 'laws', 'lexer::laws'), ('Preprocessor', 'Lexer', 'Token')
 # errors that no source gives: a row says why in place of an example
 WITHOUT_SOURCE = ('MacroNotDefined', 'OutOfMemory')
 

@@ -3,14 +3,14 @@ use Rattle.std.proofs.Common.{◌≡◌, ◌∙◌, ℕ, ◌+◌, ◌-◌, ◌�
 use Rattle.std.proofs.lemmas.List.{append-nil, map-append, drop_all}
 use Rattle.std.proofs.Math.ListN.{replicate}
 use Rattle.pp_model.specs.Run.{Call, next}
-use Rattle.pp_rs.specs.Kept.{Preprocessing, is_spent}
+use Rattle.pp_rs.specs.Kept.{Preprocessing, is_spent, rules_of}
 use Rattle.pp_c.specs.Calls.{calls_from, adding}
 use Rattle.pp_c.specs.Preprocessed.{entries_of}
 use Rattle.pp_c.specs.inner.Making.{Made, answers_of, made_of, IsSmall, HasCome, IsUntil, GoesOn, HasRest, IsPossible, HasAdded, HasAll, AddsOne}
 use Rattle.pp_c.specs.declared.items.Definition.{Definition}
 use Rattle.pp_c.specs.declared.output.Output.{Output}
 use Rattle.pp_c.specs.declared.preprocessing.Progress.{Progress}
-use Rattle.pp_c.proofs.MadeLemmas.{made_then}
+use Rattle.pp_c.proofs.MadeLemmas.{made_then, made_rules}
 use Rattle.pp_c.proofs.ProgressLemmas.{entries_of-append, come_none, made_going}
 use Rattle.pp_c.proofs.TakingLemmas.{takes_more}
 
@@ -24,6 +24,14 @@ none_added start first words definitions progress e unspent small = record {
   plan = λ all possible. rw e;
   unspent = unspent;
 }
+
+-- before each definition the rules are those of the start
+pub same_rules : (start : Preprocessing) (first : Output) (words : List ℕ) (definitions : List Definition) (at : ℕ) (begun progress : Progress)
+    (old between : Preprocessing) (output after : Output) → HasAdded start first words definitions at begun old output
+    → GoesOn old output begun between after progress → rules_of between ≡ rules_of start
+same_rules start first words definitions at begun progress old between output after h goes =
+    let come = goes.come start first h.calls h.come in
+    made_rules start between _ _ come.made
 
 -- a definition more
 pub come_added : (start : Preprocessing) (first : Output) (calls more : List Call) (progress : Progress) (old new : Preprocessing) (output : Output)

@@ -11,9 +11,10 @@ use Rattle.pp_model.specs.declared.call.Reply.TheVariants as reply
 use Rattle.pp_model.specs.declared.outcome.Outcome.{Outcome}
 use Rattle.pp_model.specs.declared.outcome.Outcome.TheVariants as outcome
 use Rattle.pp_rs.specs.Comes.{State}
-use Rattle.pp_rs.specs.Kept.{Preprocessing, Stands, errors_left}
+use Rattle.pp_rs.specs.Kept.{Preprocessing, Stands, errors_left, rules_of}
 use Rattle.pp_rs.specs.Preprocessing.{IsErrorAt}
 use Rattle.pp_rs.specs.Preprocessing as place
+use Rattle.pp_rs.specs.Rules.{pp_rs}
 use Rattle.pp_c.specs.Preprocessed.{Given, token, error, outcomes_of, replies_to_next, ErrorsStand, GivenHoldsOrdinary}
 use Rattle.pp_c.specs.Preprocessed as stand
 use Rattle.pp_c.specs.inner.Making.{Made, GivesNext}
@@ -29,6 +30,13 @@ made_then p q r calls others answers later (made.refused name content fault p1 r
     made.refused name content fault p r (rest ++ others) _ _ has (made_then p q r rest others answers later m h) (ap (λ cs. cs ++ others) e)
 made_then p q r calls others answers later (made.gave answer p1 q1 r1 rest c ones a g m e b) h =
     made.gave answer p q1 r (rest ++ others) _ (ones ++ later) _ g (made_then q1 q r rest others ones later m h) (ap (λ cs. cs ++ others) e) (ap (λ given. given ++ later) b)
+
+-- the rules stay
+pub made_rules : (p q : Preprocessing) (calls : List Call) (answers : List (Option Given)) → Made p calls answers q → rules_of q ≡ rules_of p
+made_rules p q calls answers (made.none p1 q1 c a ce ae e) = ap rules_of e
+made_rules p q calls answers (made.added name content tokens p1 q1 r1 rest c a has w m e) = made_rules q1 q rest answers m ∙ w.rules
+made_rules p q calls answers (made.refused name content fault p1 r1 rest c a has m e) = made_rules p q rest answers m
+made_rules p q calls answers (made.gave answer p1 q1 r1 rest c others a g m e b) = made_rules q1 q rest others m ∙ g.rules
 
 -- the answers up to and with the first error
 outcomes_to_error : List (Option Given) → List Outcome
@@ -46,7 +54,7 @@ outcomes_to_end (error fault at ∷ given) = refl
 -- a run with these answers
 pub record HasRun (state : State) (calls : List Call) (outcomes : List Outcome) : Type 0 where
   pub replies : List Reply
-  pub runs : Runs (by_rules (answers_at expansion_limit)) state calls replies
+  pub runs : Runs (by_rules (answers_at expansion_limit)) pp_rs state calls replies
   pub gives : replies_to_next replies ≡ outcomes
 
 run_gave : (answer : Option Given) (others : List (Option Given)) (p q : Preprocessing) (rest : List Call) (state : State) → Stands p state → GivesNext p answer q

@@ -5,11 +5,13 @@ use Rattle.pp_macros.specs.Item.{Item, is_out_of_memory}
 use Rattle.pp_model.specs.Calls.{Fault}
 use Rattle.pp_model.specs.Run.{items_of, content_tokens}
 use Rattle.pp_rs.specs.Adding.{IsAdded, refused, faulty, added}
-use Rattle.pp_rs.specs.Kept.{Preprocessing, is_spent, error_place}
+use Rattle.pp_rs.specs.Kept.{Preprocessing, is_spent, error_place, rules_of}
 use Rattle.pp_rs.specs.Location.{nowhere}
 use Rattle.pp_rs.specs.Preprocessing.{is_refusal, IsGivenItem, IsNextItem}
 use Rattle.pp_rs.specs.PreprocessorError.{out_of_memory}
+use Rattle.pp_rs.specs.Rules.{pp_rs}
 use Rattle.pp_rs.specs.declared.token.Token.{Token}
+use Rattle.pp_rs.proofs.runs.AddingLemmas.{tokens_by_pp_rs}
 use Rattle.pp_c.specs.Calls.{name_in, content_in, with_answer, with_fault}
 use Rattle.pp_c.specs.Numbers.{error_number}
 use Rattle.pp_c.specs.Preprocessed.{token, error}
@@ -29,29 +31,31 @@ module _ (old new : Preprocessing) (ready : is_spent old ≡ false) where
   ]
 
   pub next_token : (t : Token) → IsNextItem old (Some (Ok t)) new → GivesNext old (Some (token t)) new
-  next_token t h = record { given = given_by (Some (Ok t)) refl h; placed = tt }
+  next_token t h = record { given = given_by (Some (Ok t)) refl h; placed = tt; rules = h.rules }
 
   pub next_end : IsNextItem old None new → GivesNext old None new
-  next_end h = record { given = given_by None refl h; placed = tt }
+  next_end h = record { given = given_by None refl h; placed = tt; rules = h.rules }
 
   pub next_error : (fault : Fault) → is_out_of_memory fault.0 ≡ false → IsNextItem old (Some (Err fault)) new
       → GivesNext old (Some (error fault (error_place new))) new
-  next_error fault reported h = record { given = given_by (Some (Err fault)) reported h; placed = refl }
+  next_error fault reported h = record { given = given_by (Some (Err fault)) reported h; placed = refl; rules = h.rules }
 
   pub next_item : (item : Item) → is_refusal (Some item) ≡ false → IsNextItem old (Some item) new → GivesNext old (Some (given_of item (error_place new))) new
   next_item (Ok t) reported h = next_token t h
   next_item (Err fault) reported h = next_error fault reported h
 
 module _ (words : List ℕ) (definition after : Definition) (name content : List ℕ) (old new : Preprocessing)
-    (is_name : name ≡ name_in words definition) (is_content : content ≡ content_in words definition) where
+    (is_name : name ≡ name_in words definition) (is_content : content ≡ content_in words definition) (usual : rules_of old ≡ pp_rs) where
   pub adds_added : IsAdded old name content (Ok tt) new → after ≡ with_answer definition 0 nowhere → AddsOne words definition after old new
   adds_added (refused given same) e = cc
   adds_added (faulty fault has given same) e = cc
-  adds_added (added tokens has given h) e = record {
-    made = made.added name content tokens old new new [] _ [] has h (made.none new new [] [] refl refl refl) (rw (is_name, is_content));
-    spent = h.spent;
-    written = e ∙ ap (with_fault definition) (sym has ∙ ap (λ c. content_tokens (items_of c)) is_content);
-  }
+  adds_added (added tokens has given h) e =
+      let it : content_tokens (items_of content) ≡ Ok tokens = tokens_by_pp_rs old content usual ∙ has in
+      record {
+        made = made.added name content tokens old new new [] _ [] it h (made.none new new [] [] refl refl refl) (rw (is_name, is_content));
+        spent = h.spent;
+        written = e ∙ ap (with_fault definition) (sym it ∙ ap (λ c. content_tokens (items_of c)) is_content);
+      }
 
   pub adds_refused : (fault : Fault) → is_out_of_memory fault.0 ≡ false → IsAdded old name content (Err fault) new
       → after ≡ with_answer definition (error_number fault.0) fault.1 → AddsOne words definition after old new
@@ -61,7 +65,7 @@ module _ (words : List ℕ) (definition after : Definition) (name content : List
       cc
   adds_refused fault reported (faulty other has given same) e =
       let this : other ≡ fault = cc in
-      let it : content_tokens (items_of content) ≡ Err fault = has ∙ ap (λ (f : Fault). Err f) this in
+      let it : content_tokens (items_of content) ≡ Err fault = tokens_by_pp_rs old content usual ∙ has ∙ ap (λ (f : Fault). Err f) this in
       record {
         made = made.refused name content fault old new [] _ [] it (made.none old new [] [] refl refl same) (rw (is_name, is_content));
         spent = ap is_spent same;

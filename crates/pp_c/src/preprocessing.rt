@@ -8,7 +8,8 @@ ghost use Rattle.pp_rs.specs.TokenRefs.{value_of};
 ghost use Rattle.pp_c.specs.Preprocessed.{given_entries};
 ghost use Rattle.pp_rs.specs.Preorder.{preorder, inner, leaf_of};
 ghost use Rattle.pp_rs.specs.TokenValue.{is_ordinary};
-ghost use Rattle.pp_rs.specs.Kept.{is_spent, most_items};
+ghost use Rattle.pp_rs.specs.Kept.{is_spent, most_items, rules_of};
+ghost use Rattle.pp_rs.specs.Rules.{pp_rs};
 ghost use Rattle.pp_c.specs.Calls.{answered, Fits, HasLongContent, LiesOutside};
 ghost use Rattle.pp_c.specs.Entries.{in_32_bits};
 ghost use Rattle.pp_c.specs.Tokens.{item_at, leaf_entry, token_entries, error_entries};
@@ -75,7 +76,8 @@ fn give_all(
     definitions: &mut [Definition],
     output: &mut Output<'_>,
 ) -> Result<(), Refusal>
-    requires { is_spent pp.old ≡ false }
+    requires unspent { is_spent pp.old ≡ false }
+    requires rules { rules_of pp.old ≡ pp_rs }
     ensures given { OnOk result (HasAll pp.old output.old words.now definitions.old pp.new output.new) }
     ensures answered { OnOk result (definitions.new ≡ map (answered words.now) definitions.old) }
     ensures fit { OnOk result (All (Fits words.now) definitions.old) }

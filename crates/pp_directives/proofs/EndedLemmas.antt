@@ -1,9 +1,9 @@
 -- In the items of a text each line ends: an item that doesn't end its line is followed by another.
 use Rattle.std.proofs.Common.{◌≡◌, ◌≢◌, ◌∙◌, Bool, true, false, List, [], ◌∷◌, ◌++◌, sym, ap, refl, subst}
-use Rattle.pp_lexer.specs.Rules.{pp_rs}
+use Rattle.pp_lexer.specs.declared.rules.Rules.{Rules}
 use Rattle.pp_lexer.specs.declared.lexer.char_iterator.Spot.{Spot}
 use Rattle.pp_lexer.specs.declared.lexer.Flags.{Flags}
-use Rattle.pp_lexer.specs.Lexed.{Seen, start_of, after_first_item}
+use Rattle.pp_lexer.specs.Lexed.{Seen, start_by, after_first_item}
 use Rattle.pp_lexer.specs.inner.Passing.{passed, item_seen, newline_seen, seen_from}
 use Rattle.pp_lexer.specs.Reading.{Reading}
 use Rattle.pp_lexer.specs.Segments.{Kind, blank, comment, item, Segment, segments}
@@ -31,12 +31,12 @@ ended_from [] f last = ended_end f.leading_whitespace f.start_of_line f.had_comm
 ended_from (g ∷ gs) f last = ended_item g.kind f g (seen_from (passed f g.kind) g.last gs) (ended_from gs (passed f g.kind) g.last)
 
 -- so they are in those of a text
-pub start_ended : (ss : List Spot) → AreEnded (start_of ss).rest
-start_ended ss =
+pub start_ended : (rules : Rules) (ss : List Spot) → AreEnded (start_by rules ss).rest
+start_ended rules ss =
     let f : Flags = record { leading_whitespace = true; start_of_line = true; had_comments = false } in
     let last : Spot = record { c = 0; line = 0; begin = 0; end = 0 } in
     let r : Reading = record { rest = ss; last = last } in
-    subst AreEnded (ap (λ l. l.rest) (start_seen pp_rs r ss last refl)) (ended_from (segments pp_rs ss) f last).0
+    subst AreEnded (ap (λ l. l.rest) (start_seen rules r ss last refl)) (ended_from (segments rules ss) f last).0
 
 -- and after the first of them
 pub ended_after : (items : List Seen) → AreEnded items → AreEnded (after_first_item items)

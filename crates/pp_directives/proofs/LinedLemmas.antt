@@ -2,13 +2,13 @@
 -- error is before it on its line.
 use Rattle.std.proofs.Common.{◌≡◌, ◌∙◌, ℕ, zero, suc, Bool, true, false, ◌&&◌, List, [], ◌∷◌, ◌++◌, drop, refl, sym, ap, subst}
 use Rattle.std.specs.Prelude.{Result, Ok, Err}
-use Rattle.pp_lexer.specs.Rules.{pp_rs}
+use Rattle.pp_lexer.specs.declared.rules.Rules.{Rules}
 use Rattle.pp_lexer.specs.declared.lexer.char_iterator.Spot.{Spot}
 use Rattle.pp_lexer.specs.declared.lexer.Flags.{Flags}
 use Rattle.pp_lexer.specs.declared.lexer.item.TokenValue.{TokenValue}
 use Rattle.pp_lexer.specs.declared.lexer.item.TokenValue.TheVariants.{Hash, NewLine, Ident, Integer, Float, Punct}
 use Rattle.pp_lexer.specs.declared.token.PreprocessorError.{PreprocessorError}
-use Rattle.pp_lexer.specs.Lexed.{Seen, start_of}
+use Rattle.pp_lexer.specs.Lexed.{Seen, start_by}
 use Rattle.pp_lexer.specs.inner.Passing.{is_newline_result, passed, lexeme_seen, item_seen, newline_seen, seen_from}
 use Rattle.pp_lexer.specs.Reading.{Reading}
 use Rattle.pp_lexer.specs.Segments.{Kind, blank, comment, item, Segment, segments}
@@ -16,7 +16,7 @@ use Rattle.pp_lexer.specs.Spots.{spots_of}
 use Rattle.pp_lexer.proofs.items.ItemsLemmas.{start_seen}
 use Rattle.pp_model.specs.Conversions.{is_newline, is_hash}
 use Rattle.pp_model.specs.Lines.{ends_line}
-use Rattle.pp_model.specs.Run.{items_of}
+use Rattle.pp_model.specs.Run.{items_by}
 use Rattle.pp_model.specs.Sights.{is_directive_hash}
 use Rattle.pp_directives.specs.inner.Lined.{BeginsNoDirective, AreLined}
 
@@ -66,16 +66,16 @@ lined_from : (gs : List Segment) (f : Flags) (last : Spot) → AreLinedFrom f (s
 lined_from [] f last = lined_end f.leading_whitespace f.start_of_line f.had_comments last
 lined_from (g ∷ gs) f last = lined_item g.kind f g (seen_from (passed f g.kind) g.last gs) (lined_from gs (passed f g.kind) g.last)
 
-lined_at_start : (ss : List Spot) → AreLined (start_of ss).rest
-lined_at_start ss =
+lined_at_start : (rules : Rules) (ss : List Spot) → AreLined (start_by rules ss).rest
+lined_at_start rules ss =
     let f : Flags = record { leading_whitespace = true; start_of_line = true; had_comments = false } in
     let last : Spot = record { c = 0; line = 0; begin = 0; end = 0 } in
     let r : Reading = record { rest = ss; last = last } in
-    subst AreLined (ap (λ l. l.rest) (start_seen pp_rs r ss last refl)) (lined_from (segments pp_rs ss) f last).0
+    subst AreLined (ap (λ l. l.rest) (start_seen rules r ss last refl)) (lined_from (segments rules ss) f last).0
 
 -- so in the items of a text they stand only where a line begins
-pub items_lined : (text : List ℕ) → AreLined (items_of text)
-items_lined text = lined_at_start (spots_of text)
+pub items_lined : (rules : Rules) (text : List ℕ) → AreLined (items_by rules text)
+items_lined rules text = lined_at_start rules (spots_of text)
 
 -- the same after some of the items
 pub lined_after : (n : ℕ) (items : List Seen) → AreLined items → AreLined (drop n items)

@@ -1,7 +1,7 @@
 -- What reading does to the errors of the lexer that were not reported yet.
 use Rattle.std.proofs.Common.{◌≡◌, List, [], ◌∷◌, map, refl, subst, Result}
-use Rattle.pp_lexer.specs.Rules.{pp_rs}
-use Rattle.pp_lexer.specs.Items.{Item, items_of, places_of}
+use Rattle.pp_lexer.specs.Items.{Item, items_by, places_by}
+use Rattle.pp_lexer.specs.declared.rules.Rules.{Rules}
 use Rattle.pp_lexer.specs.ItemLaws.{StandAt}
 use Rattle.pp_lexer.specs.Lexed.{Seen, seen, after_first_item, places_after_first}
 use Rattle.pp_lexer.specs.declared.lexer.char_iterator.Spot.{Spot}
@@ -19,8 +19,8 @@ items_have_places [] (place ∷ places) h = absurd h
 items_have_places (i ∷ items) [] h = absurd h
 items_have_places (i ∷ items) (place ∷ places) h = items_have_places items places h.1
 
-pub start_has_places : (ss : List Spot) → HavePlaces (map seen (items_of ss)) (places_of ss)
-start_has_places ss = items_have_places (items_of ss) (places_of ss) (places_of_items pp_rs ss)
+pub start_has_places : (rules : Rules) (ss : List Spot) → HavePlaces (map seen (items_by rules ss)) (places_by rules ss)
+start_has_places rules ss = items_have_places (items_by rules ss) (places_by rules ss) (places_of_items rules ss)
 
 -- and those after the first have
 pub places_after : (rest : List Seen) (places : List Location) → HavePlaces rest places → HavePlaces (after_first_item rest) (places_after_first places)

@@ -4,7 +4,7 @@ ghost use Rattle.std.specs.Prelude.{◌≡◌, ◌-◌, ◌^◌, ◌<◌, [], le
 ghost use Rattle.std.specs.Prelude.{pos, ◌+ℤ◌};
 ghost use Rattle.std.specs.Str.{chars};
 ghost use Rattle.pp_model.specs.LineValues.{as_line_number};
-ghost use Rattle.pp_model.specs.Run.{items_of, content_tokens};
+ghost use Rattle.pp_model.specs.Run.{items_by, content_tokens};
 ghost use Rattle.pp_macros.specs.Held.{HoldsOrdinary};
 ghost use Rattle.pp_directives.specs.inner.PlainText.{IsInText};
 ghost use Rattle.pp_macros.specs.inner.OpenBlocks.{is_live_among};
@@ -22,6 +22,7 @@ use crate::content::content_tokens;
 use crate::convert::convert_lexer_token_to_step;
 use crate::source_lexer::SourceLexer;
 use pp_lexer::lexer::{self, Form};
+use pp_lexer::rules::Rules;
 use pp_lexer::token::{Location, PreprocessorError, Text, Token, out_of_memory};
 use pp_macros::blocks::Blocks;
 use pp_macros::define::Define;
@@ -68,16 +69,16 @@ impl<'a> Model for DirectiveProcessor<'a> {
 }
 
 impl<'a> DirectiveProcessor<'a> {
-    /// A reader at the start of a source of fewer than 2^32 - 1 bytes.
+    /// A reader at the start of a source of fewer than 2^32 - 1 bytes, by these rules.
     ///
     /// It allocates nothing and reads nothing yet.
-    pub fn new(alloc: Global, input: &'a str) -> DirectiveProcessor<'a>
+    pub fn new(alloc: Global, input: &'a str, rules: Rules) -> DirectiveProcessor<'a>
         requires { length input.now < 2 ^ 32 - 1 }
-        ensures { result ≡ source_start input.now }
+        ensures { result ≡ source_start rules input.now }
     {
         DirectiveProcessor {
             alloc,
-            lexer: SourceLexer::new(alloc, input),
+            lexer: SourceLexer::new(alloc, input, rules),
             definitions: Definitions::new(alloc),
             blocks: Blocks::new(alloc),
             line_offset: 0,
@@ -111,14 +112,14 @@ impl<'a> DirectiveProcessor<'a> {
         self.lexer.take_error_place()
     }
 
-    /// Defines the name as the tokens of a content of fewer than 2^32 - 1 bytes, replacing any definition of it. After
-    /// an error nothing is changed.
-    pub fn set_content(&mut self, name: &str, content: &str) -> Result<(), Halt>
+    /// Defines the name as the tokens of a content of fewer than 2^32 - 1 bytes, read by these rules, replacing any
+    /// definition of it. After an error nothing is changed.
+    pub fn set_content(&mut self, name: &str, content: &str, rules: Rules) -> Result<(), Halt>
         requires { length content.now < 2 ^ 32 - 1 }
         ensures { SetsContent (chars name.now)
-            (content_tokens (items_of content.now)) self.old result self.new }
+            (content_tokens (items_by rules content.now)) self.old result self.new }
     {
-        let body = content_tokens(self.alloc, content)?;
+        let body = content_tokens(self.alloc, content, rules)?;
         let define = Define::object_like(self.alloc, body)?;
         let name = Text::from(String::from_str(self.alloc, name)?);
         self.definitions.set(name, define)?;

@@ -1,7 +1,7 @@
 //! The lexer of a source, which keeps the place of an error.
 
 ghost use Rattle.std.specs.Prelude.{◌≡◌, ◌≢◌, ◌-◌, ◌^◌, ◌<◌, length, false, None, IfOk, IfSome};
-ghost use Rattle.pp_lexer.specs.Lexed.{start_of};
+ghost use Rattle.pp_lexer.specs.Lexed.{start_by};
 ghost use Rattle.pp_lexer.specs.Spots.{spots_of};
 ghost use Rattle.pp_lexer.specs.declared.lexer.plain.Form.TheVariants.{Hash};
 ghost use Rattle.pp_directives.specs.inner.PlainText.{IsPeeked, PassesBlanks, PassesWord, TakesWordToken};
@@ -11,6 +11,7 @@ ghost use Rattle.pp_macros.specs.inner.SourceLexed.{beginning};
 
 use crate::convert::word_token;
 use pp_lexer::lexer::{self, Lexer, PlainItem};
+use pp_lexer::rules::Rules;
 use pp_lexer::token::{Location, Token};
 use pp_macros::halt::Halt;
 use pp_macros::step::is_out_of_memory;
@@ -46,15 +47,15 @@ impl<'a> Model for SourceLexer<'a> {
 }
 
 impl<'a> SourceLexer<'a> {
-    /// A lexer at the start of a source of fewer than 2^32 - 1 bytes.
+    /// A lexer at the start of a source of fewer than 2^32 - 1 bytes, by these rules.
     ///
     /// It allocates nothing and reads nothing yet.
-    pub fn new(alloc: Global, input: &'a str) -> SourceLexer<'a>
+    pub fn new(alloc: Global, input: &'a str, rules: Rules) -> SourceLexer<'a>
         requires { length input.now < 2 ^ 32 - 1 }
-        ensures { result ≡ beginning (start_of (spots_of input.now)) }
+        ensures { result ≡ beginning (start_by rules (spots_of input.now)) }
     {
         SourceLexer {
-            lexer: Lexer::new(alloc, input),
+            lexer: Lexer::with_rules(alloc, input, rules),
             error_place: None,
         }
     }

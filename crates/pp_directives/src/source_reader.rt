@@ -6,7 +6,7 @@ use crate::directives::DirectiveProcessor;
 use pp_lexer::token::{Location, PreprocessorError};
 use pp_macros::define::Macro;
 use pp_macros::names::NameId;
-use pp_macros::reader::{MeLexer, ends_at_parenthesis};
+use pp_macros::reader::MeLexer;
 use pp_macros::step::{Step, StepExit};
 use pp_model::read::Read;
 use std::alloc::AllocError;
@@ -26,8 +26,8 @@ impl<'a> MeLexer for DirectiveProcessor<'a> {
         if !self.is_in_text() {
             return Ok(false);
         }
-        'words: while self.push_word(tokens)? {
-            if ends_at_parenthesis(tokens) {
+        'words: while let Some(is_parenthesis) = self.push_word(tokens)? {
+            if is_parenthesis {
                 return Ok(true);
             }
         }

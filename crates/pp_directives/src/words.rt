@@ -6,8 +6,10 @@ ghost use Rattle.pp_lexer.specs.declared.lexer.plain.Form.TheVariants.{Hash};
 ghost use Rattle.pp_model.specs.Names.{is_identifier, is_same_name, line_name};
 ghost use Rattle.pp_directives.specs.WordTokens.{word_value};
 ghost use Rattle.pp_directives.specs.inner.PlainText.{Does};
+ghost use Rattle.pp_macros.specs.inner.Reader.{nests};
 
 use pp_lexer::lexer::{Form, PlainItem};
+use pp_lexer::token::Punct;
 use pp_macros::names::{Definitions, NameId};
 
 // Whether the name is `__LINE__`. Most have another length, and need no call.
@@ -32,6 +34,14 @@ pub fn is_apart(word: &PlainItem<'_>) -> bool
         Form::Identifier => !is_line_name(word.spelling),
         _ => true,
     }
+}
+
+/// Whether the word is a parenthesis.
+#[inline(always)]
+pub fn is_parenthesis(word: &PlainItem<'_>) -> bool
+    ensures { result ≡ nests (word_value word.now.form word.now.spelling.now) }
+{
+    matches!(word.form, Form::Punct(Punct::LeftParen | Punct::RightParen))
 }
 
 /// What the word does in live text while no macro is open, by one look-up of its name: it opens the macro without

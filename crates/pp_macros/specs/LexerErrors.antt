@@ -1,11 +1,13 @@
 -- The errors of the lexer in a source, each with its true place. An error item itself says (0, 0, line 1)
 -- (docs/RULES.md, Tokens 7).
 use Rattle.std.specs.Prelude.{ℕ, List, [], ◌∷◌, Ok, Err}
-use Rattle.pp_lexer.specs.Items.{Lexeme, places_of}
+use Rattle.pp_lexer.specs.Items.{Lexeme, places_by}
 use Rattle.pp_lexer.specs.Lexed.{Seen}
+use Rattle.pp_lexer.specs.Rules.{pp_rs}
 use Rattle.pp_lexer.specs.Spots.{spots_of}
+use Rattle.pp_lexer.specs.declared.rules.Rules.{Rules}
 use Rattle.pp_lexer.specs.declared.token.Location.{Location}
-use Rattle.pp_model.specs.Run.{items_of}
+use Rattle.pp_model.specs.Run.{items_by}
 use Rattle.pp_macros.specs.Item.{Fault}
 
 -- an error item, and its true place
@@ -24,6 +26,10 @@ errors_among [] places = []
 errors_among (s ∷ rest) [] = []
 errors_among (s ∷ rest) (place ∷ places) = error_before s.item place (errors_among rest places)
 
--- the errors of a text, in their order
+-- the errors of a text by these rules, in their order
+abbrev pub lexer_errors_by : Rules → List ℕ → List ErrorAt
+lexer_errors_by rules text = errors_among (items_by rules text) (places_by rules (spots_of text))
+
+-- the same by pp-rs's rules
 abbrev pub lexer_errors : List ℕ → List ErrorAt
-lexer_errors text = errors_among (items_of text) (places_of (spots_of text))
+lexer_errors text = lexer_errors_by pp_rs text

@@ -2,6 +2,7 @@
 use Rattle.std.proofs.Common.{◌≡◌, ◌∙◌, ℕ, List, refl, sym, ap, Option, Some, None, inl, inr, Result}
 use Rattle.pp_lexer.specs.declared.token.Location.{Location}
 use Rattle.pp_lexer.specs.declared.token.Token.{Token}
+use Rattle.pp_lexer.specs.declared.rules.Rules.{Rules}
 use Rattle.pp_model.specs.Reading.{Reading, Expander}
 use Rattle.pp_model.specs.Taking.{Fetches, held, listed, read, Takes}
 use Rattle.pp_model.specs.Calls.{Fault, Answers, Gathered, Gathers, closed, inside, overfull, ended, failed, Called, Calls, alone, broken, whole}
@@ -107,15 +108,15 @@ gives_live A e o f g = record {
 
 -- a run where what comes next comes so too
 run_of : (C D : Comings) → ((e : Expander SourceReader) (o : Outcome) (f : Expander SourceReader) → C e o f → D e o f)
-    → (e : Expander SourceReader) (calls : List Call) (replies : List Reply) → Runs C e calls replies → Runs D e calls replies
-run_of C D comes e asked replies (run.done e1 r n) = run.done e1 r n
-run_of C D comes e asked replies (run.added name content tokens e1 later rest r t more n) =
-    run.added name content tokens e1 later rest r t (run_of C D comes _ later rest more) n
-run_of C D comes e asked replies (run.refused name content fault e1 later rest r t more n) =
-    run.refused name content fault e1 later rest r t (run_of C D comes e1 later rest more) n
-run_of C D comes e asked replies (run.given o e1 f later rest r c n more s) =
-    run.given o e1 f later rest r (comes e1 o f c) n (run_of C D comes f later rest more) s
-run_of C D comes e asked replies (run.failed fault e1 f later r c n) = run.failed fault e1 f later r (comes e1 (outcome.Fault fault) f c) n
+    → (rules : Rules) (e : Expander SourceReader) (calls : List Call) (replies : List Reply) → Runs C rules e calls replies → Runs D rules e calls replies
+run_of C D comes rules e asked replies (run.done e1 r n) = run.done e1 r n
+run_of C D comes rules e asked replies (run.added name content tokens e1 later rest r t more n) =
+    run.added name content tokens e1 later rest r t (run_of C D comes rules _ later rest more) n
+run_of C D comes rules e asked replies (run.refused name content fault e1 later rest r t more n) =
+    run.refused name content fault e1 later rest r t (run_of C D comes rules e1 later rest more) n
+run_of C D comes rules e asked replies (run.given o e1 f later rest r c n more s) =
+    run.given o e1 f later rest r (comes e1 o f c) n (run_of C D comes rules f later rest more) s
+run_of C D comes rules e asked replies (run.failed fault e1 f later r c n) = run.failed fault e1 f later r (comes e1 (outcome.Fault fault) f c) n
 
 pub runs_are_live : (A : Answers) → RunsAreLive A
 runs_are_live A = run_of (by_rules A) (GivesLive A) (gives_live A)

@@ -1,15 +1,14 @@
 -- The tokens that a run gives can be spelled, and the text that spells them gives them again.
 use Rattle.std.proofs.Common.{◌≡◌, ◌⊎◌, inl, inr, ℕ, ℤ, pos, negsuc, ◌<◌, ◌^◌, ◌-◌, Bool, true, false, if◌then◌else◌, List, [], ◌∷◌, ◌++◌, length, map, refl, sym, subst, Some, None, arith}
-use Rattle.std.specs.Prelude.{IfOk, Result, Ok, Err, All, nat_lt}
+use Rattle.std.specs.Prelude.{IfOk, MatchBool, Result, Ok, Err, All, nat_lt}
 use Rattle.std.specs.List.{AllByRecursion as Each, cons_option}
 use Rattle.std.specs.Str.{encode_utf8_all, chars}
 use Rattle.std.proofs.lemmas.Bool.{ltb-true}
 use Rattle.std.proofs.lemmas.List.Elements.{All-head, All-tail, All-nil, All-cons}
 use Rattle.pp_lexer.specs.ItemLaws.{HasLineWithin}
-use Rattle.pp_lexer.specs.Items.{Lexeme, Item, items_of as lexed_items}
+use Rattle.pp_lexer.specs.Items.{Lexeme, Item, items_by as lexed_items}
 use Rattle.pp_lexer.specs.Lexed.{Seen, seen}
-use Rattle.pp_lexer.specs.Rules.{pp_rs}
-use Rattle.pp_lexer.specs.Respelling.{IsSpellable, IsSpelled, lexer_value, item_value, ending}
+use Rattle.pp_lexer.specs.Respelling.{IsSpellableBy, IsSpelled, lexer_value, item_value, ending}
 use Rattle.pp_lexer.specs.Spelling.{spelled_text, values_of}
 use Rattle.pp_lexer.specs.Spots.{spots_of}
 use Rattle.pp_lexer.specs.TokenValue.{is_ordinary}
@@ -22,6 +21,7 @@ use Rattle.pp_lexer.specs.declared.token.TokenValue.TheVariants.{Version, Extens
 use Rattle.pp_lexer.proofs.spelling.RespellingLemmas.{read_back}
 use Rattle.pp_lexer.proofs.spelling.SpelledValuesLemmas.{values_spelled}
 use Rattle.pp_lexer.proofs.items.TokenLinesLemmas.{tokens_have_lines}
+use Rattle.pp_lexer.specs.declared.rules.Rules.{Rules}
 use Rattle.pp_model.specs.Names.{is_identifier, line_name}
 use Rattle.pp_model.specs.Conversions.{is_hash}
 use Rattle.pp_model.specs.Calls.{Fault}
@@ -31,7 +31,7 @@ use Rattle.pp_model.specs.LineValues.{as_line_number}
 use Rattle.pp_model.specs.Reading.{Expander}
 use Rattle.pp_model.specs.Reads.{source_reading}
 use Rattle.pp_model.specs.RespellLaws.{IsText, HasText, token_of, given_token, given_tokens, IsReadAfresh, RunsAreReadAfresh, calls_for, replies_with}
-use Rattle.pp_model.specs.Run.{by_rules, Call, add_define, next, items_of, content_tokens, start, with_added, Runs, done, added, refused, given, failed}
+use Rattle.pp_model.specs.Run.{by_rules, Call, add_define, next, items_by, content_tokens, start, with_added, Runs, done, added, refused, given, failed}
 use Rattle.pp_model.specs.RunStates.{gives_line_name}
 use Rattle.pp_model.specs.SourceReader.{SourceReader}
 use Rattle.pp_model.specs.declared.call.Reply.{Reply}
@@ -53,18 +53,22 @@ abbrev IsLine : ℕ → Type 0
 IsLine n = n < 2 ^ 64
 
 -- a token that can be spelled, or holds a directive, on such a line
-abbrev IsGood : Token → Type 0
-IsGood token = (is_ordinary token.value ≡ true → IsSpellable token.value) × IsLine token.location.line
+abbrev IsGood : Rules → Token → Type 0
+IsGood rules token = (is_ordinary token.value ≡ true → IsSpellableBy rules token.value) × IsLine token.location.line
 
-good_closed : AreClosed IsGood IsLine
-good_closed = record { line = λ token q. q.1; number = λ place n l h. (λ o. (h, refl), l) }
+usual_width : (takes : Bool) → MatchBool takes ((pos 32 ≡ pos 32) ⊎ ((pos 32 ≡ pos 64) ⊎ (pos 32 ≡ pos 16))) (pos 32 ≡ pos 32)
+usual_width true = inl refl
+usual_width false = refl
+
+good_closed : (rules : Rules) → AreClosed (IsGood rules) IsLine
+good_closed rules = record { line = λ token q. q.1; number = λ place n l h. (λ o. (h, usual_width rules.takes_widths), l) }
 
 not_both : (b : Bool) → b ≡ false → b ≡ true → ⊥
 not_both true e h = cc
 not_both false e h = cc
 
-good_directives : DirectiveItemsHold IsGood IsLine good_closed
-good_directives token other l = (λ o. absurd (not_both (is_ordinary token.value) other o), l)
+good_directives : (rules : Rules) → DirectiveItemsHold (IsGood rules) IsLine (good_closed rules)
+good_directives rules token other l = (λ o. absurd (not_both (is_ordinary token.value) other o), l)
 
 shown_in_range : (k n : ℕ) (b : Bool) → nat_lt k (2 ^ 32) ≡ b → (if b then Some k else None) ≡ Some n → IsLine n
 shown_in_range k n true e is =
@@ -81,31 +85,33 @@ shown_is_line (negsuc k) n e = cc
 abbrev HasLines : List Seen → Type 0
 HasLines items = Each (λ s. IfOk s.item (λ token. IsLine token.location.line)) items
 
-good_value : (token : LexerToken) (value : LexerTokenValue) → IsSpelled pp_rs (Ok value) → IsLine token.location.line
-    → HoldsOfLexeme IsGood (Ok (record token { value = value }))
-good_value token Hash h l = tt
-good_value token NewLine h l = tt
-good_value token (LexerPunct p) h l = (λ o. tt, l)
-good_value token _ h l = (λ o. h, l)
+module _ (rules : Rules) where
+  good_value : (token : LexerToken) (value : LexerTokenValue) → IsSpelled rules (Ok value) → IsLine token.location.line
+      → HoldsOfLexeme (IsGood rules) (Ok (record token { value = value }))
+  good_value token Hash h l = tt
+  good_value token NewLine h l = tt
+  good_value token (LexerPunct p) h l = (λ o. tt, l)
+  good_value token _ h l = (λ o. h, l)
 
-good_item : (item : Lexeme) → IsSpelled pp_rs (item_value item) → IfOk item (λ token. IsLine token.location.line) → HoldsOfLexeme IsGood item
-good_item (Ok token) h l = good_value token token.value h l
-good_item (Err fault) h l = tt
+  good_item : (item : Lexeme) → IsSpelled rules (item_value item) → IfOk item (λ token. IsLine token.location.line) → HoldsOfLexeme (IsGood rules) item
+  good_item (Ok token) h l = good_value token token.value h l
+  good_item (Err fault) h l = tt
 
-good_items : (items : List Seen) → All (IsSpelled pp_rs) (map (λ s. item_value s.item) items) → HasLines items → HoldInItems IsGood items
-good_items [] all lines = tt
-good_items (s ∷ rest) all lines = (
-  good_item s.item (All-head (IsSpelled pp_rs) (item_value s.item) (map (λ t. item_value t.item) rest) all) lines.0,
-  good_items rest (All-tail (IsSpelled pp_rs) (item_value s.item) (map (λ t. item_value t.item) rest) all) lines.1,
-)
+  good_items : (items : List Seen) → All (IsSpelled rules) (map (λ s. item_value s.item) items) → HasLines items → HoldInItems (IsGood rules) items
+  good_items [] all lines = tt
+  good_items (s ∷ rest) all lines = (
+    good_item s.item (All-head (IsSpelled rules) (item_value s.item) (map (λ t. item_value t.item) rest) all) lines.0,
+    good_items rest (All-tail (IsSpelled rules) (item_value s.item) (map (λ t. item_value t.item) rest) all) lines.1,
+  )
 
-item_good : (x : Taken) → HoldsOfTaken IsGood x → HoldsOfOutcome IsGood (item_of x)
-item_good (taken.Token token) q = q
-item_good _ q = tt
+  item_good : (x : Taken) → HoldsOfTaken (IsGood rules) x → HoldsOfOutcome (IsGood rules) (item_of x)
+  item_good (taken.Token token) q = q
+  item_good _ q = tt
 
-given_good : (o : Outcome) (later : List Token) → HoldsOfOutcome IsGood o → Each IsGood later → Each IsGood (cons_option (token_of o) later)
-given_good (outcome.Token token) later q all = (q, all)
-given_good _ later q all = all
+  given_good : (o : Outcome) (later : List Token) → HoldsOfOutcome (IsGood rules) o → Each (IsGood rules) later
+      → Each (IsGood rules) (cons_option (token_of o) later)
+  given_good (outcome.Token token) later q all = (q, all)
+  given_good _ later q all = all
 
 lines_hold : (total : ℕ) (items : List Item) → total < 2 ^ 32 - 1 → All (λ i. HasLineWithin total i.item) items → HasLines (map seen items)
 lines_hold total [] short all = tt
@@ -118,54 +124,54 @@ lines_hold total (i ∷ items) short all = (
     line_holds (Ok token) h = omega (arith, h.1, short)
     line_holds (Err fault) h = tt
 
-lines : (text : List ℕ) → IsText text → HasLines (items_of text)
-lines text t = lines_hold (length text) (lexed_items (spots_of text)) t.1 (tokens_have_lines pp_rs text t.0)
+lines : (rules : Rules) (text : List ℕ) → IsText text → HasLines (items_by rules text)
+lines rules text t = lines_hold (length text) (lexed_items rules (spots_of text)) t.1 (tokens_have_lines rules text t.0)
 
 -- so are the texts' tokens
-module _ (level : ℕ) where
+module _ (level : ℕ) (rules : Rules) where
   abbrev K : SourceReader → Type 0
-  K = HoldsOfReader IsGood IsLine good_closed
+  K = HoldsOfReader (IsGood rules) IsLine (good_closed rules)
 
-  text_good : (text : List ℕ) → IsText text → HoldInItems IsGood (items_of text)
-  text_good text t = good_items (items_of text) (values_spelled pp_rs text t.0) (lines text t)
+  text_good : (text : List ℕ) → IsText text → HoldInItems (IsGood rules) (items_by rules text)
+  text_good text t = good_items rules (items_by rules text) (values_spelled rules text t.0) (lines rules text t)
 
-  keeps : ReaderKeeps IsGood IsLine (source_reading (answers_at level)) K
-  keeps = source_keeps IsGood IsLine good_closed good_directives (answers_at level) shown_is_line
+  keeps : ReaderKeeps (IsGood rules) IsLine (source_reading (answers_at level)) K
+  keeps = source_keeps (IsGood rules) IsLine (good_closed rules) (good_directives rules) (answers_at level) shown_is_line
 
-  added_good : (content : List ℕ) (tokens : List Token) → IsText content → content_tokens (items_of content) ≡ Ok tokens → Each IsGood tokens
+  added_good : (content : List ℕ) (tokens : List Token) → IsText content → content_tokens (items_by rules content) ≡ Ok tokens → Each (IsGood rules) tokens
   added_good content tokens t e =
-      subst (λ (r : Result (List Token) Fault). IfOk r (Each IsGood)) e (content_holds IsGood (items_of content) (text_good content t))
+      subst (λ (r : Result (List Token) Fault). IfOk r (Each (IsGood rules))) e (content_holds (IsGood rules) (items_by rules content) (text_good content t))
 
   -- each token that a run gives is good
-  given_are_good : (e : Expander SourceReader) (calls : List Call) (replies : List Reply) → Runs (by_rules (answers_at level)) e calls replies
-      → All HasText calls → HoldsOf IsGood IsLine K e → Each IsGood (given_tokens replies)
+  given_are_good : (e : Expander SourceReader) (calls : List Call) (replies : List Reply) → Runs (by_rules (answers_at level)) rules e calls replies
+      → All HasText calls → HoldsOf (IsGood rules) IsLine K e → Each (IsGood rules) (given_tokens replies)
   given_are_good e calls replies (done e1 r1 p) texts h = rw p tt
   given_are_good e calls replies (added name content tokens e1 more rest r1 is runs p) texts h =
       let body = added_good content tokens (All-head HasText (add_define name content) more texts) is in
-      let after : HoldsOf IsGood IsLine K (with_added (chars name) tokens e) =
+      let after : HoldsOf (IsGood rules) IsLine K (with_added (chars name) tokens e) =
       record {
         held = h.held;
         list = h.list;
         reader = (
           h.reader.0,
-          changed_holds IsGood IsLine good_closed e.reader.definitions (chars name) (Some (object_like tokens)) h.reader.1 body,
+          changed_holds (IsGood rules) IsLine (good_closed rules) e.reader.definitions (chars name) (Some (object_like tokens)) h.reader.1 body,
         );
       } in
       rw p (given_are_good (with_added (chars name) tokens e) more rest runs (All-tail HasText (add_define name content) more texts) after)
   given_are_good e calls replies (refused name content fault e1 more rest r1 is runs p) texts h =
       rw p (given_are_good e more rest runs (All-tail HasText (add_define name content) more texts) h)
   given_are_good e calls replies (given o e1 f more rest r1 item is runs p) texts h =
-      let after = item_keeps IsGood IsLine good_closed (source_reading (answers_at level)) K keeps (answers_at level)
-      (answers_keep IsGood IsLine good_closed level) item.taken e f item.emits h in
+      let after = item_keeps (IsGood rules) IsLine (good_closed rules) (source_reading (answers_at level)) K keeps (answers_at level)
+      (answers_keep (IsGood rules) IsLine (good_closed rules) level) item.taken e f item.emits h in
       rw p
-      (given_good o (given_tokens rest) (subst (HoldsOfOutcome IsGood) (sym item.is) (item_good item.taken after.0))
+      (given_good rules o (given_tokens rest) (subst (HoldsOfOutcome (IsGood rules)) (sym item.is) (item_good rules item.taken after.0))
       (given_are_good f more rest runs (All-tail HasText next more texts) after.1))
   given_are_good e calls replies (failed fault e1 f more r1 item p) texts h = rw p tt
 
   run_is_good : (text : List ℕ) (calls : List Call) (replies : List Reply) → IsText text → All HasText calls
-      → Runs (by_rules (answers_at level)) (start (items_of text)) calls replies → Each IsGood (given_tokens replies)
+      → Runs (by_rules (answers_at level)) rules (start (items_by rules text)) calls replies → Each (IsGood rules) (given_tokens replies)
   run_is_good text calls replies t texts runs =
-      given_are_good (start (items_of text)) calls replies runs texts
+      given_are_good (start (items_by rules text)) calls replies runs texts
       (record { held = tt; list = tt; reader = (text_good text t, λ name definition defined. cc) })
 
   -- no `__LINE__` is among the tokens that are given
@@ -183,25 +189,25 @@ module _ (level : ℕ) where
       no_line_more answer (given_tokens replies) (All-head (λ a. gives_line_name a ≡ false) answer replies all)
       (no_line_given replies (All-tail (λ a. gives_line_name a ≡ false) answer replies all))
 
-  plain_values : (tokens : List Token) → Each IsGood tokens → Each IsNoLine tokens → All (λ token. is_ordinary token.value ≡ true) tokens
-      → Each IsPlain (values_of tokens)
+  plain_values : (tokens : List Token) → Each (IsGood rules) tokens → Each IsNoLine tokens → All (λ token. is_ordinary token.value ≡ true) tokens
+      → Each (IsPlain rules) (values_of tokens)
   plain_values [] good none plain = tt
   plain_values (token ∷ tokens) good none plain = (
     (good.0.0 (All-head (λ t. is_ordinary t.value ≡ true) token tokens plain), none.0),
     plain_values tokens good.1 none.1 (All-tail (λ t. is_ordinary t.value ≡ true) token tokens plain),
   )
 
-  spellable : (values : List TokenValue) → Each IsPlain values → All IsSpellable values
-  spellable [] all = All-nil IsSpellable
-  spellable (value ∷ values) all = All-cons IsSpellable value values all.0.0 (spellable values all.1)
+  spellable : (values : List TokenValue) → Each (IsPlain rules) values → All (IsSpellableBy rules) values
+  spellable [] all = All-nil (IsSpellableBy rules)
+  spellable (value ∷ values) all = All-cons (IsSpellableBy rules) value values all.0.0 (spellable values all.1)
 
-  no_hash_value : (value : TokenValue) → IsSpellable value → is_hash (lexer_value value) ≡ false
+  no_hash_value : (value : TokenValue) → IsSpellableBy rules value → is_hash (lexer_value value) ≡ false
   no_hash_value (Version v) h = absurd h
   no_hash_value (Extension x) h = absurd h
   no_hash_value (Pragma p) h = absurd h
   no_hash_value _ h = refl
 
-  no_hash_before : (values : List TokenValue) (last : List LexerTokenValue) → Each IsPlain values → Each (λ v. is_hash v ≡ false) last
+  no_hash_before : (values : List TokenValue) (last : List LexerTokenValue) → Each (IsPlain rules) values → Each (λ v. is_hash v ≡ false) last
       → Each (λ v. is_hash v ≡ false) (map lexer_value values ++ last)
   no_hash_before [] last all none = none
   no_hash_before (value ∷ values) last all none = (no_hash_value value all.0.0, no_hash_before values last all.1 none)
@@ -223,22 +229,22 @@ module _ (level : ℕ) where
   ends_once [] = inl refl
   ends_once (value ∷ values) = inr refl
 
-  read_afresh : (values : List TokenValue) → Each IsPlain values → IsReadAfresh (answers_at level) values
+  read_afresh : (values : List TokenValue) → Each (IsPlain rules) values → IsReadAfresh (answers_at level) rules values
   read_afresh values all =
-      let items = items_of (encode_utf8_all (spelled_text values)) in
-      let e : map (λ s. item_value s.item) items ≡ map Ok (map lexer_value values ++ ending values) = read_back pp_rs values (spellable values all) in
+      let items = items_by rules (encode_utf8_all (spelled_text values)) in
+      let e : map (λ s. item_value s.item) items ≡ map Ok (map lexer_value values ++ ending values) = read_back rules values (spellable values all) in
       let none = no_hash_items items (map lexer_value values ++ ending values) e (no_hash_before values (ending values) all (ending_has_none values)) in
-      let g = gives_from (answers_at level) items none values (ending values) 0 items refl e (ends_once values) all in
+      let g = gives_from (answers_at level) rules items none values (ending values) 0 items refl e (ends_once values) all in
       record {
         tokens = g.tokens;
         same = g.same;
-        run = subst (λ (x : Expander SourceReader). Runs (by_rules (answers_at level)) x (calls_for g.tokens) (replies_with g.tokens))
+        run = subst (λ (x : Expander SourceReader). Runs (by_rules (answers_at level)) rules x (calls_for g.tokens) (replies_with g.tokens))
             (sym (starts_there items none)) g.run;
       }
 
-  -- The text that spells the plain tokens of a run gives their values again.
-  pub runs_read_afresh : RunsAreReadAfresh (answers_at level)
-  runs_read_afresh text calls replies t texts runs plain =
-      read_afresh (values_of (given_tokens replies))
-      (plain_values (given_tokens replies) (run_is_good text calls replies t texts runs)
-      (no_line_given replies (run_shows_no_line_name (answers_at level) (items_of text) calls replies runs)) plain)
+-- The text that spells the plain tokens of a run gives their values again.
+pub runs_read_afresh : (level : ℕ) → RunsAreReadAfresh (answers_at level)
+runs_read_afresh level rules text calls replies t texts runs plain =
+    read_afresh level rules (values_of (given_tokens replies))
+    (plain_values level rules (given_tokens replies) (run_is_good level rules text calls replies t texts runs)
+    (no_line_given level rules replies (run_shows_no_line_name (answers_at level) rules (items_by rules text) calls replies runs)) plain)

@@ -1,6 +1,7 @@
 -- After the end a run gives no item, no matter what is added.
 use Rattle.std.proofs.Common.{◌≡◌, ◌∙◌, false, List, [], ◌∷◌, ◌++◌, refl, ap, sym}
 use Rattle.std.specs.Prelude.{All}
+use Rattle.pp_lexer.specs.declared.rules.Rules.{Rules}
 use Rattle.pp_model.specs.Calls.{Answers}
 use Rattle.pp_model.specs.Reading.{Expander}
 use Rattle.pp_model.specs.SourceReader.{SourceReader}
@@ -62,33 +63,33 @@ module _ (A : Answers) where
       (item_when_over A o g h item (stays_over f g more over)).0
 
   -- where nothing is left no reply is an item
-  no_item_when_over : (e : Expander SourceReader) (calls : List Call) (replies : List Reply) → Runs (by_rules A) e calls replies → IsOver e
+  no_item_when_over : (rules : Rules) (e : Expander SourceReader) (calls : List Call) (replies : List Reply) → Runs (by_rules A) rules e calls replies → IsOver e
       → All IsNoItem replies
   no_item_when_over =
       each_reply A IsOver over_with_added (λ o e f item over. (item_when_over A o e f item over).1) IsNoItem refl (λ fault. refl)
       (λ o e f item over. end_is_no_item o (item.is ∙ ap item_of (item_when_over A item.taken e f item.emits over).0))
 
   -- so after the end none is
-  no_item_after : (e : Expander SourceReader) (calls : List Call) (replies former later : List Reply) → Runs (by_rules A) e calls replies
+  no_item_after : (rules : Rules) (e : Expander SourceReader) (calls : List Call) (replies former later : List Reply) → Runs (by_rules A) rules e calls replies
       → HoldsLastEnd e → replies ≡ former ++ (reply.Given outcome.End ∷ later) → All IsNoItem later
-  no_item_after e calls replies former later (done e1 r1 p) last is = absurd (goes_not_on former later (reply.Given outcome.End) (sym p ∙ is))
-  no_item_after e calls replies [] later (added name content tokens e1 cs rest r1 h more p) last is = cc
-  no_item_after e calls replies (first ∷ former) later (added name content tokens e1 cs rest r1 h more p) last is =
-      no_item_after (with_added _ tokens e) cs rest former later more (last_end_with_added _ tokens e last) cc
-  no_item_after e calls replies [] later (refused name content fault e1 cs rest r1 h more p) last is = cc
-  no_item_after e calls replies (first ∷ former) later (refused name content fault e1 cs rest r1 h more p) last is =
-      no_item_after e cs rest former later more last cc
-  no_item_after e calls replies [] later (given o e1 f cs rest r1 item h more p) last is =
+  no_item_after rules e calls replies former later (done e1 r1 p) last is = absurd (goes_not_on former later (reply.Given outcome.End) (sym p ∙ is))
+  no_item_after rules e calls replies [] later (added name content tokens e1 cs rest r1 h more p) last is = cc
+  no_item_after rules e calls replies (first ∷ former) later (added name content tokens e1 cs rest r1 h more p) last is =
+      no_item_after rules (with_added _ tokens e) cs rest former later more (last_end_with_added _ tokens e last) cc
+  no_item_after rules e calls replies [] later (refused name content fault e1 cs rest r1 h more p) last is = cc
+  no_item_after rules e calls replies (first ∷ former) later (refused name content fault e1 cs rest r1 h more p) last is =
+      no_item_after rules e cs rest former later more last cc
+  no_item_after rules e calls replies [] later (given o e1 f cs rest r1 item h more p) last is =
       let end : o ≡ outcome.End = cc in
       let same : rest ≡ later = cc in
       let over = (item_ends A item.taken e f item.emits last).1 (item_end item.taken (sym item.is ∙ end)) in
-      rw same at (no_item_when_over f cs rest more over)
-  no_item_after e calls replies (first ∷ former) later (given o e1 f cs rest r1 item h more p) last is =
-      no_item_after f cs rest former later more (item_ends A item.taken e f item.emits last).0 cc
-  no_item_after e calls replies [] later (failed fault e1 f cs r1 item p) last is = cc
-  no_item_after e calls replies (first ∷ former) later (failed fault e1 f cs r1 item p) last is =
+      rw same at (no_item_when_over rules f cs rest more over)
+  no_item_after rules e calls replies (first ∷ former) later (given o e1 f cs rest r1 item h more p) last is =
+      no_item_after rules f cs rest former later more (item_ends A item.taken e f item.emits last).0 cc
+  no_item_after rules e calls replies [] later (failed fault e1 f cs r1 item p) last is = cc
+  no_item_after rules e calls replies (first ∷ former) later (failed fault e1 f cs r1 item p) last is =
       absurd (goes_not_on former later (reply.Given outcome.End) cc)
 
   pub run_ends_for_good : RunEndsForGood A
-  run_ends_for_good source calls former later run =
-      no_item_after (start source) calls _ former later run (holds_nothing (start source) refl) refl
+  run_ends_for_good rules source calls former later run =
+      no_item_after rules (start source) calls _ former later run (holds_nothing (start source) refl) refl

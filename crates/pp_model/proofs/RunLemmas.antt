@@ -3,13 +3,14 @@ use Rattle.std.proofs.Common.{◌≡◌, ◌∙◌, ℕ, List, [], true, false, 
 use Rattle.std.specs.Prelude.{All}
 use Rattle.std.proofs.lemmas.List.Elements.{All-nil, All-cons}
 use Rattle.pp_lexer.specs.declared.token.Token.{Token}
+use Rattle.pp_lexer.specs.declared.rules.Rules.{Rules}
 use Rattle.pp_model.specs.Names.{Name}
 use Rattle.pp_model.specs.Calls.{Fault, Answers}
 use Rattle.pp_model.specs.Emitting.{Emits, answers_at, expansion_limit}
 use Rattle.pp_model.specs.Reading.{Expander}
 use Rattle.pp_model.specs.Reads.{source_reading}
 use Rattle.pp_model.specs.SourceReader.{SourceReader}
-use Rattle.pp_model.specs.Run.{Comings, by_rules, Call, items_of, start, with_added, is_fault, Gives, Runs, done, added, refused, given, failed}
+use Rattle.pp_model.specs.Run.{Comings, by_rules, Call, items_by, start, with_added, is_fault, Gives, Runs, done, added, refused, given, failed}
 use Rattle.pp_model.specs.ExpansionLaws.{OneAnswer}
 use Rattle.pp_model.specs.RunLaws.{OneReplies, OneRun}
 use Rattle.pp_model.specs.RunStates.{LeadsTo, nowhere, adding, giving}
@@ -27,13 +28,13 @@ use Rattle.pp_model.proofs.ReadsLemmas.{source_reads_one}
 not_faulty : (o : Outcome) (fault : Fault) → o ≡ outcome.Fault fault → is_fault o ≡ false → true ≡ false
 not_faulty o fault same h = rw same at h
 
-module _ (C : Comings) (one_next : (o w : Outcome) (e f g : Expander SourceReader) → C e o f → C e w g → (o ≡ w) × (f ≡ g)) where
+module _ (C : Comings) (rules : Rules) (one_next : (o w : Outcome) (e f g : Expander SourceReader) → C e o f → C e w g → (o ≡ w) × (f ≡ g)) where
   -- where a state has one next item, equal calls have equal replies
-  pub one_replies_of : (e : Expander SourceReader) (calls : List Call) (x y : List Reply) → Runs C e calls x → Runs C e calls y → x ≡ y
+  pub one_replies_of : (e : Expander SourceReader) (calls : List Call) (x y : List Reply) → Runs C rules e calls x → Runs C rules e calls y → x ≡ y
   one_replies_of e calls x y (done e1 x1 p) (done e2 y1 q) = p ∙ sym q
   one_replies_of e calls x y (added n c t e1 cs r x1 h a p) (added m d u e2 ds s y1 k b q) =
       let tokens : t ≡ u = cc in
-      let there : Runs C (with_added _ t e) cs s = rw tokens b in
+      let there : Runs C rules (with_added _ t e) cs s = rw tokens b in
       p ∙ rw (one_replies_of (with_added _ t e) cs r s a there) (sym q)
   one_replies_of e calls x y (added n c t e1 cs r x1 h a p) (refused m d i e2 ds s y1 k b q) = cc
   one_replies_of e calls x y (refused n c i e1 cs r x1 h a p) (added m d u e2 ds s y1 k b q) = cc
@@ -42,7 +43,7 @@ module _ (C : Comings) (one_next : (o w : Outcome) (e f g : Expander SourceReade
       p ∙ rw (fault, one_replies_of e cs r s a b) (sym q)
   one_replies_of e calls x y (given o e1 f cs r x1 a h i p) (given w e2 g ds s y1 b k j q) =
       let same = one_next o w e f g a b in
-      let there : Runs C f cs s = rw same.1 j in
+      let there : Runs C rules f cs s = rw same.1 j in
       p ∙ rw (same.0, one_replies_of f cs r s i there) (sym q)
   one_replies_of e calls x y (given o e1 f cs r x1 a h i p) (failed d e2 g ds y1 b q) = let bad =
       not_faulty o d (one_next o (outcome.Fault d) e f g a b).0 h in cc
@@ -65,20 +66,21 @@ module _ (A : Answers) (P : Expander SourceReader → Type 0)
   -- so holds of each reply what follows of each item and holds of the replies to definitions
   module _ (Q : Reply → Type 0) (of_added : Q reply.Added) (of_refused : (fault : Fault) → Q (reply.Refused fault))
       (of_item : (o : Outcome) (e f : Expander SourceReader) → Gives A e o f → P e → Q (reply.Given o)) where
-    pub each_reply : (e : Expander SourceReader) (calls : List Call) (replies : List Reply) → Runs (by_rules A) e calls replies → P e → All Q replies
-    each_reply e calls replies (done e1 r1 p) h = rw p (All-nil Q)
-    each_reply e calls replies (added name content tokens e1 later rest r1 is more p) h =
-        rw p (All-cons Q reply.Added rest of_added (each_reply (with_added _ tokens e) later rest more (by_definition _ tokens e h)))
-    each_reply e calls replies (refused name content fault e1 later rest r1 is more p) h =
-        rw p (All-cons Q (reply.Refused fault) rest (of_refused fault) (each_reply e later rest more h))
-    each_reply e calls replies (given o e1 f later rest r1 item is more p) h =
-        rw p (All-cons Q (reply.Given o) rest (of_item o e f item h) (each_reply f later rest more (by_item item.taken e f item.emits h)))
-    each_reply e calls replies (failed fault e1 f later r1 item p) h =
+    pub each_reply : (rules : Rules) (e : Expander SourceReader) (calls : List Call) (replies : List Reply) → Runs (by_rules A) rules e calls replies → P e
+        → All Q replies
+    each_reply rules e calls replies (done e1 r1 p) h = rw p (All-nil Q)
+    each_reply rules e calls replies (added name content tokens e1 later rest r1 is more p) h =
+        rw p (All-cons Q reply.Added rest of_added (each_reply rules (with_added _ tokens e) later rest more (by_definition _ tokens e h)))
+    each_reply rules e calls replies (refused name content fault e1 later rest r1 is more p) h =
+        rw p (All-cons Q (reply.Refused fault) rest (of_refused fault) (each_reply rules e later rest more h))
+    each_reply rules e calls replies (given o e1 f later rest r1 item is more p) h =
+        rw p (All-cons Q (reply.Given o) rest (of_item o e f item h) (each_reply rules f later rest more (by_item item.taken e f item.emits h)))
+    each_reply rules e calls replies (failed fault e1 f later r1 item p) h =
         rw p (All-cons Q (reply.Given (outcome.Fault fault)) [] (of_item (outcome.Fault fault) e f item h) (All-nil Q))
 
 -- by the definitions it has one
 one_replies : (A : Answers) → OneAnswer A → OneReplies A
-one_replies A single = one_replies_of (by_rules A) (λ o w e f g a b.
+one_replies A single rules = one_replies_of (by_rules A) rules (λ o w e f g a b.
     let same = one_item (source_reading A) (source_reads_one A single) A single a.taken b.taken e f g a.emits b.emits in
     (a.is ∙ ap item_of same.0 ∙ sym b.is, same.1))
 
@@ -86,4 +88,4 @@ pub one_replies_at : (level : ℕ) → OneReplies (answers_at level)
 one_replies_at level = one_replies (answers_at level) (one_answer level)
 
 pub one_run : OneRun
-one_run text calls x y a b = one_replies_at expansion_limit (start (items_of text)) calls x y a b
+one_run rules text calls x y a b = one_replies_at expansion_limit rules (start (items_by rules text)) calls x y a b

@@ -28,8 +28,8 @@ module _ (A : Answers) where
       each_state A (λ e. HasApartMarks e.list) (λ name tokens e apart. apart) (item_keeps_apart (source_reading A) A) (start source) e reached tt
 
   pub run_shows_no_line_name : RunShowsNoLineName A
-  run_shows_no_line_name source calls replies run =
+  run_shows_no_line_name rules source calls replies run =
       let items = item_shows_none (source_reading A) A in
       each_reply A HoldsNoLineName (λ name tokens e none. none) (λ o e f item none. (items o e f item none).1) IsNoLineName refl (λ fault. refl)
       (λ o e f item none. ap (λ x. is_line_name (taken_of x)) item.is ∙ same_name item.taken ∙ (items item.taken e f item.emits none).0)
-      (start source) calls replies run tt
+      rules (start source) calls replies run tt

@@ -5,7 +5,7 @@ use Rattle.std.specs.List.{AllByRecursion as Each, cons_option, list_all}
 use Rattle.std.proofs.lemmas.List.{drop-drop}
 use Rattle.pp_lexer.specs.Items.{Lexeme}
 use Rattle.pp_lexer.specs.Lexed.{Seen}
-use Rattle.pp_lexer.specs.Respelling.{IsSpellable, lexer_value, item_value}
+use Rattle.pp_lexer.specs.Respelling.{IsSpellableBy, lexer_value, item_value}
 use Rattle.pp_lexer.specs.Spelling.{values_of}
 use Rattle.pp_lexer.specs.declared.lexer.item.Token.{Token as LexerToken}
 use Rattle.pp_lexer.specs.declared.lexer.item.TokenValue.{TokenValue as LexerTokenValue}
@@ -15,6 +15,7 @@ use Rattle.pp_lexer.specs.declared.token.PreprocessorError.{PreprocessorError}
 use Rattle.pp_lexer.specs.declared.token.Token.{Token}
 use Rattle.pp_lexer.specs.declared.token.TokenValue.{TokenValue}
 use Rattle.pp_lexer.specs.declared.token.TokenValue.TheVariants.{Ident, Version, Extension, Pragma}
+use Rattle.pp_lexer.specs.declared.rules.Rules.{Rules}
 use Rattle.pp_model.specs.Names.{is_identifier, line_name}
 use Rattle.pp_model.specs.Conversions.{is_hash}
 use Rattle.pp_model.specs.inner.Definitions.{nothing_defined}
@@ -87,9 +88,9 @@ starts_there items all =
     ap (λ (n : ℕ). record { held = None; list = []; reader = record (reader_at items 0) { unfinished = n }; hidden = [] })
     (ap length (no_blocks items (length items) all))
 
--- a token of a plain value, which is not `__LINE__`
-abbrev pub IsPlain : TokenValue → Type 0
-IsPlain value = IsSpellable value × (is_identifier line_name value ≡ false)
+-- a value that can be spelled by these rules, and is not `__LINE__`
+abbrev pub IsPlain : Rules → TokenValue → Type 0
+IsPlain rules value = IsSpellableBy rules value × (is_identifier line_name value ≡ false)
 
 -- where no name is open nothing is painted
 pub or_none : (b : Bool) (value : TokenValue) → (b || is_one_of [] value) ≡ b
@@ -97,7 +98,7 @@ or_none true value = refl
 or_none false (Ident name) = refl
 or_none false _ = refl
 
-module _ (A : Answers) (items : List Seen) (all : Each IsNoHash items) where
+module _ (A : Answers) (rules : Rules) (items : List Seen) (all : Each IsNoHash items) where
   opens_nothing : (position : ℕ) (value : TokenValue) (location : Location)
       → opening (source_reading A) (state_at items position) (taken.Token (unpainted (record { value = value; location = location }))) ≡ None
   opens_nothing position (Ident name) location = refl
@@ -179,7 +180,7 @@ module _ (A : Answers) (items : List Seen) (all : Each IsNoHash items) where
   pub record GivesFrom (position : ℕ) (values : List TokenValue) : Type 0 where
     pub tokens : List Token
     pub same : values_of tokens ≡ values
-    pub run : Runs (by_rules A) (state_at items position) (calls_for tokens) (replies_with tokens)
+    pub run : Runs (by_rules A) rules (state_at items position) (calls_for tokens) (replies_with tokens)
 
   ends_run : (position after : ℕ) → Reads A (reader_at items position) taken.End (reader_at items after) → GivesFrom position []
   ends_run position after r = record {
@@ -200,7 +201,7 @@ module _ (A : Answers) (items : List Seen) (all : Each IsNoHash items) where
   none_there [] e = refl
   none_there (s ∷ rest) e = cc
 
-  plain_value : (token : LexerToken) (rest : List Seen) (v : TokenValue) → IsSpellable v
+  plain_value : (token : LexerToken) (rest : List Seen) (v : TokenValue) → IsSpellableBy rules v
       → token_sight (record token { value = lexer_value v }) rest ≡ sight.Token (record { value = v; location = token.location })
   plain_value token rest (Version v) h = absurd h
   plain_value token rest (Extension x) h = absurd h
@@ -210,7 +211,7 @@ module _ (A : Answers) (items : List Seen) (all : Each IsNoHash items) where
   abbrev ShowsToken : Lexeme → List Seen → TokenValue → Type 0
   ShowsToken item rest v = (location : Location) × (item_sight item rest ≡ sight.Token (record { value = v; location = location }))
 
-  plain_item : (item : Lexeme) (rest : List Seen) (v : TokenValue) → item_value item ≡ Ok (lexer_value v) → IsSpellable v → ShowsToken item rest v
+  plain_item : (item : Lexeme) (rest : List Seen) (v : TokenValue) → item_value item ≡ Ok (lexer_value v) → IsSpellableBy rules v → ShowsToken item rest v
   plain_item (Ok token) rest v e h = (
     token.location,
     subst (λ (x : LexerTokenValue). token_sight (record token { value = x }) rest ≡ sight.Token (record { value = v; location = token.location }))
@@ -247,7 +248,7 @@ module _ (A : Answers) (items : List Seen) (all : Each IsNoHash items) where
   -- such a text gives its values from each position on
   pub gives_from : (values : List TokenValue) (last : List LexerTokenValue) (position : ℕ) (rest : List Seen) → drop position items ≡ rest
       → map (λ s. item_value s.item) rest ≡ map Ok (map lexer_value values ++ last)
-      → (last ≡ []) ⊎ (last ≡ NewLine ∷ []) → Each IsPlain values → GivesFrom position values
+      → (last ≡ []) ⊎ (last ≡ NewLine ∷ []) → Each (IsPlain rules) values → GivesFrom position values
   gives_from [] last position rest e is (inl none) plain = ends_run position position (reads_end position (e ∙ none_there rest (is ∙ ap (map Ok) none)))
   gives_from [] last position rest e is (inr newline) plain = newline_last position rest e (is ∙ ap (map Ok) newline)
   gives_from (value ∷ values) last position [] e is end plain = cc

@@ -4,6 +4,7 @@ use Rattle.std.specs.Prelude.{◌≡◌, ℕ, Bool, true, false, List, [], ◌�
 use Rattle.pp_lexer.specs.Lexed.{Seen}
 use Rattle.pp_lexer.specs.declared.token.Location.{Location}
 use Rattle.pp_lexer.specs.declared.token.Token.{Token}
+use Rattle.pp_lexer.specs.declared.rules.Rules.{Rules}
 use Rattle.pp_model.specs.Names.{Name, is_in}
 use Rattle.pp_model.specs.Definitions.{Definition, Definitions}
 use Rattle.pp_model.specs.Reading.{Reading, Expander, Listed}
@@ -14,7 +15,7 @@ use Rattle.pp_model.specs.LineWords.{Operand, Words, LineWords}
 use Rattle.pp_model.specs.LineValues.{IsCondition, IsLineNumber}
 use Rattle.pp_model.specs.SourceReader.{SourceReader}
 use Rattle.pp_model.specs.Reads.{Steps}
-use Rattle.pp_model.specs.Run.{Gives, Call, IsRun}
+use Rattle.pp_model.specs.Run.{Gives, Call, IsRunBy}
 use Rattle.pp_model.specs.RunStates.{IsReached}
 use Rattle.pp_model.specs.declared.call.Reply.{Reply}
 use Rattle.pp_model.specs.declared.outcome.Outcome.{Outcome}
@@ -116,6 +117,8 @@ abbrev pub AnEnd : Answers → Type 0
 AnEnd A = (e : Expander SourceReader) → IsFinite e.reader.definitions
     → (tokens : List Token) × (last : Outcome) × Ends A e tokens last
 
--- Every text and list of calls has replies.
+-- Every text and list of calls has replies, by any rules.
 abbrev pub ARun : Type 0
-ARun = (text : List ℕ) (calls : List Call) → (replies : List Reply) × IsRun text calls replies
+ARun =
+    (rules : Rules) (text : List ℕ) (calls : List Call)
+    → (replies : List Reply) × IsRunBy rules text calls replies

@@ -1,6 +1,7 @@
 -- Runs that take nothing from dead text: what is there gives no token, defines nothing and numbers no line.
 use Rattle.std.specs.Prelude.{◌≡◌, false, List, Option, Some, None}
 use Rattle.pp_lexer.specs.declared.token.Token.{Token}
+use Rattle.pp_lexer.specs.declared.rules.Rules.{Rules}
 use Rattle.pp_model.specs.Blocks.{is_live}
 use Rattle.pp_model.specs.Painting.{taken_of, item_of}
 use Rattle.pp_model.specs.Reading.{Reading, Expander}
@@ -50,6 +51,6 @@ pub record GivesLive (A : Answers) (e : Expander SourceReader) (o : Outcome) (f 
 -- each run is one in which no step takes anything from there.
 abbrev pub RunsAreLive : Answers → Type 0
 RunsAreLive A =
-    (e : Expander SourceReader) (calls : List Call) (replies : List Reply)
-    → Runs (by_rules A) e calls replies
-    → Runs (GivesLive A) e calls replies
+    (rules : Rules) (e : Expander SourceReader) (calls : List Call) (replies : List Reply)
+    → Runs (by_rules A) rules e calls replies
+    → Runs (GivesLive A) rules e calls replies

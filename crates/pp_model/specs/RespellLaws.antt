@@ -6,8 +6,9 @@ use Rattle.pp_lexer.specs.Spelling.{spelled_text, values_of}
 use Rattle.pp_lexer.specs.TokenValue.{is_ordinary}
 use Rattle.pp_lexer.specs.declared.token.Token.{Token}
 use Rattle.pp_lexer.specs.declared.token.TokenValue.{TokenValue}
+use Rattle.pp_lexer.specs.declared.rules.Rules.{Rules}
 use Rattle.pp_model.specs.Calls.{Answers}
-use Rattle.pp_model.specs.Run.{by_rules, Call, add_define, next, items_of, start, Runs}
+use Rattle.pp_model.specs.Run.{by_rules, Call, add_define, next, items_by, start, Runs}
 use Rattle.pp_model.specs.declared.call.Reply.{Reply}
 use Rattle.pp_model.specs.declared.call.Reply.TheVariants as reply
 use Rattle.pp_model.specs.declared.outcome.Outcome.{Outcome}
@@ -45,22 +46,22 @@ abbrev pub replies_with : List Token → List Reply
 replies_with [] = reply.Given outcome.End ∷ []
 replies_with (token ∷ tokens) = reply.Given (outcome.Token token) ∷ replies_with tokens
 
--- the run of a text gives tokens of these values, and then the end
-pub record GivesValues (A : Answers) (text : List ℕ) (values : List TokenValue) : Type 0 where
+-- the run of a text by these rules gives tokens of these values, and then the end
+pub record GivesValues (A : Answers) (rules : Rules) (text : List ℕ) (values : List TokenValue) : Type 0 where
   pub tokens : List Token
   pub same : values_of tokens ≡ values
-  pub run : Runs (by_rules A) (start (items_of text)) (calls_for tokens) (replies_with tokens)
+  pub run : Runs (by_rules A) rules (start (items_by rules text)) (calls_for tokens) (replies_with tokens)
 
 -- The text that spells these values gives these values, and no other, and no error.
-abbrev pub IsReadAfresh : Answers → List TokenValue → Type 0
-IsReadAfresh A values = GivesValues A (encode_utf8_all (spelled_text values)) values
+abbrev pub IsReadAfresh : Answers → Rules → List TokenValue → Type 0
+IsReadAfresh A rules values = GivesValues A rules (encode_utf8_all (spelled_text values)) values
 
 -- If all tokens that a run gives are ordinary, the text that spells them gives the same values.
 abbrev pub RunsAreReadAfresh : Answers → Type 0
 RunsAreReadAfresh A =
-    (text : List ℕ) (calls : List Call) (replies : List Reply)
+    (rules : Rules) (text : List ℕ) (calls : List Call) (replies : List Reply)
     → IsText text
     → All HasText calls
-    → Runs (by_rules A) (start (items_of text)) calls replies
+    → Runs (by_rules A) rules (start (items_by rules text)) calls replies
     → All (λ token. is_ordinary token.value ≡ true) (given_tokens replies)
-    → IsReadAfresh A (values_of (given_tokens replies))
+    → IsReadAfresh A rules (values_of (given_tokens replies))

@@ -4,7 +4,9 @@ use Rattle.std.specs.Prelude.{◌<◌, ◌^◌, ◌-◌, length, ⊤}
 use Rattle.std.specs.Str.{chars}
 use Rattle.pp_lexer.specs.Items as lexer
 use Rattle.pp_lexer.specs.Lexed.{Seen, seen}
+use Rattle.pp_lexer.specs.Rules.{pp_rs}
 use Rattle.pp_lexer.specs.Spots.{spots_of}
+use Rattle.pp_lexer.specs.declared.rules.Rules.{Rules}
 use Rattle.pp_lexer.specs.declared.token.Token.{Token}
 use Rattle.pp_model.specs.Names.{Name}
 use Rattle.pp_model.specs.Definitions.{object_like, with_change}
@@ -40,9 +42,13 @@ abbrev pub HasRoom : Called → Type 0
 HasRoom (called.AddDefine name content) = length content.now < 2 ^ 32 - 1
 HasRoom called.Next = ⊤
 
--- the items of a text
+-- the items of a text by these rules
+abbrev pub items_by : Rules → List ℕ → List Seen
+items_by rules text = map seen (lexer.items_by rules (spots_of text))
+
+-- the same by pp-rs's rules
 abbrev pub items_of : List ℕ → List Seen
-items_of text = map seen (lexer.items_of (spots_of text))
+items_of text = items_by pp_rs text
 
 -- the tokens of an added content, without its newlines, or the first error or `#` in it
 abbrev pub content_tokens : List Seen → Result (List Token) Fault
@@ -85,33 +91,38 @@ pub record Gives (A : Answers) (e : Expander SourceReader) (o : Outcome) (f : Ex
 abbrev pub by_rules : Answers → Comings
 by_rules A = Gives A
 
--- The replies to the calls, if `C` says what comes next. They end with the first error item: the replies after it are
--- left open.
-pub data Runs (C : Comings) : Expander SourceReader → List Call → List Reply → Type 0 where
-  done : (e : Expander SourceReader) (replies : List Reply) → replies ≡ [] → Runs C e [] replies
+-- The replies to the calls, if `C` says what comes next, and contents are read by these rules. They end with the first
+-- error item: the replies after it are left open.
+pub data Runs (C : Comings) (rules : Rules) : Expander SourceReader → List Call → List Reply → Type 0 where
+  done : (e : Expander SourceReader) (replies : List Reply) → replies ≡ [] → Runs C rules e [] replies
   added : (name content : List ℕ) (tokens : List Token) (e : Expander SourceReader) (calls : List Call)
       (rest replies : List Reply)
-      → content_tokens (items_of content) ≡ Ok tokens
-      → Runs C (with_added (chars name) tokens e) calls rest
+      → content_tokens (items_by rules content) ≡ Ok tokens
+      → Runs C rules (with_added (chars name) tokens e) calls rest
       → replies ≡ reply.Added ∷ rest
-      → Runs C e (add_define name content ∷ calls) replies
+      → Runs C rules e (add_define name content ∷ calls) replies
   refused : (name content : List ℕ) (fault : Fault) (e : Expander SourceReader) (calls : List Call)
       (rest replies : List Reply)
-      → content_tokens (items_of content) ≡ Err fault
-      → Runs C e calls rest
+      → content_tokens (items_by rules content) ≡ Err fault
+      → Runs C rules e calls rest
       → replies ≡ reply.Refused fault ∷ rest
-      → Runs C e (add_define name content ∷ calls) replies
+      → Runs C rules e (add_define name content ∷ calls) replies
   given : (o : Outcome) (e f : Expander SourceReader) (calls : List Call) (rest replies : List Reply)
       → C e o f
       → is_fault o ≡ false
-      → Runs C f calls rest
+      → Runs C rules f calls rest
       → replies ≡ reply.Given o ∷ rest
-      → Runs C e (next ∷ calls) replies
+      → Runs C rules e (next ∷ calls) replies
   failed : (fault : Fault) (e f : Expander SourceReader) (calls : List Call) (replies : List Reply)
       → C e (outcome.Fault fault) f
       → replies ≡ reply.Given (outcome.Fault fault) ∷ []
-      → Runs C e (next ∷ calls) replies
+      → Runs C rules e (next ∷ calls) replies
 
--- the run of a source: arguments may be expanded inside one another up to the limit
+-- the run of a source by these rules: arguments may be expanded inside one another up to the limit
+abbrev pub IsRunBy : Rules → List ℕ → List Call → List Reply → Type 0
+IsRunBy rules text calls replies =
+    Runs (by_rules (answers_at expansion_limit)) rules (start (items_by rules text)) calls replies
+
+-- the same by pp-rs's rules
 abbrev pub IsRun : List ℕ → List Call → List Reply → Type 0
-IsRun text calls replies = Runs (by_rules (answers_at expansion_limit)) (start (items_of text)) calls replies
+IsRun text calls replies = IsRunBy pp_rs text calls replies

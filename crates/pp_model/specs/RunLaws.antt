@@ -7,6 +7,7 @@ use Rattle.pp_expression.specs.FirstFault.{Evaluates}
 use Rattle.pp_lexer.specs.declared.token.Location.{Location}
 use Rattle.pp_lexer.specs.declared.token.PreprocessorError.TheVariants.{DefineRedefined}
 use Rattle.pp_lexer.specs.declared.token.Token.{Token}
+use Rattle.pp_lexer.specs.declared.rules.Rules.{Rules}
 use Rattle.pp_model.specs.Definitions.{Definition, Definitions, IsSameDefinition}
 use Rattle.pp_model.specs.Reading.{Expander}
 use Rattle.pp_model.specs.Calls.{Fault, Answers}
@@ -15,7 +16,7 @@ use Rattle.pp_model.specs.LineValues.{IsCondition, Numbers, IsLineNumber}
 use Rattle.pp_model.specs.SourceReader.{SourceReader}
 use Rattle.pp_model.specs.Acts.{act}
 use Rattle.pp_model.specs.Reads.{Steps}
-use Rattle.pp_model.specs.Run.{by_rules, Call, Runs, IsRun}
+use Rattle.pp_model.specs.Run.{by_rules, Call, Runs, IsRunBy}
 use Rattle.pp_model.specs.declared.call.Reply.{Reply}
 use Rattle.pp_model.specs.declared.definition.Named.{Named}
 use Rattle.pp_model.specs.declared.outcome.Outcome.{Outcome}
@@ -61,14 +62,18 @@ OneStep A =
 -- From one state of a source, equal calls have equal replies.
 abbrev pub OneReplies : Answers → Type 0
 OneReplies A =
-    (e : Expander SourceReader) (calls : List Call) (x y : List Reply)
-    → Runs (by_rules A) e calls x
-    → Runs (by_rules A) e calls y
+    (rules : Rules) (e : Expander SourceReader) (calls : List Call) (x y : List Reply)
+    → Runs (by_rules A) rules e calls x
+    → Runs (by_rules A) rules e calls y
     → x ≡ y
 
--- Equal texts and calls have equal replies.
+-- By the same rules equal texts and calls have equal replies.
 abbrev pub OneRun : Type 0
-OneRun = (text : List ℕ) (calls : List Call) (x y : List Reply) → IsRun text calls x → IsRun text calls y → x ≡ y
+OneRun =
+    (rules : Rules) (text : List ℕ) (calls : List Call) (x y : List Reply)
+    → IsRunBy rules text calls x
+    → IsRunBy rules text calls y
+    → x ≡ y
 
 -- A name that is defined is defined again: the same definition gives nothing, another is a fault, and the old one
 -- stays.

@@ -3,6 +3,7 @@
 use Rattle.std.specs.Prelude.{◌≡◌, Bool, true, false, List, ◌∷◌, ◌++◌, All}
 use Rattle.pp_lexer.specs.Lexed.{Seen}
 use Rattle.pp_lexer.specs.declared.token.Token.{Token}
+use Rattle.pp_lexer.specs.declared.rules.Rules.{Rules}
 use Rattle.pp_model.specs.Names.{Name}
 use Rattle.pp_model.specs.Painting.{taken_of}
 use Rattle.pp_model.specs.Reading.{Expander}
@@ -48,8 +49,8 @@ gives_line_name reply.Added = false
 -- No reply of a run is the identifier `__LINE__`.
 abbrev pub RunShowsNoLineName : Answers → Type 0
 RunShowsNoLineName A =
-    (source : List Seen) (calls : List Call) (replies : List Reply)
-    → Runs (by_rules A) (start source) calls replies
+    (rules : Rules) (source : List Seen) (calls : List Call) (replies : List Reply)
+    → Runs (by_rules A) rules (start source) calls replies
     → All (λ given. gives_line_name given ≡ false) replies
 
 -- After the end was given, nothing but the end is given, whatever is added.
@@ -73,6 +74,6 @@ gives_item reply.Added = false
 -- After the end, wherever it is among the replies of a run, no reply is an item.
 abbrev pub RunEndsForGood : Answers → Type 0
 RunEndsForGood A =
-    (source : List Seen) (calls : List Call) (former later : List Reply)
-    → Runs (by_rules A) (start source) calls (former ++ (reply.Given outcome.End ∷ later))
+    (rules : Rules) (source : List Seen) (calls : List Call) (former later : List Reply)
+    → Runs (by_rules A) rules (start source) calls (former ++ (reply.Given outcome.End ∷ later))
     → All (λ given. gives_item given ≡ false) later

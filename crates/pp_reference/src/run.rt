@@ -20,6 +20,7 @@ use crate::source::Source;
 use crate::source_reader::SourceReader;
 use crate::stop::{Budget, Halt, Stop, stays_short};
 use pp_lexer::lexer::{Lexer, LexerItem};
+use pp_lexer::rules::Rules;
 use pp_lexer::token::{PreprocessorError, Text};
 use pp_model::call::{Call, Reply};
 use pp_model::copies::copy_fault;
@@ -52,12 +53,12 @@ fn read_items(lexer: &mut Lexer<'_>, items: &mut Vec<SourceItem>) -> Result<(), 
     }
 }
 
-/// The items of a text, each with whether the lexer had passed a comment.
-pub fn items_of(alloc: Global, text: &str) -> Result<Vec<SourceItem>, Stop>
+/// The items of a text by these rules, each with whether the lexer had passed a comment.
+pub fn items_by(alloc: Global, text: &str, rules: Rules) -> Result<Vec<SourceItem>, Stop>
     requires { length text.now < 2 ^ 32 - 1 }
-    ensures { IfOk result (λ items. items.items ≡ spec.items_of text.now) }
+    ensures { IfOk result (λ items. items.items ≡ spec.items_by rules text.now) }
 {
-    let mut lexer = Lexer::new(alloc, text);
+    let mut lexer = Lexer::with_rules(alloc, text, rules);
     let mut items = Vec::new(alloc);
     match read_items(&mut lexer, &mut items) {
         Ok(()) => Ok(items),
@@ -110,12 +111,12 @@ fn start(alloc: Global, items: &[SourceItem]) -> Result<Expander<Source<'_>>, St
     Ok(Expander::new(alloc, source, Vec::new(alloc)))
 }
 
-// The tokens of an added content.
-fn added_body(alloc: Global, content: &str) -> Result<TokenList, Halt>
+// The tokens of an added content by these rules.
+fn added_body(alloc: Global, content: &str, rules: Rules) -> Result<TokenList, Halt>
     requires { length content.now < 2 ^ 32 - 1 }
-    ensures { Meets result (spec.content_tokens (spec.items_of content.now)) }
+    ensures { Meets result (spec.content_tokens (spec.items_by rules content.now)) }
 {
-    let items = items_of(alloc, content)?;
+    let items = items_by(alloc, content, rules)?;
     content_tokens(alloc, &items)
 }
 
@@ -136,19 +137,20 @@ fn text_of(alloc: Global, name: &str) -> Result<Text, AllocError>
     Ok(Text::from(String::from_str(alloc, name)?))
 }
 
-// The reply to an `add_define`.
+// The reply to an `add_define`, whose content is read by these rules.
 fn add_define(
     alloc: Global,
+    rules: Rules,
     expander: &mut Expander<Source<'_>>,
     name: &str,
     content: &str,
 ) -> Result<Reply, Stop>
     requires { length content.now < 2 ^ 32 - 1 }
-    ensures { IfOk result (λ reply. Replying (answers_at expansion_limit)
+    ensures { IfOk result (λ reply. Replying (answers_at expansion_limit) rules
         (seen source_state expander.old) (spec.add_define name.now content.now) reply
         (seen source_state expander.new)) }
 {
-    match added_body(alloc, content) {
+    match added_body(alloc, content, rules) {
         Ok(body) => {
             let name = text_of(alloc, name)?;
             expander.reader.reader.add(alloc, name, body)?;
@@ -158,20 +160,21 @@ fn add_define(
     }
 }
 
-// The reply to a call.
+// The reply to a call, if contents are read by these rules.
 fn reply_to(
     alloc: Global,
+    rules: Rules,
     expander: &mut Expander<Source<'_>>,
     call: &Call<'_>,
     budget: &mut Budget,
 ) -> Result<Reply, Stop>
     requires { HasRoom call.now }
-    ensures { IfOk result (λ reply. Replying (answers_at expansion_limit)
+    ensures { IfOk result (λ reply. Replying (answers_at expansion_limit) rules
         (seen source_state expander.old) (call_of call.now) reply
         (seen source_state expander.new)) }
 {
     match call {
-        Call::AddDefine(name, content) => add_define(alloc, expander, name, content),
+        Call::AddDefine(name, content) => add_define(alloc, rules, expander, name, content),
         Call::Next => {
             let taken = emit(expander, expansion_limit(), budget)?;
             Ok(Reply::Given(taken.into_item()))
@@ -204,26 +207,27 @@ fn with_reply(reply: Reply, others: Vec<Reply>) -> Result<Vec<Reply>, Stop>
     Ok(replies)
 }
 
-// The replies to the calls, up to and with the first error item.
+// The replies to the calls, up to and with the first error item, if contents are read by these rules.
 #[tactic(auto, using(crate::proofs::RunProgramLemmas::all_after))]
 fn replies(
     alloc: Global,
+    rules: Rules,
     expander: &mut Expander<Source<'_>>,
     calls: &[Call<'_>],
     budget: &mut Budget,
 ) -> Result<Vec<Reply>, Stop>
     requires { All HasRoom calls.now }
-    ensures { IfOk result (λ replies. spec.Runs (spec.by_rules (answers_at expansion_limit))
+    ensures { IfOk result (λ replies. spec.Runs (spec.by_rules (answers_at expansion_limit)) rules
         (seen source_state expander.old) (map call_of calls.now) replies.items) }
 {
     let Some((call, others)) = calls.split_first() else {
         return Ok(Vec::new(alloc));
     };
-    let reply = reply_to(alloc, expander, call, budget)?;
+    let reply = reply_to(alloc, rules, expander, call, budget)?;
     if ends_run(&reply) {
         return only(alloc, reply);
     }
-    match replies(alloc, expander, others, budget) {
+    match replies(alloc, rules, expander, others, budget) {
         Ok(rest) => with_reply(reply, rest),
         Err(stop) => {
             drop(reply);
@@ -232,45 +236,70 @@ fn replies(
     }
 }
 
-// The replies over the items of a source.
+// The replies over the items of a source that is read by these rules.
 fn replies_over(
     alloc: Global,
+    rules: Rules,
     items: &[SourceItem],
     calls: &[Call<'_>],
     budget: &mut Budget,
 ) -> Result<Vec<Reply>, Stop>
     requires { All HasRoom calls.now }
-    ensures { IfOk result (λ replies. spec.Runs (spec.by_rules (answers_at expansion_limit))
+    ensures { IfOk result (λ replies. spec.Runs (spec.by_rules (answers_at expansion_limit)) rules
         (spec.start items.now) (map call_of calls.now) replies.items) }
 {
     let mut expander = start(alloc, items)?;
-    let replies = replies(alloc, &mut expander, calls, budget);
+    let replies = replies(alloc, rules, &mut expander, calls, budget);
     drop(expander);
     replies
 }
 
-// The replies over a source, within a budget.
+// The replies over a source by these rules, within a budget.
 fn run_within(
     alloc: Global,
     source: &str,
+    rules: Rules,
     calls: &[Call<'_>],
     budget: &mut Budget,
 ) -> Result<Vec<Reply>, Stop>
     requires size { length source.now < 2 ^ 32 - 1 }
     requires contents { All HasRoom calls.now }
-    ensures { IfOk result (λ replies. spec.IsRun source.now (map call_of calls.now) replies.items) }
+    ensures { IfOk result (λ replies. spec.IsRunBy rules source.now (map call_of calls.now)
+        replies.items) }
 {
     stays_short(calls.len())?;
-    let items = items_of(alloc, source)?;
-    replies_over(alloc, &items, calls, budget)
+    let items = items_by(alloc, source, rules)?;
+    replies_over(alloc, rules, &items, calls, budget)
 }
 
-/// Returns the replies of a source to the calls, up to and with the first error item. Returns
-/// `None` if that takes more than this many steps, if the source or a content has more than 3,000
-/// items or a condition more than 3,000 words, or if there are more than 3,000 calls.
+/// Returns the replies of a source, read by these rules, to the calls, up to and with the first
+/// error item. Returns `None` if that takes more than this many steps, if the source or a content
+/// has more than 3,000 items or a condition more than 3,000 words, or if there are more than 3,000
+/// calls.
 ///
 /// The source and each added content must have fewer than 2^32 - 1 bytes. The only error is that an
 /// allocation failed.
+pub fn run_by(
+    alloc: Global,
+    source: &str,
+    rules: Rules,
+    calls: &[Call<'_>],
+    steps: u64,
+) -> Result<Option<Vec<Reply>>, AllocError>
+    requires size { length source.now < 2 ^ 32 - 1 }
+    requires contents { All HasRoom calls.now }
+    ensures { IfOk result (λ answer. IfSome answer
+        (λ replies. spec.IsRunBy rules source.now (map call_of calls.now) replies.items)) }
+{
+    let mut budget = Budget { steps };
+    match run_within(alloc, source, rules, calls, &mut budget) {
+        Ok(replies) => Ok(Some(replies)),
+        Err(Stop::OutOfBudget) => Ok(None),
+        Err(Stop::OutOfMemory) => Err(AllocError),
+    }
+}
+
+/// Does the same as [`run_by`] at [`Rules::PP_RS`].
 pub fn run(
     alloc: Global,
     source: &str,
@@ -282,10 +311,5 @@ pub fn run(
     ensures { IfOk result (λ answer. IfSome answer
         (λ replies. spec.IsRun source.now (map call_of calls.now) replies.items)) }
 {
-    let mut budget = Budget { steps };
-    match run_within(alloc, source, calls, &mut budget) {
-        Ok(replies) => Ok(Some(replies)),
-        Err(Stop::OutOfBudget) => Ok(None),
-        Err(Stop::OutOfMemory) => Err(AllocError),
-    }
+    run_by(alloc, source, Rules::PP_RS, calls, steps)
 }

@@ -1,6 +1,7 @@
 -- Ordinary tokens that a run gives, spelled with single spaces and preprocessed afresh (docs/RULES.md, "Runs").
 use Rattle.std.specs.Prelude.{◌≡◌, ◌<◌, ◌^◌, ◌-◌, ℕ, List, All, length}
 use Rattle.std.specs.Str.{encode_utf8_all}
+use Rattle.pp_lexer.specs.Rules.{pp_rs}
 use Rattle.pp_lexer.specs.Spelling.{spelled_text, values_of}
 use Rattle.pp_lexer.specs.declared.token.Token.{Token}
 use Rattle.pp_model.specs.Emitting.{answers_at, expansion_limit}
@@ -29,4 +30,4 @@ pub record IsOutput (tokens : List Token) : Type 0 where
 
 -- the text of the tokens gives tokens of the same values, and then the end
 abbrev pub AreReadAfresh : List Token → Type 0
-AreReadAfresh tokens = IsReadAfresh (answers_at expansion_limit) (values_of tokens)
+AreReadAfresh tokens = IsReadAfresh (answers_at expansion_limit) pp_rs (values_of tokens)

@@ -1,8 +1,10 @@
 -- What a preprocessor keeps: the states of a run that it stands for, whether memory ran out, how much is left, which
--- errors of the lexer were not reported yet, the place of the error that was given last, and the line of the call from
--- which the last item came. Nothing here has to be believed. Contracts of public calls say what holds of `Stands`,
--- `is_spent`, `most_items`, `errors_left`, `error_place` and `call_line`, and no proof of a caller looks into them.
+-- errors of the lexer were not reported yet, the place of the error that was given last, the line of the call from
+-- which the last item came, and the rules. Nothing here has to be believed. Contracts of public calls say what holds of
+-- `Stands`, `is_spent`, `most_items`, `errors_left`, `error_place`, `call_line` and `rules_of`, and no proof of a
+-- caller looks into them.
 use Rattle.std.specs.Prelude.{◌≡◌, Bool, false, IsTrue, if◌then◌else◌, ℕ, List, Option, Some, None}
+use Rattle.pp_lexer.specs.declared.rules.Rules.{Rules}
 use Rattle.pp_lexer.specs.declared.token.Location.{Location}
 use Rattle.pp_lexer.specs.TokenValue.{is_ordinary}
 use Rattle.pp_lexer.specs.declared.token.Token.{Token}
@@ -21,14 +23,16 @@ use Rattle.pp_macros.specs.inner.Source.{Source, unreported_of}
 use Rattle.pp_rs.specs.inner.Stands.{StandsFor}
 use Rattle.pp_macros.specs.inner.Unreported.{unreported_with}
 
--- the open macros with what is held, the source after them, whether memory ran out, the place of the last error, and
--- the line of the outermost macro that was open when the name was taken after which the held step was met
+-- the open macros with what is held, the source after them, whether memory ran out, the place of the last error, the
+-- line of the outermost macro that was open when the name was taken after which the held step was met, and the rules by
+-- which the source and contents are read
 pub record Preprocessing : Type 0 where
   pub expander : kept.Expander
   pub source : Source
   pub spent : Bool
   pub place : Location
   pub name_line : Option ℕ
+  pub rules : Rules
 
 -- the preprocessor stands for this state of a run
 unfoldable pub Stands : Preprocessing → Expander SourceReader → Type 0
@@ -64,3 +68,7 @@ kept_line (Some step) line frames = line
 -- the line of the call from which the last item came
 unfoldable pub call_line : Preprocessing → Option ℕ
 call_line p = kept_line p.expander.held p.name_line p.expander.frames
+
+-- the rules by which the source and contents are read
+unfoldable pub rules_of : Preprocessing → Rules
+rules_of p = p.rules

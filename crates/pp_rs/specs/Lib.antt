@@ -1,3 +1,4 @@
+pub use Rattle.pp_lexer.specs.Rules
 pub use Rattle.pp_lexer.specs.Location
 pub use Rattle.pp_lexer.specs.Entry
 pub use Rattle.pp_lexer.specs.Preorder

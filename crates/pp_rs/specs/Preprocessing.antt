@@ -7,7 +7,7 @@ use Rattle.pp_model.specs.CallLine.{item_line}
 use Rattle.pp_rs.specs.Comes.{State, Comes}
 use Rattle.pp_macros.specs.Held.{AnswerHoldsOrdinary}
 use Rattle.pp_macros.specs.Item.{Fault, Item, is_out_of_memory}
-use Rattle.pp_rs.specs.Kept.{Preprocessing, Stands, is_spent, most_items, errors_left, error_place, call_line}
+use Rattle.pp_rs.specs.Kept.{Preprocessing, Stands, is_spent, most_items, errors_left, error_place, call_line, rules_of}
 
 -- the answer is the error that memory ran out
 abbrev pub is_refusal : Option Item → Bool
@@ -74,3 +74,4 @@ pub record IsNextItem (old : Preprocessing) (answer : Option Item) (new : Prepro
       ((answer ≡ None) × (new ≡ old))
       (IsRefusedItem answer new ⊎ IsGivenItem old answer new)
   pub less_left : IsLessLeft answer old new
+  pub rules : rules_of new ≡ rules_of old

@@ -2,7 +2,7 @@
 #![tactic(auto)]
 
 pub use pp_lexer::lexer::SOURCE_LIMIT;
-pub use pp_lexer::{lexer, token};
+pub use pp_lexer::{lexer, rules, token};
 
 pub mod laws;
 pub mod pp;

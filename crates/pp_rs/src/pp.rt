@@ -14,7 +14,7 @@ mod trying;
 
 pub use afresh::are_read_afresh;
 pub use all_items::{append_all, drain, preprocess_all};
-pub use call_list::replies;
+pub use call_list::{replies, replies_by};
 pub use items_text::{push_token, spell_items};
 pub use pp_directives::convert::convert_lexer_token_to_step;
 pub use pp_directives::limit::EXPANSION_LIMIT;

@@ -5,6 +5,7 @@
 //!
 //! | word | what is called |
 //! |---|---|
+//! | `glsl` | all is done anew, by GLSL's rules |
 //! | `NAME=CONTENT` | `add_define` |
 //! | `next` | `next`, once |
 //! | `rest` | `next` up to the first `None`, and then twice more |
@@ -39,6 +40,7 @@ mod session;
 mod sheet;
 mod shown;
 
+use pp_rs::rules::Rules;
 use session::Session;
 use std::alloc::Global;
 use std::{env, io};
@@ -61,7 +63,7 @@ fn answer<'a>(
     if matches!(words, [word] if word.as_str() == "sheet") {
         return sheet::read(rt, alloc, source);
     }
-    let mut session = Session::new(alloc, source);
+    let mut session = Session::new(alloc, source, Rules::PP_RS);
     let done = make_calls(rt, alloc, &mut session, source, words);
     drop(session);
     done
@@ -93,6 +95,10 @@ fn act<'a>(
         return session.add(rt, name, content);
     }
     match word {
+        "glsl" => {
+            session.begin_anew(Rules::GLSL);
+            Ok(())
+        }
         "next" => {
             session.next(rt)?;
             Ok(())
@@ -111,8 +117,8 @@ fn act<'a>(
         "copy" => session.copy(rt),
         "replies" => session.replies(rt),
         "plain" => session.plain(rt),
-        "lexer" => shown::lexer(rt, alloc, source),
-        "convert" => shown::convert(rt, alloc, source),
+        "lexer" => shown::lexer(rt, alloc, source, session.rules()),
+        "convert" => shown::convert(rt, alloc, source, session.rules()),
         "lines" => phases::lines(rt, source),
         "joined" => phases::joined(rt, source),
         "uncommented" => phases::uncommented(rt, source),

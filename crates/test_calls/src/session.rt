@@ -3,12 +3,13 @@
 use crate::shown::{
     copy_error, copy_token, print_error, print_item, print_reply, refused, replies,
 };
-use pp_reference::run::run;
+use pp_reference::run::run_by;
 use pp_rs::SOURCE_LIMIT;
 use pp_rs::pp::{
     self, Call, Preprocessor, PreprocessorItem, Reply, append_all, are_read_afresh, drain,
     preprocess_all, spell_tokens,
 };
+use pp_rs::rules::Rules;
 use pp_rs::token::{Location, PreprocessorError, Token};
 use std::alloc::Global;
 use std::io;
@@ -29,6 +30,7 @@ fn reply_to_definition(answer: Result<(), (PreprocessorError, Location)>) -> Rep
 pub(crate) struct Session<'a> {
     alloc: Global,
     source: &'a str,
+    rules: Rules,
     pp: Preprocessor<'a>,
     calls: Vec<Call<'a>>,
     tokens: Vec<Token>,
@@ -36,8 +38,8 @@ pub(crate) struct Session<'a> {
 }
 
 impl<'a> Session<'a> {
-    /// Nothing was done yet. A source that is too long counts as the empty one.
-    pub(crate) fn new(alloc: Global, source: &'a str) -> Session<'a> {
+    /// Nothing was done yet, and all goes by these rules. A source that is too long counts as the empty one.
+    pub(crate) fn new(alloc: Global, source: &'a str, rules: Rules) -> Session<'a> {
         let source = if source.len() < SOURCE_LIMIT {
             source
         } else {
@@ -46,11 +48,22 @@ impl<'a> Session<'a> {
         Session {
             alloc,
             source,
-            pp: Preprocessor::new(alloc, source),
+            rules,
+            pp: Preprocessor::with_rules(alloc, source, rules),
             calls: Vec::new(alloc),
             tokens: Vec::new(alloc),
             errors: Vec::new(alloc),
         }
+    }
+
+    /// The rules by which all goes.
+    pub(crate) fn rules(&self) -> Rules {
+        self.rules
+    }
+
+    /// Begins the source anew, by these rules.
+    pub(crate) fn begin_anew(&mut self, rules: Rules) {
+        *self = Session::new(self.alloc, self.source, rules);
     }
 
     /// Defines a name with a content.
@@ -196,10 +209,10 @@ impl<'a> Session<'a> {
         Ok(())
     }
 
-    /// Makes the same calls once more, by `replies`.
+    /// Makes the same calls once more, by `replies_by`.
     pub(crate) fn replies(&self, rt: &impl Print) -> io::Result<()> {
         if self.source.len() < SOURCE_LIMIT && have_room(&self.calls) {
-            let given = match pp::replies(self.alloc, self.source, &self.calls) {
+            let given = match pp::replies_by(self.alloc, self.source, self.rules, &self.calls) {
                 Ok(replies) => Ok(Some(replies)),
                 Err(error) => Err(error),
             };
@@ -211,7 +224,7 @@ impl<'a> Session<'a> {
     /// Makes the same calls once more, by the plain program.
     pub(crate) fn plain(&self, rt: &impl Print) -> io::Result<()> {
         if self.source.len() < SOURCE_LIMIT && have_room(&self.calls) {
-            let given = run(self.alloc, self.source, &self.calls, STEPS);
+            let given = run_by(self.alloc, self.source, self.rules, &self.calls, STEPS);
             return replies(rt, self.alloc, "plain", given);
         }
         Ok(())

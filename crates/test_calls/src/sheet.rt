@@ -2,6 +2,7 @@
 
 use crate::act;
 use crate::session::Session;
+use pp_rs::rules::Rules;
 use std::alloc::{AllocError, Global};
 use std::io;
 
@@ -16,7 +17,7 @@ pub(crate) fn read(rt: &impl Print, alloc: Global, sheet: &str) -> io::Result<()
 fn make_calls(rt: &impl Print, alloc: Global, case: &str) -> io::Result<()> {
     let source = source_of(alloc, case)?;
     let source = source.as_str();
-    let mut session = Session::new(alloc, source);
+    let mut session = Session::new(alloc, source, Rules::PP_RS);
     let done = answer(rt, alloc, &mut session, source, case);
     drop(session);
     done

@@ -8,6 +8,7 @@ use pp_rs::lexer::{self, Lexer, LexerItem};
 use pp_rs::pp::{
     PreprocessorItem, Reply, Step, StepExit, convert_lexer_token, convert_lexer_token_to_step,
 };
+use pp_rs::rules::Rules;
 use pp_rs::token::{Location, PreprocessorError, Token, TokenValue};
 use std::alloc::{AllocError, Global};
 use std::io;
@@ -49,9 +50,9 @@ fn lexer_items(rt: &impl Print, alloc: Global, items: &mut Lexer<'_>) -> io::Res
 }
 
 /// The items of a `Lexer`, each with whether a comment was passed, and with its true place.
-pub(crate) fn lexer(rt: &impl Print, alloc: Global, source: &str) -> io::Result<()> {
+pub(crate) fn lexer(rt: &impl Print, alloc: Global, source: &str, rules: Rules) -> io::Result<()> {
     if source.len() < SOURCE_LIMIT {
-        let mut items = Lexer::new(alloc, source);
+        let mut items = Lexer::with_rules(alloc, source, rules);
         let shown = lexer_items(rt, alloc, &mut items);
         drop(items);
         return shown;
@@ -186,9 +187,14 @@ fn convert_items(rt: &impl Print, alloc: Global, items: &mut Lexer<'_>) -> io::R
 }
 
 /// Copies and converts the tokens of a `Lexer`.
-pub(crate) fn convert(rt: &impl Print, alloc: Global, source: &str) -> io::Result<()> {
+pub(crate) fn convert(
+    rt: &impl Print,
+    alloc: Global,
+    source: &str,
+    rules: Rules,
+) -> io::Result<()> {
     if source.len() < SOURCE_LIMIT {
-        let mut items = Lexer::new(alloc, source);
+        let mut items = Lexer::with_rules(alloc, source, rules);
         let shown = convert_items(rt, alloc, &mut items);
         drop(items);
         return shown;

@@ -2,11 +2,13 @@
 -- punctuator, and of a directive, whose tokens are shown, nothing is said but where it ends. There a definition is
 -- about the text before and the text after.
 use Rattle.std.specs.Prelude.{◌≡◌, ℕ, Bool, true, false, List, [], ◌∷◌, ◌++◌, Option, Some, None, Result, Ok, Err}
-use Rattle.std.specs.Prelude.{codes, if◌then◌else◌, ⊤}
+use Rattle.std.specs.Prelude.{codes, ⊤}
 use Rattle.std.specs.Fmt.{decimal}
 use Rattle.std.specs.List.{flat_map}
 use Rattle.std.specs.Str.{encode_utf8_all}
 use Rattle.pp_lexer.specs.PreprocessorError.{name_of}
+use Rattle.pp_lexer.specs.Spelling.{integer_letters, width_letters}
+use Rattle.pp_lexer.specs.declared.token.Float.{Float}
 use Rattle.pp_lexer.specs.declared.token.Integer.{Integer}
 use Rattle.pp_lexer.specs.declared.token.Location.{Location}
 use Rattle.pp_lexer.specs.declared.token.PreprocessorError.{PreprocessorError}
@@ -36,13 +38,14 @@ abbrev pub place_text : Location → List ℕ
 place_text place =
     codes " " ++ decimal place.start ++ codes ".." ++ decimal place.end ++ codes " L" ++ decimal place.line
 
--- the digits of an integer, and a `u` if it is unsigned
+-- the digits of an integer, and its letters
 abbrev pub integer_text : Integer → List ℕ
-integer_text integer = decimal integer.value ++ (if integer.signed then [] else codes "u")
+integer_text integer = decimal integer.value ++ integer_letters integer.signed integer.width
 
--- a float's text, which is a list of characters
-abbrev pub float_text : List ℕ → List ℕ
-float_text text = codes "Float " ++ encode_utf8_all text
+-- a float's text, which is a list of characters, and the letters of its width
+abbrev pub float_text : Float → List ℕ
+float_text float =
+    codes "Float " ++ encode_utf8_all float.text ++ width_letters (codes "lf") (codes "hf") float.width
 
 abbrev pub flag_text : Bool → List ℕ
 flag_text true = codes "true"
@@ -54,7 +57,7 @@ lexer_value_text lexer.Hash = Some (codes "Hash")
 lexer_value_text lexer.NewLine = Some (codes "NL")
 lexer_value_text (lexer.Ident name) = Some (encode_utf8_all name)
 lexer_value_text (lexer.Integer integer) = Some (integer_text integer)
-lexer_value_text (lexer.Float float) = Some (float_text float.text)
+lexer_value_text (lexer.Float float) = Some (float_text float)
 lexer_value_text (lexer.Punct punct) = None
 
 -- a token of the lexer: its value, its place and its flags
@@ -68,7 +71,7 @@ pub record ShowsLexerToken (token : LexerToken) (old new : List ℕ) : Type 0 wh
 abbrev pub value_text : TokenValue → Option (List ℕ)
 value_text (value.Ident name) = Some (encode_utf8_all name)
 value_text (value.Integer integer) = Some (integer_text integer)
-value_text (value.Float float) = Some (float_text float.text)
+value_text (value.Float float) = Some (float_text float)
 value_text (value.Punct punct) = None
 value_text (value.Version version) = Some (codes "Version")
 value_text (value.Extension extension) = Some (codes "Extension")

@@ -11,6 +11,7 @@ ghost use Rattle.test_shown.specs.Shown.{ShowsLexerItem, ShowsLexerToken, ShowsR
 use pp_lexer::lexer::{self, LexerItem, SOURCE_LIMIT};
 use pp_lexer::token::{
     Float, Integer, Location, PreprocessorError, Punct, Text, Token, TokenValue, Tokens,
+    float_letters, integer_letters,
 };
 use pp_model::call::{Call, Reply};
 use pp_model::outcome::{Fault, Outcome};
@@ -96,10 +97,7 @@ fn push_integer(text: &mut String, integer: Integer) -> Result<(), AllocError>
     ensures { OnOk result (string_bytes text.new ≡ string_bytes text.old ++ integer_text integer) }
 {
     write!(text, "{}", integer.value)?;
-    if !integer.signed {
-        text.push('u')?;
-    }
-    Ok(())
+    text.push_str(integer_letters(integer.signed, integer.width))
 }
 
 fn push_text(text: &mut String, name: &Text) -> Result<(), AllocError>
@@ -110,10 +108,11 @@ fn push_text(text: &mut String, name: &Text) -> Result<(), AllocError>
 }
 
 fn push_float(text: &mut String, float: &Float) -> Result<(), AllocError>
-    ensures { OnOk result (string_bytes text.new ≡ string_bytes text.old ++ float_text float.now.text) }
+    ensures { OnOk result (string_bytes text.new ≡ string_bytes text.old ++ float_text float.now) }
 {
     text.push_str("Float ")?;
-    push_text(text, &float.text)
+    push_text(text, &float.text)?;
+    text.push_str(float_letters(float.width))
 }
 
 fn push_punct(text: &mut String, punct: Punct) -> Result<(), AllocError> {

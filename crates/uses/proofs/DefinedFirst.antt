@@ -1,6 +1,7 @@
 -- An added definition and the first item after it, as a run.
 use Rattle.std.proofs.Common.{◌≡◌, ◌∙◌, ◌⊎◌, inl, inr, ℕ, Bool, true, false, List, [], ◌∷◌, refl, ap, sym, Option, None, Some}
 use Rattle.std.specs.Prelude.{Ok, Err, MatchBool}
+use Rattle.pp_lexer.specs.Rules.{pp_rs}
 use Rattle.pp_lexer.specs.PreprocessorError.{out_of_memory}
 use Rattle.pp_model.specs.Run as run
 use Rattle.pp_model.specs.Run.{IsRun, Runs, add_define, next, items_of, start}
@@ -9,20 +10,21 @@ use Rattle.pp_model.specs.declared.outcome.Outcome.TheVariants as outcome
 use Rattle.uses.proofs.Item.{Fault, Item}
 use Rattle.pp_rs.specs.Adding.{IsAdded, refused, faulty, added}
 use Rattle.pp_rs.specs.Comes.{State, Comes}
-use Rattle.pp_rs.specs.Kept.{Preprocessing, Stands, is_spent}
+use Rattle.pp_rs.specs.Kept.{Preprocessing, Stands, is_spent, rules_of}
 use Rattle.pp_rs.specs.Preprocessing.{is_refusal, outcome_of, IsNextItem}
+use Rattle.pp_rs.proofs.runs.AddingLemmas.{tokens_by_pp_rs}
 
 unspent : (spent : Bool) (A B : Type 0) → spent ≡ false → MatchBool spent A B → B
 unspent true A B e h = cc
 unspent false A B e h = h
 
 -- what comes next is the reply
-comes_run : (item : Option Item) (e f : State) → Comes e (outcome_of item) f → Runs Comes e (next ∷ []) (Given (outcome_of item) ∷ [])
+comes_run : (item : Option Item) (e f : State) → Comes e (outcome_of item) f → Runs Comes pp_rs e (next ∷ []) (Given (outcome_of item) ∷ [])
 comes_run None e f comes = run.given outcome.End e f [] [] _ comes refl (run.done f [] refl) refl
 comes_run (Some (Ok token)) e f comes = run.given (outcome.Token token) e f [] [] _ comes refl (run.done f [] refl) refl
 comes_run (Some (Err fault)) e f comes = run.failed fault e f [] _ comes refl
 
-module _ (old now : Preprocessing) (name content : List ℕ) where
+module _ (old now : Preprocessing) (name content : List ℕ) (usual : rules_of old ≡ pp_rs) where
   pub item_run : (text : List ℕ) (new : Preprocessing) (item : Option Item) → is_spent old ≡ false → Stands old (start (items_of text))
       → IsAdded old name content (Ok tt) now → IsNextItem now item new → is_refusal item ≡ false
       → IsRun text (add_define name content ∷ next ∷ []) (Added ∷ Given (outcome_of item) ∷ [])
@@ -32,7 +34,7 @@ module _ (old now : Preprocessing) (name content : List ℕ) where
       elim (unspent (is_spent now) _ _ (h.spent ∙ ready) then.gives) [
         | inl wants ↦ (let bad : true ≡ false = sym (ap is_refusal wants.item) ∙ plain in cc)
         | inr gives ↦ (let emitted = gives.item _ (h.stands _ stands) in
-            run.added name content tokens _ _ _ _ has (comes_run item _ emitted.after emitted.emits) refl)
+            run.added name content tokens _ _ _ _ (tokens_by_pp_rs old content usual ∙ has) (comes_run item _ emitted.after emitted.emits) refl)
       ]
 
   pub refused_run : (fault : Fault) → IsAdded old name content (Err fault) now
@@ -40,5 +42,5 @@ module _ (old now : Preprocessing) (name content : List ℕ) where
   refused_run fault (refused given same) = inl cc
   refused_run fault (faulty other has given same) =
       let this : other ≡ fault = cc in
-      inr (λ text. run.refused name content fault _ [] [] _ (rw this at has) (run.done _ [] refl) refl)
+      inr (λ text. run.refused name content fault _ [] [] _ (rw this at (tokens_by_pp_rs old content usual ∙ has)) (run.done _ [] refl) refl)
   refused_run fault (added tokens has given h) = cc

@@ -2,6 +2,7 @@
 use Rattle.std.proofs.Common.{◌≡◌, ◌∙◌, ℕ, Bool, false, if◌then◌else◌, List, [], ◌∷◌, map, refl, ap, sym, subst, None, Some}
 use Rattle.std.specs.Prelude.{Ok, unwrap_or}
 use Rattle.pp_lexer.specs.Lexed.{Seen}
+use Rattle.pp_lexer.specs.Rules.{pp_rs}
 use Rattle.pp_lexer.specs.declared.lexer.item.Token.{Token as LexerToken}
 use Rattle.pp_lexer.specs.declared.lexer.item.TokenValue.TheVariants.{Ident as LexerIdent, NewLine}
 use Rattle.pp_lexer.specs.declared.token.Location.{Location}
@@ -64,14 +65,14 @@ module _ (A : Answers) (name : Name) (place after : Location) (b f c g : Bool) (
       let reads : Reads A (reader_at 1) taken.End (reader_at 2) = later taken.End _ (reader_at 2) _ newline (here _ taken.End _ _ end refl) in
       itself taken.End _ _ (record { first = taken.End; fetches = read taken.End taken.End (reader_at 2) _ _ refl refl reads refl refl; paints = refl }) refl
 
-  runs : Runs (by_rules A) (start items) (next ∷ next ∷ []) (replies_of name place)
+  runs : Runs (by_rules A) pp_rs (start items) (next ∷ next ∷ []) (replies_of name place)
   runs = given (outcome.Token (token_of name place)) _ (state_at 1) _ _ _ (record { taken = first; emits = word_comes; is = refl }) refl
       (given outcome.End _ (state_at 2) _ _ _ (record { taken = taken.End; emits = end_comes; is = refl }) refl (done _ [] refl) refl) refl
 
 -- the same of items that are these
 pub identifier_runs : (A : Answers) (items : List Seen) (word newline : LexerToken) (name : Name) → map (λ (s : Seen). s.item) items ≡ Ok word ∷ Ok newline ∷ []
     → word.value ≡ LexerIdent name → newline.value ≡ NewLine → is_same_name name line_name ≡ false
-    → Runs (by_rules A) (start items) (next ∷ next ∷ []) (replies_of name word.location)
+    → Runs (by_rules A) pp_rs (start items) (next ∷ next ∷ []) (replies_of name word.location)
 identifier_runs A [] word newline name e w n other = cc
 identifier_runs A (s ∷ []) word newline name e w n other = cc
 identifier_runs A (s ∷ t ∷ u ∷ rest) word newline name e w n other = cc
@@ -83,5 +84,5 @@ identifier_runs A (s ∷ t ∷ []) word newline name e w n other =
     let second : t ≡ newline_of newline.location newline.leading_whitespace newline.start_of_line t =
     ap (λ i. record t { item = i }) that ∙ ap (λ v. record t { item = Ok (record newline { value = v }) }) n in
     let run = runs A name word.location newline.location word.leading_whitespace word.start_of_line newline.leading_whitespace newline.start_of_line s t other in
-    let half = subst (λ x. Runs (by_rules A) (start (x ∷ newline_of newline.location newline.leading_whitespace newline.start_of_line t ∷ [])) (next ∷ next ∷ []) (replies_of name word.location)) (sym first) run in
-    subst (λ y. Runs (by_rules A) (start (s ∷ y ∷ [])) (next ∷ next ∷ []) (replies_of name word.location)) (sym second) half
+    let half = subst (λ x. Runs (by_rules A) pp_rs (start (x ∷ newline_of newline.location newline.leading_whitespace newline.start_of_line t ∷ [])) (next ∷ next ∷ []) (replies_of name word.location)) (sym first) run in
+    subst (λ y. Runs (by_rules A) pp_rs (start (s ∷ y ∷ [])) (next ∷ next ∷ []) (replies_of name word.location)) (sym second) half

@@ -1,13 +1,14 @@
 -- Variants that were made of the tokens that were read.
-use Rattle.std.proofs.Common.{◌≡◌, ◌+◌, ◌<◌, ℕ, List, [], ◌∷◌, ◌++◌, codes, ap, sym, subst, map, take, length, get_or, append_assoc}
+use Rattle.std.proofs.Common.{◌≡◌, ◌∙◌, ◌+◌, ◌<◌, ℕ, List, [], ◌∷◌, ◌++◌, codes, ap, sym, subst, map, take, length, get_or, append_assoc}
 use Rattle.std.specs.Prelude.{Ok, Result}
 use Rattle.std.specs.Str.{chars}
+use Rattle.pp_lexer.specs.Rules.{pp_rs}
 use Rattle.pp_lexer.specs.declared.token.Token.{Token}
-use Rattle.pp_model.specs.Run.{items_of, start, with_added, content_tokens}
+use Rattle.pp_model.specs.Run.{items_by, items_of, start, with_added, content_tokens}
 use Rattle.pp_model.specs.declared.outcome.Outcome.TheVariants.{End}
 use Rattle.pp_rs.specs.Adding.{IsAdded, refused, faulty, added, IsWithAdded}
 use Rattle.pp_rs.specs.Comes.{State, IsRunFrom}
-use Rattle.pp_rs.specs.Kept.{Preprocessing, Stands}
+use Rattle.pp_rs.specs.Kept.{Preprocessing, Stands, rules_of}
 use Rattle.pp_rs.specs.Output.{output}
 use Rattle.pp_rs.specs.Trying.{IsTried, too_long, short, tried}
 use Rattle.pp_rs.specs.declared.pp.trying.AddError.{AddError}
@@ -22,15 +23,16 @@ pub record HasBody (name content : List ℕ) (old new : Preprocessing) : Type 0 
   pub is_body : content_tokens (items_of content) ≡ Ok body
   pub with_body : IsWithAdded (chars name) body old new
 
-was_added : (old new : Preprocessing) (name content : List ℕ) (answer : Result (Unit {0}) Fault) → IsAdded old name content answer new
+was_added : (old new : Preprocessing) (name content : List ℕ) (answer : Result (Unit {0}) Fault) → IsAdded old name content answer new → rules_of old ≡ pp_rs
     → ◌≡◌ {A = Result (Unit {0}) AddError} (Ok tt) (tried answer) → HasBody name content old new
-was_added old new name content answer (refused e same) is = cc
-was_added old new name content answer (faulty fault has e same) is = cc
-was_added old new name content answer (added body has e h) is = record { body = body; is_body = has; with_body = h }
+was_added old new name content answer (refused e same) usual is = cc
+was_added old new name content answer (faulty fault has e same) usual is = cc
+was_added old new name content answer (added body has e h) usual is =
+    record { body = body; is_body = ap (λ rules. content_tokens (items_by rules content)) (sym usual) ∙ has; with_body = h }
 
-pub defined : (old new : Preprocessing) (name content : List ℕ) → IsTried old name content (Ok tt) new → HasBody name content old new
-defined old new name content (too_long long e same) = cc
-defined old new name content (short answer fits h e) = was_added old new name content answer h e
+pub defined : (old new : Preprocessing) (name content : List ℕ) → IsTried old name content (Ok tt) new → rules_of old ≡ pp_rs → HasBody name content old new
+defined old new name content (too_long long e same) usual = cc
+defined old new name content (short answer fits h e) usual = was_added old new name content answer h usual e
 
 -- what comes after the definition is a variant
 pub variant_of : (old new : Preprocessing) (name content source text : List ℕ) → chars name ≡ codes "QUALITY" → HasBody name content old new

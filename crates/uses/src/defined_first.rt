@@ -1,10 +1,11 @@
 //! What a source gives first, once a macro is defined: a proved caller of `add_define` and `next`.
 
 ghost use Rattle.std.specs.Prelude.{◌≡◌, ◌<◌, ◌^◌, ◌-◌, ◌⊎◌, ℕ, false, List, [], ◌∷◌, length, IfOk, IfErr};
+ghost use Rattle.pp_lexer.specs.Rules.{pp_rs};
 ghost use Rattle.pp_lexer.specs.PreprocessorError.{out_of_memory};
 ghost use Rattle.pp_model.specs.Run.{IsRun, add_define, next, items_of, start};
 ghost use Rattle.pp_model.specs.declared.call.Reply.TheVariants.{Added, Refused, Given};
-ghost use Rattle.pp_rs.specs.Kept.{Stands, is_spent};
+ghost use Rattle.pp_rs.specs.Kept.{Stands, is_spent, rules_of};
 ghost use Rattle.pp_rs.specs.Preprocessing.{is_refusal, outcome_of};
 
 use pp_rs::pp::{Preprocessor, PreprocessorItem};
@@ -41,6 +42,7 @@ fn define_and_read(
 ) -> Result<Option<PreprocessorItem>, (PreprocessorError, Location)>
     requires unspent { is_spent pp.old ≡ false }
     requires content { length content.now < 2 ^ 32 - 1 }
+    requires rules { rules_of pp.old ≡ pp_rs }
     ensures item { IfOk result (λ item. is_refusal item ≡ false
         → (text : List ℕ) → Stands pp.old (start (items_of text))
         → IsRun text (add_define name.now content.now ∷ next ∷ []) (Added ∷ Given (outcome_of item) ∷ [])) }

@@ -1,11 +1,12 @@
 //! A shader once for each quality.
 
 ghost use Rattle.std.specs.Prelude.{◌≡◌, List, ℕ, false, map, IfOk, string_bytes};
+ghost use Rattle.pp_lexer.specs.Rules.{pp_rs};
 ghost use Rattle.pp_lexer.specs.declared.token.Token.{Token as TheToken};
 ghost use Rattle.pp_model.specs.Run.{items_of, start};
 ghost use Rattle.pp_model.specs.declared.outcome.Outcome.TheVariants.{End};
 ghost use Rattle.pp_rs.specs.Comes.{IsRunFrom, State};
-ghost use Rattle.pp_rs.specs.Kept.{Stands, is_spent};
+ghost use Rattle.pp_rs.specs.Kept.{Stands, is_spent, rules_of};
 ghost use Rattle.pp_rs.specs.Output.{output};
 ghost use Rattle.uses.specs.Variants.{AreVariants, IsVariant};
 
@@ -41,7 +42,8 @@ fn build_variant(alloc: Global, source: &str, content: &str) -> Result<String>
 
 // The items of the source as text, once the definition is added.
 fn text_with(alloc: Global, pp: &mut Preprocessor<'_>, content: &str) -> Result<String>
-    requires { is_spent pp.old ≡ false }
+    requires unspent { is_spent pp.old ≡ false }
+    requires rules { rules_of pp.old ≡ pp_rs }
     ensures { IfOk result (λ text. (source : List ℕ) → Stands pp.old (start (items_of source))
         → IsVariant source content.now (string_bytes text)) }
 {

@@ -7,7 +7,7 @@ use Rattle.pp_macros.specs.Item.{Item as Given_item}
 use Rattle.pp_model.specs.Calls.{Fault}
 use Rattle.pp_model.specs.Run.{Call, add_define, next, items_of, content_tokens}
 use Rattle.pp_rs.specs.Adding.{IsWithAdded}
-use Rattle.pp_rs.specs.Kept.{Preprocessing, is_spent, error_place}
+use Rattle.pp_rs.specs.Kept.{Preprocessing, is_spent, error_place, rules_of}
 use Rattle.pp_rs.specs.Preprocessing.{IsGivenItem}
 use Rattle.pp_rs.specs.declared.token.Location.{Location}
 use Rattle.pp_rs.specs.declared.token.Token.{Token}
@@ -32,10 +32,11 @@ abbrev pub IsAt : Given → Location → Type 0
 IsAt (token t) place = ⊤
 IsAt (error fault at) place = at ≡ place
 
--- one call of `next`: an item, or the end
+-- one call of `next`: an item, or the end; the rules stay
 pub record GivesNext (old : Preprocessing) (answer : Option Given) (new : Preprocessing) : Type 0 where
   pub given : IsGivenItem old (option_map item_of answer) new
   pub placed : MatchOption answer ⊤ (λ given. IsAt given (error_place new))
+  pub rules : rules_of new ≡ rules_of old
 
 -- these calls were made one after another, and those of `next` gave these answers
 pub data Made : Preprocessing → List Call → List (Option Given) → Preprocessing → Type 0 where

@@ -1,15 +1,16 @@
 -- The source before anything of it is read.
 use Rattle.std.specs.Prelude.{ℕ, List, [], None, false, pos}
-use Rattle.pp_lexer.specs.Items.{places_of}
-use Rattle.pp_lexer.specs.Lexed.{start_of}
+use Rattle.pp_lexer.specs.Items.{places_by}
+use Rattle.pp_lexer.specs.Lexed.{start_by}
 use Rattle.pp_lexer.specs.Spots.{spots_of}
+use Rattle.pp_lexer.specs.declared.rules.Rules.{Rules}
 use Rattle.pp_macros.specs.inner.Source.{Source}
 
-abbrev pub source_start : List ℕ → Source
-source_start input =
+abbrev pub source_start : Rules → List ℕ → Source
+source_start rules input =
     record {
-      rest = (start_of (spots_of input)).rest;
-      places = places_of (spots_of input);
+      rest = (start_by rules (spots_of input)).rest;
+      places = places_by rules (spots_of input);
       error_place = None;
       definitions = [];
       blocks = [];

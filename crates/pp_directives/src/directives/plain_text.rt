@@ -1,11 +1,12 @@
 //! The words of plain text, which are given before they become tokens.
 
-ghost use Rattle.std.specs.Prelude.{IfOk};
-ghost use Rattle.pp_macros.specs.inner.Reader.{of_source, ReadsOnto};
+ghost use Rattle.std.specs.Prelude.{◌≡◌, ◌++◌, ◌∷◌, [], List, is_some, IfOk, IfSome};
+ghost use Rattle.pp_model.specs.declared.read.Read.{Read};
+ghost use Rattle.pp_macros.specs.inner.Reader.{of_source, nests, ReadsOnto};
 ghost use Rattle.pp_directives.specs.inner.PlainText.{IsInText, GivesWord, PausesAtNewline};
 
 use crate::directives::DirectiveProcessor;
-use crate::words::{act_of, is_apart};
+use crate::words::{act_of, is_apart, is_parenthesis};
 use pp_lexer::lexer::PlainItem;
 use pp_macros::names::NameId;
 use pp_model::read::Read;
@@ -28,24 +29,27 @@ impl<'a> DirectiveProcessor<'a> {
     }
 
     // Reads a word of plain text onto the end of the tokens, if one comes first and isn't `__LINE__`, and returns
-    // whether it did. Otherwise nothing changes.
+    // whether it is a parenthesis. Otherwise nothing changes, and it returns `None`.
     #[inline(always)]
-    pub(crate) fn push_word(&mut self, tokens: &mut Vec<Read>) -> Result<bool, AllocError>
+    pub(crate) fn push_word(&mut self, tokens: &mut Vec<Read>) -> Result<Option<bool>, AllocError>
         requires { IsInText self.old }
-        ensures onto { IfOk result (λ pushed. ReadsOnto (of_source self.old) tokens.old.items pushed
+        ensures onto { IfOk result (λ pushed. ReadsOnto (of_source self.old) tokens.old.items (is_some pushed)
             (of_source self.new) tokens.new.items) }
+        ensures nests { (before : List Read) (read : Read) → tokens.new.items ≡ before ++ read ∷ []
+            → IfOk result (λ pushed. IfSome pushed (λ is. is ≡ nests read.token.value)) }
         ensures stays { IfOk result (λ _. IsInText self.new) }
     {
         let Some(word) = self.lexer.peek_word() else {
-            return Ok(false);
+            return Ok(None);
         };
         if !is_apart(&word) {
-            return Ok(false);
+            return Ok(None);
         }
+        let is_parenthesis = is_parenthesis(&word);
         let token = self.lexer.take_word(self.alloc, word)?;
         self.has_text = true;
         tokens.push(Read::unpainted(token))?;
-        Ok(true)
+        Ok(Some(is_parenthesis))
     }
 
     /// Passes a newline of plain text, if one comes first, and returns whether it did. Otherwise it changes nothing.

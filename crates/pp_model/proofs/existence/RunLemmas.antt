@@ -4,6 +4,7 @@ use Rattle.std.specs.Prelude.{Result, Ok, Err}
 use Rattle.std.specs.Str.{chars}
 use Rattle.pp_lexer.specs.Lexed.{Seen}
 use Rattle.pp_lexer.specs.declared.token.Token.{Token}
+use Rattle.pp_lexer.specs.declared.rules.Rules.{Rules}
 use Rattle.pp_model.specs.Painting.{item_of}
 use Rattle.pp_model.specs.Reading.{Expander}
 use Rattle.pp_model.specs.Calls.{Fault, Answers}
@@ -11,7 +12,7 @@ use Rattle.pp_model.specs.Definitions.{object_like}
 use Rattle.pp_model.specs.Emitting.{answers_at, expansion_limit}
 use Rattle.pp_model.specs.SourceReader.{SourceReader}
 use Rattle.pp_model.specs.Reads.{source_reading}
-use Rattle.pp_model.specs.Run.{Call, add_define, next, items_of, content_tokens, start, with_added, is_fault, Gives, by_rules, Runs, done, added, refused, given, failed}
+use Rattle.pp_model.specs.Run.{Call, add_define, next, items_by, content_tokens, start, with_added, is_fault, Gives, by_rules, Runs, done, added, refused, given, failed}
 use Rattle.pp_model.specs.ExistenceLaws.{AnAnswer, AnItem, RunDefinesFinitelyMany, ARun}
 use Rattle.pp_model.specs.RunStates.{LeadsTo}
 use Rattle.pp_model.specs.declared.call.Reply.{Reply}
@@ -31,12 +32,13 @@ module _ (A : Answers) (answered : AnAnswer A) where
   pub source_item : AnItem (source_reading A) A
   source_item e finite = let i = next_item e (every_source A answered e finite) in (i.item, i.after, i.emits)
 
+module _ (A : Answers) (answered : AnAnswer A) (rules : Rules) where
   -- ---- replies
 
   abbrev Running : Expander SourceReader → List Call → Type 0
-  Running e calls = (replies : List Reply) × Runs (by_rules A) e calls replies
+  Running e calls = (replies : List Reply) × Runs (by_rules A) rules e calls replies
 
-  adds : (name content : List ℕ) (e : Expander SourceReader) (calls : List Call) → (x : Result (List Token) Fault) → content_tokens (items_of content) ≡ x
+  adds : (name content : List ℕ) (e : Expander SourceReader) (calls : List Call) → (x : Result (List Token) Fault) → content_tokens (items_by rules content) ≡ x
       → ((tokens : List Token) → Running (with_added (chars name) tokens e) calls) → Running e calls → Running e (add_define name content ∷ calls)
   adds name content e calls (Ok tokens) p more same =
       let replies = reply.Added ∷ (more tokens).0 in
@@ -58,7 +60,7 @@ module _ (A : Answers) (answered : AnAnswer A) where
   replies_to : (calls : List Call) (e : Expander SourceReader) → HasFinite e.reader → Running e calls
   replies_to [] e finite = ([], done e [] refl)
   replies_to (add_define name content ∷ calls) e finite =
-      adds name content e calls (content_tokens (items_of content)) refl
+      adds name content e calls (content_tokens (items_by rules content)) refl
       (λ tokens. replies_to calls (with_added (chars name) tokens e) (with_one e.reader.definitions (chars name) finite (object_like tokens)))
       (replies_to calls e finite)
   replies_to (next ∷ calls) e finite =
@@ -89,4 +91,5 @@ module _ (level : ℕ) where
 
 -- Every source has a run, whatever is called.
 pub a_run : ARun
-a_run text calls = replies_to (answers_at expansion_limit) (an_answer expansion_limit) calls (start (items_of text)) (start_finite (items_of text))
+a_run rules text calls =
+    replies_to (answers_at expansion_limit) (an_answer expansion_limit) rules calls (start (items_by rules text)) (start_finite (items_by rules text))

@@ -5,11 +5,12 @@ use Rattle.pp_lexer.specs.Items.{Lexeme}
 use Rattle.pp_lexer.specs.declared.token.PreprocessorError.{PreprocessorError}
 use Rattle.pp_lexer.specs.declared.token.PreprocessorError.TheVariants.{OutOfMemory}
 use Rattle.pp_lexer.specs.declared.token.Token.{Token}
+use Rattle.pp_lexer.specs.declared.rules.Rules.{Rules}
 use Rattle.pp_model.specs.Reading.{Expander}
 use Rattle.pp_model.specs.Calls.{Fault, Answers}
 use Rattle.pp_model.specs.SourceReader.{SourceReader}
 use Rattle.pp_reference.specs.inner.ReaderState.{reader_of}
-use Rattle.pp_model.specs.Run.{by_rules, Call, add_define, next, items_of, content_tokens, with_added}
+use Rattle.pp_model.specs.Run.{by_rules, Call, add_define, next, items_by, content_tokens, with_added}
 use Rattle.pp_model.specs.declared.call.Reply.{Reply}
 use Rattle.pp_model.specs.declared.call.Reply.TheVariants as reply
 use Rattle.pp_model.specs.declared.outcome.Outcome.{Outcome}
@@ -29,22 +30,23 @@ abbrev pub is_refused : Lexeme → Bool
 is_refused (Ok token) = false
 is_refused (Err fault) = is_out_of_memory fault.0
 
--- the reply to one call, and the state after it
-pub data Replying (A : Answers) : Expander SourceReader → Call → Reply → Expander SourceReader → Type 0 where
+-- the reply to one call, if contents are read by these rules, and the state after it
+pub data Replying (A : Answers) (rules : Rules)
+    : Expander SourceReader → Call → Reply → Expander SourceReader → Type 0 where
   added : (name content : List ℕ) (tokens : List Token) (e f : Expander SourceReader) (r : Reply)
-      → content_tokens (items_of content) ≡ Ok tokens
+      → content_tokens (items_by rules content) ≡ Ok tokens
       → r ≡ reply.Added
       → f ≡ with_added (chars name) tokens e
-      → Replying A e (add_define name content) r f
+      → Replying A rules e (add_define name content) r f
   refused : (name content : List ℕ) (fault : Fault) (e f : Expander SourceReader) (r : Reply)
-      → content_tokens (items_of content) ≡ Err fault
+      → content_tokens (items_by rules content) ≡ Err fault
       → r ≡ reply.Refused fault
       → f ≡ e
-      → Replying A e (add_define name content) r f
+      → Replying A rules e (add_define name content) r f
   given : (o : Outcome) (e f : Expander SourceReader) (r : Reply)
       → by_rules A e o f
       → r ≡ reply.Given o
-      → Replying A e next r f
+      → Replying A rules e next r f
 
 -- the reply to a content that is refused with this fault; a stop has no reply
 abbrev pub RefusedBy : Halt → Reply → Type 0

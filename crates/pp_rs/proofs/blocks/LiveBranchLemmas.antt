@@ -3,6 +3,7 @@
 use Rattle.std.proofs.Common.{◌∙◌, ℕ, zero, suc, ◌≤◌, ◌||◌, List, [], ◌∷◌, ap, subst, arith}
 use Rattle.std.specs.List.{AllByRecursion as Each}
 use Rattle.std.proofs.Math.Bool.{or-true}
+use Rattle.pp_lexer.specs.Rules.{pp_rs}
 use Rattle.pp_lexer.specs.Lexed.{Seen}
 use Rattle.pp_model.specs.Blocks.{Truths, Block, blocks_at, has_taken_branch}
 use Rattle.pp_model.specs.Calls.{Answers}
@@ -38,7 +39,7 @@ live_branches r known = record {
 
 known_at_start : (text : List ℕ) → HasRead (reader_at_start (items_of text))
 known_at_start text = record {
-  lined = items_lined text;
+  lined = items_lined pp_rs text;
   lines = no_lines_before (items_of text);
   before = tt;
   read = none_open;

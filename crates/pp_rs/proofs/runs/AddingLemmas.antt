@@ -2,12 +2,13 @@
 use Rattle.std.proofs.Common.{◌≡◌, ◌∙◌, ℕ, ◌+◌, Bool, true, false, if◌then◌else◌, List, [], ◌∷◌, length, Option, Some, Ok, Err, IsSome, refl, ap, sym, subst}
 use Rattle.std.specs.Str.{chars}
 use Rattle.pp_lexer.specs.PreprocessorError.{out_of_memory}
+use Rattle.pp_lexer.specs.Rules.{pp_rs}
 use Rattle.pp_lexer.specs.declared.token.Token.{Token}
 use Rattle.pp_model.specs.declared.read.Read.{Read}
 use Rattle.pp_model.specs.Names.{Name, is_same_name}
 use Rattle.pp_model.specs.Definitions.{Definitions, object_like, with_change}
 use Rattle.pp_model.specs.Reading.{Expander}
-use Rattle.pp_model.specs.Run.{items_of, content_tokens, with_added}
+use Rattle.pp_model.specs.Run.{items_by, items_of, content_tokens, with_added}
 use Rattle.pp_model.specs.inner.Run.{after_addition}
 use Rattle.pp_model.specs.SourceReader.{SourceReader}
 use Rattle.pp_model.specs.Emitting.{expansion_limit}
@@ -16,7 +17,7 @@ use Rattle.pp_macros.specs.inner.Defined.{Defined, IsChanged, meaning_of, names_
 use Rattle.pp_rs.specs.inner.Fit.{EndIsLast, IsFit, IsReported}
 use Rattle.pp_macros.specs.inner.Frames.{Frame, names_of}
 use Rattle.pp_macros.specs.Item.{Fault, Step}
-use Rattle.pp_rs.specs.Kept.{Preprocessing, Stands, is_spent, most_items, errors_left, error_place, call_line}
+use Rattle.pp_rs.specs.Kept.{Preprocessing, Stands, is_spent, most_items, errors_left, error_place, call_line, rules_of}
 use Rattle.pp_macros.specs.inner.Left.{AreDefinedAbove, work_of}
 use Rattle.pp_macros.specs.inner.Expander as kept
 use Rattle.pp_macros.specs.inner.Reader.{of_source}
@@ -28,6 +29,11 @@ use Rattle.pp_macros.specs.declared.step.StepExit.TheVariants.{Error, Continue, 
 use Rattle.pp_macros.proofs.open_frames.OpenSoundLemmas.{numbers_more}
 use Rattle.pp_rs.proofs.source.StandsAfterLemmas.{stands_with}
 use Rattle.pp_rs.proofs.runs.LeftLemmas.{no_more_work}
+
+-- by pp-rs's rules a content has the tokens that it has by those of the preprocessor
+pub tokens_by_pp_rs : (old : Preprocessing) (content : List ℕ) → rules_of old ≡ pp_rs
+    → content_tokens (items_of content) ≡ content_tokens (items_by (rules_of old) content)
+tokens_by_pp_rs old content usual = ap (λ rules. content_tokens (items_by rules content)) (sym usual)
 
 module _ (name : Name) (tokens : List Token) (old new : Source) (h : IsSetIn name tokens old new) where
   reader_added : (definitions : List Defined) → IsChanged name (Some (object_like tokens)) old.definitions definitions → (r : SourceReader)
@@ -93,9 +99,9 @@ module _ (name : Name) (tokens : List Token) (old new : Source) (h : IsSetIn nam
 
 -- what a call answers, by what was made of the source
 module _ (old : Preprocessing) (name content : List ℕ) (new : Source) where
-  pub added_now : (tokens : List Token) → content_tokens (items_of content) ≡ Ok tokens → IsSetIn (chars name) tokens old.source new
+  pub added_now : (tokens : List Token) → content_tokens (items_by old.rules content) ≡ Ok tokens → IsSetIn (chars name) tokens old.source new
       → IsAdded old name content (Ok tt) (record old { source = new })
-  unfolding Stands is_spent most_items errors_left error_place call_line
+  unfolding Stands is_spent most_items errors_left error_place call_line rules_of
   added_now tokens e h = added tokens e refl (record {
     stands = λ state stands. stands_added (chars name) tokens old.source new h old.expander state stands;
     spent = refl;
@@ -103,10 +109,12 @@ module _ (old : Preprocessing) (name content : List ℕ) (new : Source) where
     errors = ap (λ (s : Source). unreported_with old.expander.held (unreported_of s)) h.others;
     place = refl;
     line = refl;
+    rules = refl;
   })
 
-  pub faulty_now : (fault : Fault) → content_tokens (items_of content) ≡ Err fault → new ≡ old.source
+  pub faulty_now : (fault : Fault) → content_tokens (items_by old.rules content) ≡ Err fault → new ≡ old.source
       → IsAdded old name content (Err fault) (record old { source = new })
+  unfolding rules_of
   faulty_now fault e same = faulty fault e refl (ap (λ (source : Source). record old { source = source }) same)
 
   pub refused_now : new ≡ old.source → IsAdded old name content (Err out_of_memory) (record old { source = new })

@@ -6,6 +6,7 @@ use Rattle.pp_lexer.specs.Spelling.{values_of}
 use Rattle.pp_lexer.specs.TokenValue.{is_ordinary}
 use Rattle.pp_lexer.specs.declared.token.Token.{Token}
 use Rattle.pp_model.specs.Emitting.{expansion_limit}
+use Rattle.pp_lexer.specs.Rules.{pp_rs}
 use Rattle.pp_model.specs.RespellLaws.{calls_for, replies_with}
 use Rattle.pp_model.specs.Run.{Runs, done, given, failed, items_of, start}
 use Rattle.pp_model.specs.declared.outcome.Outcome.TheVariants as outcome
@@ -20,7 +21,7 @@ use Rattle.pp_rs.proofs.runs.ItemValuesLemmas.{HaveValues, values_are, tokens_ar
 
 -- from the state these tokens come, and then the end
 abbrev RunsThrough : State → List Token → Type 0
-RunsThrough e tokens = Runs Comes e (calls_for tokens) (replies_with tokens)
+RunsThrough e tokens = Runs Comes pp_rs e (calls_for tokens) (replies_with tokens)
 
 end_comes : (e : State) → RunsThrough e [] → (f : State) × Comes e outcome.End f
 end_comes e (given o e1 f calls rest replies comes plain more is) = let same : o ≡ outcome.End = cc in (f, subst (λ x. Comes e x f) same comes)
@@ -35,7 +36,7 @@ token_comes : (e : State) (token : Token) (tokens : List Token) → RunsThrough 
 token_comes e token tokens (given o e1 f calls rest replies comes plain more is) =
     let same : o ≡ outcome.Token token = cc in
     let left : rest ≡ replies_with tokens = cc in
-    record { after = f; comes = subst (λ x. Comes e x f) same comes; later = subst (λ rs. Runs Comes f (calls_for tokens) rs) left more }
+    record { after = f; comes = subst (λ x. Comes e x f) same comes; later = subst (λ rs. Runs Comes pp_rs f (calls_for tokens) rs) left more }
 token_comes e token tokens (failed fault e1 f calls replies comes is) = cc
 
 -- what comes first of such a run, and what is left of it
@@ -117,7 +118,7 @@ AreOrdinary tokens = All (λ token. IsTrue (is_ordinary token.value)) tokens
 pub output_is_read : (tokens : List Token) → IsOutput tokens → AreOrdinary tokens → AreReadAfresh tokens
 output_is_read tokens o plain =
     let given_plain = subst AreOrdinary (sym o.given) plain in
-    subst AreReadAfresh o.given (runs_read_afresh expansion_limit o.source o.calls o.replies o.is_text o.contents o.run given_plain)
+    subst AreReadAfresh o.given (runs_read_afresh expansion_limit pp_rs o.source o.calls o.replies o.is_text o.contents o.run given_plain)
 
 -- if tokens are read afresh, the items of their text have their values
 pub items_of_read : (tokens : List Token) (items : List Item) → AreReadAfresh tokens → AreItemsOfText (text_of tokens) items

@@ -1,5 +1,6 @@
 -- The line of the call once a token that an open macro gives was passed, and in live text.
 use Rattle.std.proofs.Common.{◌≡◌, ◌∙◌, ℕ, Bool, true, List, refl, ap, sym, Option, Some, None, Ok}
+use Rattle.pp_lexer.specs.declared.rules.Rules.{Rules}
 use Rattle.pp_lexer.specs.declared.token.Location.{Location}
 use Rattle.pp_lexer.specs.declared.token.Token.{Token}
 use Rattle.pp_model.specs.declared.read.Read.{Read}
@@ -36,10 +37,10 @@ turn_line m n r s step read (seeks other opened (gathered paren g) step1 m1 n1 p
 
 -- the line of the call that gives the token that is ahead
 pub ahead_line : (p : Preprocessing) (token : Token) → IsAhead p token → (line : Option ℕ) → line ≡ outermost_frame_line p.expander.frames
-    → (now : Expander) → p.expander ≡ now → (source : Source) (spent : Bool) (place : Location) (name_line : Option ℕ)
-    → line ≡ call_line (record { expander = passed now; source = source; spent = spent; place = place; name_line = name_line })
+    → (now : Expander) → p.expander ≡ now → (source : Source) (spent : Bool) (place : Location) (name_line : Option ℕ) (rules : Rules)
+    → line ≡ call_line (record { expander = passed now; source = source; spent = spent; place = place; name_line = name_line; rules = rules })
 unfolding IsAhead call_line
-ahead_line p token ahead line front now is source spent place name_line =
+ahead_line p token ahead line front now is source spent place name_line rules =
     let is_given = ahead.3 in
     rw (← is) (front
     ∙ sym (turn_line p.expander (passed p.expander) (of_source p.source) (of_source p.source) _ _ is_given.turns refl is_given.free)

@@ -8,7 +8,7 @@ use Rattle.pp_lexer.specs.declared.token.Token.{Token}
 use Rattle.pp_directives.specs.WordTokens.{word_token}
 use Rattle.pp_macros.specs.Item.{Item}
 use Rattle.pp_rs.specs.Giving.{AreGiven, GivesTokens, is_ordinary_token, nothing, one_more}
-use Rattle.pp_rs.specs.Kept.{Preprocessing, is_spent, most_items, call_line}
+use Rattle.pp_rs.specs.Kept.{Preprocessing, is_spent, most_items, call_line, rules_of}
 use Rattle.pp_rs.specs.inner.NextWord.{IsPassed, IsWord}
 use Rattle.pp_rs.specs.Preprocessing.{IsNextItem}
 use Rattle.pp_rs.specs.TokenRefs.{value_of, token_of}
@@ -46,6 +46,11 @@ module _ {S : Type 0} (takes : S → TokenRef → S → Type 0) where
   given_unspent old before new after (nothing p sink e f) fresh = ap is_spent e ∙ fresh
   given_unspent old before new after (one_more token now p between sink given next line taken) fresh =
       token_unspent now new (token_of token) (given_unspent old before now between given fresh) next
+
+  -- tokens that are given keep the rules
+  given_rules : (old : Preprocessing) (before : S) (new : Preprocessing) (after : S) → AreGiven takes old before new after → rules_of new ≡ rules_of old
+  given_rules old before new after (nothing p sink e f) = ap rules_of e
+  given_rules old before new after (one_more token now p between sink given next line taken) = next.rules ∙ given_rules old before now between given
 
   -- no more is left once tokens were given
   given_left : (old : Preprocessing) (before : S) (new : Preprocessing) (after : S) → AreGiven takes old before new after → most_items new ≤ most_items old
@@ -101,10 +106,10 @@ module _ {S : Type 0} (takes : S → TokenRef → S → Type 0) where
       }
 
   -- memory ran out
-  pub giving_stops : (start new : Preprocessing) (first after : S) → IsRefusedAfter takes start first → is_spent new ≡ true
+  pub giving_stops : (start new : Preprocessing) (first after : S) → IsRefusedAfter takes start first → is_spent new ≡ true → rules_of new ≡ rules_of start
       → GivesTokens takes start first (Some (Err out_of_memory)) new after
-  giving_stops start new first after r spent =
-      let next = refused_next r.last new r.unspent spent r.some_left in
+  giving_stops start new first after r spent same =
+      let next = refused_next r.last new r.unspent spent r.some_left (same ∙ sym (given_rules start first r.last r.taken r.given)) in
       record {
         last = r.last;
         taken = r.taken;

@@ -2,6 +2,7 @@
 use Rattle.std.proofs.Common.{◌≡◌, ◌∙◌, ◌<◌, ◌≤◌, ◌⊎◌, inl, inr, ℕ, Bool, true, false, if◌then◌else◌, List, [], ◌∷◌, refl, sym, ap, subst, Option, Some, None, arith}
 use Rattle.std.specs.Prelude.{Ok, Err, MatchBool, unwrap_or}
 use Rattle.pp_lexer.specs.PreprocessorError.{out_of_memory}
+use Rattle.pp_lexer.specs.declared.rules.Rules.{Rules}
 use Rattle.pp_lexer.specs.declared.token.Location.{Location}
 use Rattle.pp_lexer.specs.declared.token.Token.{Token}
 use Rattle.pp_model.specs.declared.read.Read.{Read}
@@ -23,7 +24,7 @@ use Rattle.pp_macros.specs.inner.Reader.{of_source}
 use Rattle.pp_macros.specs.inner.Source.{Source, unreported_of}
 use Rattle.pp_rs.specs.inner.SourceTurns.{TurnsSource, StepsOver}
 use Rattle.pp_rs.specs.inner.Stands.{StandsFor}
-use Rattle.pp_rs.specs.Kept.{Preprocessing, Stands, is_spent, most_items, errors_left, error_place, kept_line, call_line}
+use Rattle.pp_rs.specs.Kept.{Preprocessing, Stands, is_spent, most_items, errors_left, error_place, kept_line, call_line, rules_of}
 use Rattle.pp_rs.specs.Preprocessing.{IsLessLeft, IsErrorAt, of_lexer, of_its_own, IsRefusedItem, IsGivenItem, IsNextItem}
 use Rattle.pp_macros.specs.inner.Unreported.{with_read}
 use Rattle.pp_macros.specs.declared.step.StepExit.TheVariants.{Error, Continue, Finished}
@@ -59,8 +60,9 @@ reached_first expander now source source_now e f fit = rw (e, f) (record {
 
 module _ (expander now after : kept.Expander) (source source_now source_after : Source) (r : Reached expander source now source_now) where
   -- what is kept after the turn
-  abbrev pub kept_with : Source → Bool → Location → Option ℕ → Preprocessing
-  kept_with source spent place line = record { expander = after; source = source; spent = spent; place = place; name_line = line }
+  abbrev pub kept_with : Rules → Source → Bool → Location → Option ℕ → Preprocessing
+  kept_with rules source spent place line =
+      record { expander = after; source = source; spent = spent; place = place; name_line = line; rules = rules }
 
   abbrev pub Over : Step Token → Type 0
   Over step = StepsOver expansion_limit now source_now step after source_after
@@ -126,7 +128,8 @@ module _ (expander now after : kept.Expander) (source source_now source_after : 
       )
 
   -- the answers from a state that isn't spent
-  module _ (old : Preprocessing) (fresh : old.spent ≡ false) (starts : old.expander ≡ expander) (begins : old.source ≡ source) where
+  module _ (old : Preprocessing) (fresh : old.spent ≡ false) (starts : old.expander ≡ expander) (begins : old.source ≡ source)
+      (rules : Rules) (ruled : rules ≡ old.rules) where
     stands_first : (e : Expander SourceReader) → Stands old e → StandsFor expander source e
     unfolding Stands
     stands_first e stands = subst (λ (s : Source). StandsFor expander s e) begins (subst (λ (m : kept.Expander). StandsFor m old.source e) starts stands)
@@ -136,16 +139,17 @@ module _ (expander now after : kept.Expander) (source source_now source_after : 
     most_first = rw (fresh, starts, begins) refl
 
     as_next : (answer : Option Item) (new : Preprocessing) → IsRefusedItem answer new ⊎ IsGivenItem old answer new → IsLessLeft answer old new
-        → IsNextItem old answer new
-    unfolding is_spent
-    as_next answer new h less = record {
+        → new.rules ≡ old.rules → IsNextItem old answer new
+    unfolding is_spent rules_of
+    as_next answer new h less same = record {
       gives = subst (λ (b : Bool). MatchBool b ((answer ≡ None) × (new ≡ old)) (IsRefusedItem answer new ⊎ IsGivenItem old answer new)) (sym fresh) h;
       less_left = less;
+      rules = same;
     }
 
     -- less is left after a token or a fault
     less_last : (step : Step Token) (place : Location) (line : Option ℕ) → Over step → wants_memory step ≡ false → (step ≡ Err Finished → ⊥)
-        → most_items (kept_with source_after false place line) < most_items old
+        → most_items (kept_with rules source_after false place line) < most_items old
     unfolding most_items
     less_last step place line turn reported goes =
         let lower = falls step turn reported goes in
@@ -158,11 +162,11 @@ module _ (expander now after : kept.Expander) (source source_now source_after : 
     pub next_token : (token : Token) (spent : Bool) (place : Location) (line : Option ℕ) → spent ≡ false → place ≡ old.place
         → kept_line after.held line after.frames ≡ kept_line after.held (outermost_frame_line now.frames) after.frames → Over (Ok token)
         → HoldsOrdinary token.value
-        → IsNextItem old (Some (Ok token)) (kept_with source_after spent place line)
+        → IsNextItem old (Some (Ok token)) (kept_with rules source_after spent place line)
     unfolding Stands is_spent errors_left error_place call_line
     next_token token true place line fresh_now same kept turn holds = cc
     next_token token false place line fresh_now same kept turn holds =
-        as_next (Some (Ok token)) (kept_with source_after false place line) (inr (record {
+        as_next (Some (Ok token)) (kept_with rules source_after false place line) (inr (record {
           item = λ e stands.
               let leads : LeadsFrom (answers_at expansion_limit) e (Ok token) (outermost_frame_line now.frames) after source_after =
               (leads_last (Ok token) turn refl).from e (stands_first e stands) in
@@ -171,20 +175,20 @@ module _ (expander now after : kept.Expander) (source source_now source_after : 
           holds = holds;
           reports = ((errors_last (Ok token) turn refl).1 ∙ sym errors_first, same);
           spent = refl;
-        })) (less_last (Ok token) place line turn refl (λ e. cc))
+        })) (less_last (Ok token) place line turn refl (λ e. cc)) ruled
 
     -- memory is refused, and there was something to take
-    pub next_refused : TakesSomething now (of_source source_now) → (new : Preprocessing) → new.spent ≡ true
+    pub next_refused : TakesSomething now (of_source source_now) → (new : Preprocessing) → new.spent ≡ true → new.rules ≡ old.rules
         → IsNextItem old (Some (Err out_of_memory)) new
     unfolding is_spent most_items
-    next_refused some new spent =
+    next_refused some new spent same =
         let left : SomethingLeft expander source = r.left (some_left now source_now r.fit.unspent some) in
         as_next (Some (Err out_of_memory)) new (inl (record { item = refl; spent = spent }))
-        (rw spent (omega (arith, left_is_work expansion_limit expander source left, most_first)))
+        (rw spent (omega (arith, left_is_work expansion_limit expander source left, most_first))) same
 
     -- less is left after a pause
     pub less_more : (spent : Bool) (place : Location) (line : Option ℕ) → spent ≡ false → Over (Err Continue)
-        → most_items (record { expander = after; source = source_after; spent = spent; place = place; name_line = line }) < most_items old
+        → most_items (record { expander = after; source = source_after; spent = spent; place = place; name_line = line; rules = rules }) < most_items old
     less_more true place line fresh_now turn = cc
     less_more false place line fresh_now turn = less_last (Err Continue) place line turn refl (λ e. cc)
 
@@ -193,7 +197,7 @@ module _ (expander now after : kept.Expander) (source source_now source_after : 
     some_items turn = omega (arith, falls_more turn, r.less, most_first)
 
     end_last : (place : Location) (line : Option ℕ) → Over (Err Finished)
-        → most_items (kept_with source_after false place line) ≡ 0
+        → most_items (kept_with rules source_after false place line) ≡ 0
     unfolding most_items
     end_last place line turn =
         let e = source_ends expansion_limit now source_now source_after r.fit after (turned (Err Finished) turn refl) in
@@ -214,11 +218,11 @@ module _ (expander now after : kept.Expander) (source source_now source_after : 
     end_free turn = (source_ends expansion_limit now source_now source_after r.fit after (turned (Err Finished) turn refl)).0
 
     pub next_end : (spent : Bool) (place : Location) (line : Option ℕ) → spent ≡ false → place ≡ old.place → Over (Err Finished)
-        → IsNextItem old None (kept_with source_after spent place line)
+        → IsNextItem old None (kept_with rules source_after spent place line)
     unfolding Stands is_spent errors_left error_place call_line
     next_end true place line fresh_now same turn = cc
     next_end false place line fresh_now same turn =
-        as_next None (kept_with source_after false place line) (inr (record {
+        as_next None (kept_with rules source_after false place line) (inr (record {
           item = λ e stands.
               let leads : LeadsFrom (answers_at expansion_limit) e (Err Finished) (outermost_frame_line now.frames) after source_after =
               (leads_last (Err Finished) turn refl).from e (stands_first e stands) in
@@ -232,35 +236,35 @@ module _ (expander now after : kept.Expander) (source source_now source_after : 
           holds = tt;
           reports = (errors_first ∙ sym (errors_last (Err Finished) turn refl).1 ∙ none_unreported turn, none_unreported turn, same);
           spent = refl;
-        })) (end_last place line turn)
+        })) (end_last place line turn) ruled
 
     -- a fault is reported where it stands: the place that was taken is that of an error of the lexer
     module _ (fault : Fault) (reported_source : Source) (place : Location) (line : Option ℕ) (is : reported_source ≡ record source_after { error_place = None }) where
       error_reported : (taken : Option Location) (left : List ErrorAt) → errors_of expander source ≡ with_read fault taken left
-          → place ≡ unwrap_or taken fault.1 → errors_left (kept_with reported_source false place line) ≡ left
-          → IsErrorAt fault old (kept_with reported_source false place line)
+          → place ≡ unwrap_or taken fault.1 → errors_left (kept_with rules reported_source false place line) ≡ left
+          → IsErrorAt fault old (kept_with rules reported_source false place line)
       unfolding error_place
       error_reported (Some there) left e at same = of_lexer (errors_first ∙ e
           ∙ ap (λ (es : List ErrorAt). record { item = fault; place = there } ∷ es) (sym same)
           ∙ ap (λ (p : Location). record { item = fault; place = p } ∷ errors_left
-          (kept_with reported_source false place line)) (sym at))
+          (kept_with rules reported_source false place line)) (sym at))
       error_reported None left e at same = of_its_own at (same ∙ sym e ∙ sym errors_first)
 
       errors_now : Over (Err (Error fault)) → is_out_of_memory fault.0 ≡ false
-          → errors_left (kept_with reported_source false place line) ≡ (unreported_of source_after).later
+          → errors_left (kept_with rules reported_source false place line) ≡ (unreported_of source_after).later
       unfolding errors_left
       errors_now turn reported = rw (is, (errors_last (Err (Error fault)) turn reported).0) refl
 
       less_now : Over (Err (Error fault)) → is_out_of_memory fault.0 ≡ false
-          → most_items (kept_with reported_source false place line) < most_items old
+          → most_items (kept_with rules reported_source false place line) < most_items old
       unfolding most_items
       less_now turn reported = rw is (less_last (Err (Error fault)) place line turn reported (λ e. cc))
 
       next_fault : Over (Err (Error fault)) → is_out_of_memory fault.0 ≡ false → place ≡ unwrap_or source_after.error_place fault.1
-          → IsNextItem old (Some (Err fault)) (kept_with reported_source false place line)
+          → IsNextItem old (Some (Err fault)) (kept_with rules reported_source false place line)
       unfolding is_spent call_line
       next_fault turn reported at =
-          as_next (Some (Err fault)) (kept_with reported_source false place line) (inr (record {
+          as_next (Some (Err fault)) (kept_with rules reported_source false place line) (inr (record {
             item = λ e stands.
                 let leads : LeadsFrom (answers_at expansion_limit) e (Err (Error fault)) (outermost_frame_line now.frames) after source_after =
                 (leads_last (Err (Error fault)) turn reported).from e (stands_first e stands) in
@@ -275,28 +279,29 @@ module _ (expander now after : kept.Expander) (source source_now source_after : 
             reports = error_reported source_after.error_place (unreported_of source_after).later (errors_last (Err (Error fault)) turn reported).1 at
                 (errors_now turn reported);
             spent = refl;
-          })) (less_now turn reported)
+          })) (less_now turn reported) ruled
 
       next_refusal : Over (Err (Error fault)) → IsNextItem old (Some (Err out_of_memory))
-          (kept_with reported_source true place line)
+          (kept_with rules reported_source true place line)
       unfolding is_spent most_items
       next_refusal turn =
           let left : SomethingLeft expander source = left_now (Err (Error fault)) turn (λ e. cc) in
-          as_next (Some (Err out_of_memory)) (kept_with reported_source true place line)
-          (inl (record { item = refl; spent = refl })) (omega (arith, left_is_work expansion_limit expander source left, most_first))
+          as_next (Some (Err out_of_memory)) (kept_with rules reported_source true place line)
+          (inl (record { item = refl; spent = refl })) (omega (arith, left_is_work expansion_limit expander source left, most_first)) ruled
 
       pub next_error : (want : Bool) → is_out_of_memory fault.0 ≡ want → Over (Err (Error fault))
           → place ≡ unwrap_or source_after.error_place (if want then out_of_memory else fault).1
           → IsNextItem old (Some (Err (if want then out_of_memory else fault)))
-          (kept_with reported_source want place line)
+          (kept_with rules reported_source want place line)
       next_error true e turn at = next_refusal turn
       next_error false e turn at = next_fault turn e at
 
 -- once memory was refused
 pub next_none : (old : Preprocessing) → old.spent ≡ true → IsNextItem old None old
-unfolding is_spent most_items
+unfolding is_spent most_items rules_of
 next_none old spent = record {
   gives = subst (λ (b : Bool). MatchBool b (◌≡◌ {A = Option Item} None None × (old ≡ old)) (IsRefusedItem None old ⊎ IsGivenItem old None old))
       (sym spent) (refl, refl);
   less_left = rw spent refl;
+  rules = refl;
 }

@@ -3,7 +3,7 @@ use Rattle.std.proofs.Common.{◌≡◌, ◌∙◌, ◌⊎◌, inl, inr, ◌<◌
 use Rattle.pp_lexer.specs.PreprocessorError.{out_of_memory}
 use Rattle.pp_lexer.specs.declared.token.Token.{Token}
 use Rattle.pp_macros.specs.Item.{Item}
-use Rattle.pp_rs.specs.Kept.{Preprocessing, is_spent, most_items, errors_left, error_place}
+use Rattle.pp_rs.specs.Kept.{Preprocessing, is_spent, most_items, errors_left, error_place, rules_of}
 use Rattle.pp_rs.specs.inner.NextWord.{IsPassed}
 use Rattle.pp_rs.specs.Preprocessing.{IsNextItem, IsRefusedItem, IsGivenItem, IsLessLeft, ReportsError, of_lexer, of_its_own}
 
@@ -30,6 +30,7 @@ passed_next old mid new answer fresh p next =
     record {
       gives = rw fresh (gives (rw (p.spent, fresh) at next.gives));
       less_left = less_over old mid new answer p.no_more_left next.less_left;
+      rules = next.rules ∙ p.rules;
     }
   where
     gives : IsRefusedItem answer new ⊎ IsGivenItem mid answer new → IsRefusedItem answer new ⊎ IsGivenItem old answer new
@@ -53,11 +54,12 @@ passed_next old mid new answer fresh p next =
 -- memory for a token that was to come runs out
 pub word_refused : (old mid new : Preprocessing) (token : Token) → is_spent old ≡ false → IsNextItem old (Some (Ok token)) mid → new ≡ record mid { spent = true }
     → IsNextItem old (Some (Err out_of_memory)) new
-unfolding is_spent most_items
+unfolding is_spent most_items rules_of
 word_refused old mid new token fresh next is =
     rw is (record {
       gives = rw fresh (inl (record { item = refl; spent = refl }));
       less_left = omega (arith, next.less_left);
+      rules = next.rules;
     })
 
 -- the item of a word that is next
@@ -83,13 +85,15 @@ passed_again old mid new p q = record {
   errors = q.errors ∙ p.errors;
   place = q.place ∙ p.place;
   no_more_left = omega (arith, p.no_more_left, q.no_more_left);
+  rules = q.rules ∙ p.rules;
 }
 
 -- memory runs out where something is left
-pub refused_next : (old new : Preprocessing) → is_spent old ≡ false → is_spent new ≡ true → 0 < most_items old
+pub refused_next : (old new : Preprocessing) → is_spent old ≡ false → is_spent new ≡ true → 0 < most_items old → rules_of new ≡ rules_of old
     → IsNextItem old (Some (Err out_of_memory)) new
 unfolding is_spent most_items
-refused_next old new fresh spent some = record {
+refused_next old new fresh spent some same = record {
   gives = rw fresh (inl (record { item = refl; spent = spent }));
   less_left = rw spent some;
+  rules = same;
 }

@@ -1,5 +1,6 @@
 -- Words of plain text that are given before memory is taken for them, and the newlines that are passed before them.
 use Rattle.std.proofs.Common.{◌≡◌, ◌∙◌, ℕ, Bool, true, false, refl, sym, ap, subst, IsTrue, Option, Some, None, Ok, Err, arith}
+use Rattle.pp_lexer.specs.declared.rules.Rules.{Rules}
 use Rattle.pp_lexer.specs.TokenValue.{is_ordinary}
 use Rattle.pp_lexer.specs.declared.token.Location.{Location}
 use Rattle.pp_lexer.specs.declared.token.Token.{Token}
@@ -12,7 +13,7 @@ use Rattle.pp_macros.specs.inner.Expander.{Expander}
 use Rattle.pp_macros.specs.inner.Source.{Source}
 use Rattle.pp_macros.specs.declared.step.StepExit.TheVariants.{Continue}
 use Rattle.pp_directives.specs.inner.PlainText.{IsStep}
-use Rattle.pp_rs.specs.Kept.{Preprocessing, Stands, IsAhead, is_spent, most_items, errors_left, error_place, kept_line}
+use Rattle.pp_rs.specs.Kept.{Preprocessing, Stands, IsAhead, is_spent, most_items, errors_left, error_place, kept_line, rules_of}
 use Rattle.pp_rs.specs.inner.NextWord.{IsPassed}
 use Rattle.pp_rs.specs.Preprocessing.{IsNextItem}
 use Rattle.pp_rs.specs.inner.Fit.{IsFit, IsReported}
@@ -73,12 +74,12 @@ module _ (p : Preprocessing) (now : Expander) (source_now : Source) (is : p.expa
   pub pass_fits : IsFit (passed now) source_now × IsReported (passed now) source_now
   pass_fits = token_fits p.expander now (passed now) p.source source_now source_now reached token over
 
-  pub ahead_passes : (spent : Bool) (place : Location) (line : Option ℕ) → spent ≡ false → place ≡ p.place
-      → IsNextItem p (Some (Ok token)) (record { expander = passed now; source = source_now; spent = spent; place = place; name_line = line })
+  pub ahead_passes : (spent : Bool) (place : Location) (line : Option ℕ) (rules : Rules) → spent ≡ false → place ≡ p.place → rules ≡ p.rules
+      → IsNextItem p (Some (Ok token)) (record { expander = passed now; source = source_now; spent = spent; place = place; name_line = line; rules = rules })
   unfolding IsAhead
-  ahead_passes spent place line fresh at =
-      next_token p.expander now (passed now) p.source source_now source_now reached p ahead.0 refl refl token spent place line fresh at
-      (free_line p.expander now (passed now) p.source source_now source_now reached p ahead.0 refl refl now.held line
+  ahead_passes spent place line rules fresh at ruled =
+      next_token p.expander now (passed now) p.source source_now source_now reached p ahead.0 refl refl rules ruled token spent place line fresh at
+      (free_line p.expander now (passed now) p.source source_now source_now reached p ahead.0 refl refl rules ruled now.held line
       (ap (λ (m : Expander). m.held) (sym is) ∙ ahead.3.free)) over ahead.3.holds
 
 -- nothing was passed
@@ -89,14 +90,15 @@ passed_nothing p = record {
   errors = refl;
   place = refl;
   no_more_left = omega arith;
+  rules = refl;
 }
 
 -- only pauses were
-pub passed_pauses : (old : Preprocessing) (now : Expander) (source_now : Source) (spent : Bool) (place : Location) (line : Option ℕ)
-    → Reached old.expander old.source now source_now → old.spent ≡ false → spent ≡ false → place ≡ old.place
-    → IsPassed old (record { expander = now; source = source_now; spent = spent; place = place; name_line = line })
-unfolding Stands is_spent errors_left error_place most_items
-passed_pauses old now source_now spent place line r fresh same at = record {
+pub passed_pauses : (old : Preprocessing) (now : Expander) (source_now : Source) (spent : Bool) (place : Location) (line : Option ℕ) (rules : Rules)
+    → Reached old.expander old.source now source_now → old.spent ≡ false → spent ≡ false → place ≡ old.place → rules ≡ old.rules
+    → IsPassed old (record { expander = now; source = source_now; spent = spent; place = place; name_line = line; rules = rules })
+unfolding Stands is_spent errors_left error_place most_items rules_of
+passed_pauses old now source_now spent place line rules r fresh same at ruled = record {
   item = λ state stands.
       let leads : LeadsFrom (answers_at expansion_limit) state (Err Continue) None now source_now = r.leads.from state stands in
       record {
@@ -109,4 +111,5 @@ passed_pauses old now source_now spent place line r fresh same at = record {
   errors = r.errors;
   place = at;
   no_more_left = rw (same, fresh) r.less;
+  rules = ruled;
 }

@@ -2,11 +2,12 @@
 use Rattle.std.proofs.Common.{◌≡◌, ◌∙◌, ◌<◌, ◌+◌, ℕ, length, take, drop, get_or, append_assoc, true, false, List, [], ◌∷◌, ◌++◌, map, refl, ap, sym, subst, Ok, Err, Some, None, inl, inr}
 use Rattle.std.specs.Str.{chars}
 use Rattle.std.proofs.lemmas.List.{take_more, take-append-drop, map-append}
+use Rattle.pp_lexer.specs.declared.rules.Rules.{Rules}
 use Rattle.pp_lexer.specs.PreprocessorError.{out_of_memory}
 use Rattle.pp_lexer.specs.declared.token.Token.{Token}
 use Rattle.pp_model.specs.Calls.{Fault}
 use Rattle.pp_model.specs.Run.{Call, call_of, add_define, next, with_added, ends_run}
-use Rattle.pp_model.specs.RunChains.{adds, refuses, gives, Chain, none, one_more}
+use Rattle.pp_model.specs.RunChains.{AnswersIn, adds, refuses, gives, Chain, none, one_more}
 use Rattle.pp_model.specs.declared.call.Call.{Call as Called}
 use Rattle.pp_model.specs.declared.call.Reply.{Reply}
 use Rattle.pp_model.specs.declared.call.Reply.TheVariants as reply
@@ -16,7 +17,7 @@ use Rattle.pp_rs.specs.Adding.{IsAdded, refused, faulty, added}
 use Rattle.pp_rs.specs.inner.Answering.{IsAnswered, AreReplies, goes_on, ends}
 use Rattle.pp_rs.specs.Comes.{State, Comes}
 use Rattle.pp_macros.specs.Item.{is_out_of_memory}
-use Rattle.pp_rs.specs.Kept.{Preprocessing, Stands, is_spent}
+use Rattle.pp_rs.specs.Kept.{Preprocessing, Stands, is_spent, rules_of}
 use Rattle.pp_rs.specs.Preprocessing.{IsNextItem}
 
 module _ (old new : Preprocessing) (ready : is_spent old ≡ false) where
@@ -25,7 +26,7 @@ module _ (old new : Preprocessing) (ready : is_spent old ≡ false) where
   added_answered name content (refused given same) = cc
   added_answered name content (faulty fault has given same) = cc
   added_answered name content (added tokens has given h) =
-      goes_on refl (h.spent ∙ ready) (λ state stands. let after = with_added (chars name) tokens state in
+      goes_on refl (h.spent ∙ ready) h.rules (λ state stands. let after = with_added (chars name) tokens state in
       (after, adds name content tokens _ _ state after has refl refl refl, h.stands state stands))
 
   -- one that was refused, for another reason than a refusal of memory
@@ -37,7 +38,7 @@ module _ (old new : Preprocessing) (ready : is_spent old ≡ false) where
       cc
   refused_answered name content fault reported (faulty other has given same) =
       let this : other ≡ fault = cc in
-      goes_on refl (ap is_spent same ∙ ready) (λ state stands. (
+      goes_on refl (ap is_spent same ∙ ready) (ap rules_of same) (λ state stands. (
         state,
         refuses name content fault _ _ state state (rw this at has) refl refl refl,
         subst (λ (p : Preprocessing). Stands p state) (sym same) stands,
@@ -48,14 +49,14 @@ module _ (old new : Preprocessing) (ready : is_spent old ≡ false) where
   pub token_answered : (token : Token) → IsNextItem old (Some (Ok token)) new → IsAnswered old next (reply.Given (outcome.Token token)) new
   token_answered token h = elim (rw ready at h.gives) [
     | inl wants ↦ let e = wants.item in cc
-    | inr given ↦ goes_on refl given.spent (λ state stands. let item = given.item state stands in
+    | inr given ↦ goes_on refl given.spent h.rules (λ state stands. let item = given.item state stands in
         (item.after, gives (outcome.Token token) _ _ state item.after item.emits refl refl refl, item.goes_on))
   ]
 
   pub end_answered : IsNextItem old None new → IsAnswered old next (reply.Given outcome.End) new
   end_answered h = elim (rw ready at h.gives) [
     | inl wants ↦ let e = wants.item in cc
-    | inr given ↦ goes_on refl given.spent (λ state stands. let item = given.item state stands in
+    | inr given ↦ goes_on refl given.spent h.rules (λ state stands. let item = given.item state stands in
         (item.after, gives outcome.End _ _ state item.after item.emits refl refl refl, item.goes_on))
   ]
 
@@ -86,12 +87,14 @@ calls_cut calls i other within =
 -- the calls that were answered, and the preprocessor after them
 pub record Replied (old : Preprocessing) (calls : List Call) (replies : List Reply) (now : Preprocessing) : Type 0 where
   pub unspent : is_spent now ≡ false
-  pub leads : (state : State) → Stands old state → (after : State) × Chain Comes state calls replies after × Stands now after
+  pub rules : rules_of now ≡ rules_of old
+  pub leads : (state : State) → Stands old state → (after : State) × Chain Comes (rules_of old) state calls replies after × Stands now after
 
 -- none before the first
 pub replied_none : (old : Preprocessing) (replies : List Reply) → is_spent old ≡ false → replies ≡ [] → Replied old [] replies old
 replied_none old replies unspent is = record {
   unspent = unspent;
+  rules = refl;
   leads = λ state stands. (state, none _ _ [] replies refl is refl, stands);
 }
 
@@ -100,27 +103,32 @@ module _ (old : Preprocessing) (before : List Call) (call : Call) (given : List 
   -- one more
   pub replied_more : (calls : List Call) (replies : List Reply) → IsAnswered now call answer new → ends_run answer ≡ false
       → calls ≡ before ++ call ∷ [] → replies ≡ given ++ answer ∷ [] → Replied old calls replies new
-  replied_more calls replies (goes_on last unspent leads) on cut is = record {
+  replied_more calls replies (goes_on last unspent same leads) on cut is = record {
     unspent = unspent;
+    rules = same ∙ r.rules;
     leads = λ state stands.
         let now = r.leads state stands in
-        let one = leads now.0 now.2 in
-        (one.0, one_more state now.0 one.0 before calls call given replies answer now.1 one.1 cut is, one.2);
+        let one = leads now.0 now.2 in (
+          one.0,
+          one_more state now.0 one.0 before calls call given replies answer now.1
+              (subst (λ (rules : Rules). AnswersIn Comes rules now.0 call answer one.0) r.rules one.1) cut is,
+          one.2,
+        );
   }
   replied_more calls replies (ends fault answers calls_next leads) on cut is = let bad : true ≡ false = sym (ap ends_run answers) ∙ on in cc
 
   -- an error item, whatever calls are left
   pub replied_last : (calls later : List Call) (replies : List Reply) → IsAnswered now call answer new → ends_run answer ≡ true
       → calls ≡ before ++ call ∷ later → replies ≡ given ++ answer ∷ [] → AreReplies old calls replies
-  replied_last calls later replies (goes_on last unspent leads) over cut is = let bad : false ≡ true = sym last ∙ over in cc
+  replied_last calls later replies (goes_on last unspent same leads) over cut is = let bad : false ≡ true = sym last ∙ over in cc
   replied_last calls later replies (ends fault answers calls_next leads) over cut is = λ state stands.
       let now = r.leads state stands in
       let one = leads now.0 now.2 in
-      rw (cut, is, answers, calls_next) (chain_runs_to_error Comes state now.0 one.0 before later given fault now.1 one.1)
+      rw (cut, is, answers, calls_next) (chain_runs_to_error Comes (rules_of old) state now.0 one.0 before later given fault now.1 one.1)
 
 -- all of them
 pub replied_all : (old : Preprocessing) (calls same : List Call) (replies : List Reply) (now : Preprocessing) → Replied old same replies now
     → calls ≡ same → AreReplies old calls replies
 replied_all old calls same replies now r e = λ state stands.
     let now = r.leads state stands in
-    rw e (chain_runs Comes state now.0 same replies now.1)
+    rw e (chain_runs Comes (rules_of old) state now.0 same replies now.1)

@@ -2,20 +2,21 @@
 use Rattle.std.proofs.Common.{◌≡◌, ℕ, List, [], None, false, refl, arith}
 use Rattle.std.specs.Prelude.{pos}
 use Rattle.pp_lexer.specs.Location.{nowhere}
-use Rattle.pp_lexer.specs.Items.{places_of}
+use Rattle.pp_lexer.specs.Items.{places_by}
 use Rattle.pp_lexer.specs.Spots.{spots_of}
-use Rattle.pp_model.specs.Run.{items_of, start}
+use Rattle.pp_lexer.specs.declared.rules.Rules.{Rules}
+use Rattle.pp_model.specs.Run.{items_by, start}
 use Rattle.pp_rs.specs.Kept.{Preprocessing, Stands, errors_left}
-use Rattle.pp_macros.specs.LexerErrors.{lexer_errors}
+use Rattle.pp_macros.specs.LexerErrors.{lexer_errors_by}
 use Rattle.pp_directives.proofs.LinedLemmas.{items_lined}
 
 -- what it keeps
-abbrev pub start_of : List ℕ → Preprocessing
-start_of text = record {
+abbrev pub start_by : Rules → List ℕ → Preprocessing
+start_by rules text = record {
   expander = record { held = None; frames = [] };
   source = record {
-    rest = items_of text;
-    places = places_of (spots_of text);
+    rest = items_by rules text;
+    places = places_by rules (spots_of text);
     error_place = None;
     definitions = [];
     blocks = [];
@@ -28,12 +29,13 @@ start_of text = record {
   spent = false;
   place = nowhere;
   name_line = None;
+  rules = rules;
 }
 
 -- it stands for the state in which a run of its items begins
-pub start_stands : (text : List ℕ) → Stands (start_of text) (start (items_of text))
+pub start_stands : (rules : Rules) (text : List ℕ) → Stands (start_by rules text) (start (items_by rules text))
 unfolding Stands
-start_stands text = record {
+start_stands rules text = record {
   held = refl;
   list = refl;
   reader = record {
@@ -41,7 +43,7 @@ start_stands text = record {
     within = omega arith;
     definitions = refl;
     line_offset = refl;
-    lined = items_lined text;
+    lined = items_lined rules text;
     lines = λ after. refl;
     blocks = tt;
     truths = tt;
@@ -57,6 +59,6 @@ start_stands text = record {
 }
 
 -- all errors of its text are still to be reported
-pub start_errors : (text : List ℕ) → errors_left (start_of text) ≡ lexer_errors text
+pub start_errors : (rules : Rules) (text : List ℕ) → errors_left (start_by rules text) ≡ lexer_errors_by rules text
 unfolding errors_left
-start_errors text = refl
+start_errors rules text = refl

@@ -15,6 +15,7 @@ use Rattle.pp_macros.specs.Item.{Item}
 use Rattle.pp_model.specs.CallLine.{item_line}
 use Rattle.pp_rs.specs.Comes.{State, Comes}
 use Rattle.pp_rs.specs.Kept.{Preprocessing, Stands, IsAhead, is_spent, most_items, errors_left, error_place, call_line}
+use Rattle.pp_rs.specs.Kept.{rules_of}
 use Rattle.pp_rs.specs.Preprocessing.{IsNextItem}
 use Rattle.pp_rs.specs.inner.Fit.{IsInLiveText}
 
@@ -34,6 +35,7 @@ pub record IsPassed (old new : Preprocessing) : Type 0 where
   pub errors : errors_left new ≡ errors_left old
   pub place : error_place new ≡ error_place old
   pub no_more_left : most_items new ≤ most_items old
+  pub rules : rules_of new ≡ rules_of old
 
 -- the word is no `#`, and is spelled in ASCII
 pub record IsPlain (word : PlainItem) : Type 0 where

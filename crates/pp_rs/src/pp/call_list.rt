@@ -1,12 +1,13 @@
 //! The replies to a list of calls.
 
 ghost use Rattle.std.specs.Prelude.{◌≡◌, ◌-◌, ◌^◌, ◌<◌, false, length, map, All, IfOk};
-ghost use Rattle.pp_model.specs.Run.{add_define, next, call_of, HasRoom, IsRun, ends_run};
+ghost use Rattle.pp_model.specs.Run.{add_define, next, call_of, HasRoom, IsRun, IsRunBy, ends_run};
 ghost use Rattle.pp_rs.specs.inner.Answering.{IsAnswered, AreReplies};
 ghost use Rattle.pp_macros.specs.Item.{is_out_of_memory};
 ghost use Rattle.pp_rs.specs.Kept.{is_spent};
 
 use crate::pp::preprocessor::Preprocessor;
+use crate::rules::Rules;
 use pp_macros::step::is_out_of_memory;
 use pp_model::call::{Call, Reply};
 use pp_model::outcome::{Fault, Outcome};
@@ -102,7 +103,22 @@ pub fn replies(alloc: Global, source: &str, calls: &[Call<'_>]) -> Result<Vec<Re
     requires contents { All HasRoom calls.now }
     ensures { IfOk result (λ replies. IsRun source.now (map call_of calls.now) replies.items) }
 {
-    let mut pp = Preprocessor::new(alloc, source);
+    replies_by(alloc, source, Rules::PP_RS, calls)
+}
+
+/// Does what `replies` does, by these rules: the source and each content are read by them. `replies` is this at
+/// [`Rules::PP_RS`].
+pub fn replies_by(
+    alloc: Global,
+    source: &str,
+    rules: Rules,
+    calls: &[Call<'_>],
+) -> Result<Vec<Reply>, AllocError>
+    requires size { length source.now < 2 ^ 32 - 1 }
+    requires contents { All HasRoom calls.now }
+    ensures { IfOk result (λ replies. IsRunBy rules source.now (map call_of calls.now) replies.items) }
+{
+    let mut pp = Preprocessor::with_rules(alloc, source, rules);
     let replies = replies_to(alloc, &mut pp, calls);
     drop(pp);
     replies

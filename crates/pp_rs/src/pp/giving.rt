@@ -2,7 +2,7 @@
 
 ghost use Rattle.std.specs.Prelude.{◌≡◌, ◌≤◌, true, false, OnOk, OnErr, IfOk};
 ghost use Rattle.pp_rs.specs.Giving.{GivesTokens};
-ghost use Rattle.pp_rs.specs.Kept.{is_spent, most_items};
+ghost use Rattle.pp_rs.specs.Kept.{is_spent, most_items, rules_of};
 ghost use Rattle.pp_rs.specs.inner.GivingOn.{KeepsGiving, IsRefused, IsRefusedAfter, HasLeft};
 
 use crate::pp::preprocessor::{Preprocessor, PreprocessorItem};
@@ -40,6 +40,7 @@ impl<'a> Preprocessor<'a> {
         requires unspent { is_spent self.old ≡ false }
         ensures gives { IfOk result (λ item. GivesTokens S.takes self.old sink.old item self.new sink.new) }
         ensures refused { OnErr result (IsRefusedAfter S.takes self.old sink.old) }
+        ensures rules { rules_of self.new ≡ rules_of self.old }
     {
         'items: loop {
             self.give_front(sink)?;
@@ -71,6 +72,7 @@ impl<'a> Preprocessor<'a> {
         ensures left { IfOk result (λ opened. HasLeft opened self.old self.new) }
         ensures giving { OnOk result (KeepsGiving S.takes self.old sink.old self.new sink.new) }
         ensures refused { OnErr result (IsRefused S.takes self.old sink.old) }
+        ensures rules { rules_of self.new ≡ rules_of self.old }
     {
         if !self.is_in_text() {
             return Ok(false);
@@ -89,6 +91,7 @@ impl<'a> Preprocessor<'a> {
         ensures left { OnOk result (most_items self.new ≤ most_items self.old) }
         ensures giving { OnOk result (KeepsGiving S.takes self.old sink.old self.new sink.new) }
         ensures refused { OnErr result (IsRefused S.takes self.old sink.old) }
+        ensures rules { rules_of self.new ≡ rules_of self.old }
     {
         'tokens: while self.advance()? {
             sink.take(self.front())?;

@@ -5,15 +5,17 @@ ghost use Rattle.std.specs.Prelude.{OnErr, IfOk, IfErr, ℕ, Option, None, Some,
 ghost use Rattle.pp_lexer.specs.declared.token.Token.{Token};
 ghost use Rattle.std.specs.Iterator.{at_most};
 ghost use Rattle.pp_lexer.specs.Location.{nowhere};
+ghost use Rattle.pp_lexer.specs.Rules.{pp_rs};
 ghost use Rattle.pp_lexer.specs.PreprocessorError.{out_of_memory};
 ghost use Rattle.pp_model.specs.Names.{Name};
-ghost use Rattle.pp_model.specs.Run.{items_of, start};
+ghost use Rattle.pp_model.specs.Run.{items_by, items_of, start};
 ghost use Rattle.pp_rs.specs.Adding.{IsAdded};
 ghost use Rattle.pp_rs.specs.inner.GivingOn.{IsFrontLine};
 ghost use Rattle.pp_rs.specs.TokenRefs.{token_of};
 ghost use Rattle.pp_macros.specs.Item.{is_out_of_memory};
 ghost use Rattle.pp_rs.specs.Kept.{Stands, IsAhead, is_spent, most_items, errors_left, error_place, call_line};
-ghost use Rattle.pp_macros.specs.LexerErrors.{lexer_errors};
+ghost use Rattle.pp_rs.specs.Kept.{rules_of};
+ghost use Rattle.pp_macros.specs.LexerErrors.{lexer_errors, lexer_errors_by};
 ghost use Rattle.pp_directives.specs.WordTokens.{word_token};
 ghost use Rattle.pp_directives.specs.inner.PlainText.{IsBare};
 ghost use Rattle.pp_rs.specs.inner.NextWord.{IsNextGiven, IsNextStep, IsNextWord, IsPassed, IsPlain, OpensNumbered};
@@ -23,6 +25,7 @@ ghost use Rattle.pp_rs.specs.Preprocessing.{IsNextItem};
 use crate::lexer::PlainItem;
 use crate::pp::source_turn::turn_source;
 use crate::pp::token_ref::TokenRef;
+use crate::rules::Rules;
 use crate::token::{Location, NOWHERE, PreprocessorError, Token, out_of_memory};
 use pp_directives::convert::word_token;
 use pp_directives::directives::DirectiveProcessor;
@@ -42,6 +45,7 @@ pub type PreprocessorItem = Result<Token, (PreprocessorError, Location)>;
 #[derive(Drop)]
 pub struct Preprocessor<'a> {
     alloc: Global,
+    rules: Rules,
     expander: MacroProcessor,
     source: DirectiveProcessor<'a>,
     spent: bool,
@@ -65,6 +69,7 @@ impl<'a> Model for Preprocessor<'a> {
       spent = p.spent;
       place = p.place;
       name_line = p.name_line;
+      rules = p.rules;
     } };
 
     ghost invariant = { λ p. (p.spent ≡ false → IsFit p.expander.here p.source × IsReported p.expander.here p.source)
@@ -134,11 +139,27 @@ impl<'a> Preprocessor<'a> {
         ensures errors { errors_left result ≡ lexer_errors input.now }
         ensures place { error_place result ≡ nowhere }
         ensures line { call_line result ≡ None }
+        ensures rules { rules_of result ≡ pp_rs }
+    {
+        Preprocessor::with_rules(alloc, input, Rules::PP_RS)
+    }
+
+    /// Returns a preprocessor that reads the source, and each content that is added, by these rules. `new` is this at
+    /// [`Rules::PP_RS`].
+    pub fn with_rules(alloc: Global, input: &'a str, rules: Rules) -> Preprocessor<'a>
+        requires { length input.now < 2 ^ 32 - 1 }
+        ensures unspent { is_spent result ≡ false }
+        ensures stands { Stands result (start (items_by rules input.now)) }
+        ensures errors { errors_left result ≡ lexer_errors_by rules input.now }
+        ensures place { error_place result ≡ nowhere }
+        ensures line { call_line result ≡ None }
+        ensures rules { rules_of result ≡ rules }
     {
         Preprocessor {
             alloc,
+            rules,
             expander: MacroProcessor::new(alloc),
-            source: DirectiveProcessor::new(alloc, input),
+            source: DirectiveProcessor::new(alloc, input, rules),
             spent: false,
             place: NOWHERE,
             name_line: None,
@@ -188,6 +209,7 @@ impl<'a> Preprocessor<'a> {
         ensures gives { IfOk result (λ word. IsNextWord self.old word self.new) }
         ensures spent { OnErr result (is_spent self.new ≡ true) }
         ensures some_left { OnErr result (0 < most_items self.old) }
+        ensures rules { rules_of self.new ≡ rules_of self.old }
     {
         'words: loop {
             match self.source.next_word() {
@@ -340,6 +362,7 @@ impl<'a> Preprocessor<'a> {
         ensures passed { OnOk result (IsPassed self.old self.new) }
         ensures ahead { IfOk result (λ found. found ≡ true → SomeAhead self.new) }
         ensures some_left { OnErr result (0 < most_items self.old) }
+        ensures rules { rules_of self.new ≡ rules_of self.old }
     {
         if self.spent || self.expander.is_idle() {
             return Ok(false);
@@ -433,7 +456,7 @@ impl<'a> Preprocessor<'a> {
         ensures { IsAdded self.old name.now content.now result self.new }
     {
         self.in_text = false;
-        match self.source.set_content(name, content) {
+        match self.source.set_content(name, content, self.rules) {
             Ok(()) => Ok(()),
             Err(Halt::Fault(fault)) => Err(fault),
             Err(Halt::OutOfMemory) => Err(out_of_memory()),

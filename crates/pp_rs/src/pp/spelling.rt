@@ -1,6 +1,7 @@
 //! The text of tokens.
 
-ghost use Rattle.std.specs.Prelude.{◌≡◌, ◌++◌, IsTrue, All, OnOk, OnErr, IfOk, MatchResult, string_bytes, is_ok, if◌then◌else◌};
+ghost use Rattle.std.specs.Prelude.{◌≡◌, ◌++◌, IsTrue, All, OnOk};
+ghost use Rattle.std.specs.Prelude.{OnErr, IfOk, MatchResult, string_bytes, is_ok, if◌then◌else◌};
 ghost use Rattle.std.specs.Fmt.{decimal};
 ghost use Rattle.std.specs.Io.{StartsWith};
 ghost use Rattle.std.specs.Str.{chars};

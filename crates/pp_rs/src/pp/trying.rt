@@ -3,13 +3,15 @@
 ghost use Rattle.std.specs.Prelude.{◌≡◌, ◌-◌, ◌^◌, ◌<◌, ◌↔◌, false, length, IsSome, IfSome, Some};
 ghost use Rattle.std.specs.IoError.{error_kind};
 ghost use Rattle.pp_lexer.specs.Location.{nowhere};
-ghost use Rattle.pp_model.specs.Run.{items_of, start};
-ghost use Rattle.pp_macros.specs.LexerErrors.{lexer_errors};
-ghost use Rattle.pp_rs.specs.Kept.{Stands, is_spent, errors_left, error_place, call_line};
+ghost use Rattle.pp_lexer.specs.Rules.{pp_rs};
+ghost use Rattle.pp_model.specs.Run.{items_by, items_of, start};
+ghost use Rattle.pp_macros.specs.LexerErrors.{lexer_errors, lexer_errors_by};
+ghost use Rattle.pp_rs.specs.Kept.{Stands, is_spent, errors_left, error_place, call_line, rules_of};
 ghost use Rattle.pp_rs.specs.Trying.{IsTried, add_sentence};
 
 use crate::SOURCE_LIMIT;
 use crate::pp::preprocessor::Preprocessor;
+use crate::rules::Rules;
 use crate::token::PlacedError;
 use std::alloc::Global;
 use std::error::Error;
@@ -61,11 +63,26 @@ impl<'a> Preprocessor<'a> {
         ensures errors { IfSome result (λ pp. errors_left pp ≡ lexer_errors input.now) }
         ensures place { IfSome result (λ pp. error_place pp ≡ nowhere) }
         ensures line { IfSome result (λ pp. call_line pp ≡ None) }
+        ensures rules { IfSome result (λ pp. rules_of pp ≡ pp_rs) }
+    {
+        Preprocessor::try_with_rules(alloc, input, Rules::PP_RS)
+    }
+
+    /// Does the same as `with_rules`, but returns `None` for a source of [`SOURCE_LIMIT`] bytes or
+    /// more.
+    pub fn try_with_rules(alloc: Global, input: &'a str, rules: Rules) -> Option<Preprocessor<'a>>
+        ensures short { IsSome result ↔ (length input.now < 2 ^ 32 - 1) }
+        ensures unspent { IfSome result (λ pp. is_spent pp ≡ false) }
+        ensures stands { IfSome result (λ pp. Stands pp (start (items_by rules input.now))) }
+        ensures errors { IfSome result (λ pp. errors_left pp ≡ lexer_errors_by rules input.now) }
+        ensures place { IfSome result (λ pp. error_place pp ≡ nowhere) }
+        ensures line { IfSome result (λ pp. call_line pp ≡ None) }
+        ensures rules { IfSome result (λ pp. rules_of pp ≡ rules) }
     {
         if input.len() >= SOURCE_LIMIT {
             return None;
         }
-        Some(Preprocessor::new(alloc, input))
+        Some(Preprocessor::with_rules(alloc, input, rules))
     }
 
     /// Does the same as `add_define`, but returns `TooLong` for a content of [`SOURCE_LIMIT`] bytes

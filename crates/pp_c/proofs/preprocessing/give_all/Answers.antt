@@ -1,7 +1,7 @@
-use Rattle.std.proofs.Common.{◌<◌, length, get_or, refl, arith}
+use Rattle.std.proofs.Common.{◌<◌, ◌∙◌, length, get_or, refl, arith}
 use Rattle.std.proofs.lemmas.List.{drop_more, take_all}
 use Rattle.std.proofs.lemmas.List.Elements.{All-more}
-use Rattle.pp_c.proofs.AllLemmas.{none_added, one_added, all_given}
+use Rattle.pp_c.proofs.AllLemmas.{none_added, same_rules, one_added, all_given}
 use Rattle.pp_c.proofs.RefusingLemmas.{err_result, refusal_of_all}
 use Rattle.pp_c.proofs.WrittenLemmas.{next_same, written_more, written_all}
 use Rattle.pp_c.specs.Calls.{answered, Fits, HasLongContent, LiesOutside}
@@ -23,10 +23,16 @@ zeros = record {
 
 pub loop-i-init : goal.loop-i-init
 loop-i-init c = record {
-  added = none_added c.args.pp.now c.args.output.now c.args.words.now c.args.definitions.now _ refl c.requires (record { items = omega arith; texts = omega arith });
+  added = none_added c.args.pp.now c.args.output.now c.args.words.now c.args.definitions.now _ refl c.requires.unspent (record { items = omega arith; texts = omega arith });
   fit = λ k d h. absurd (omega (arith, h));
   written = refl;
 }
+
+pub add-requires : goal.add-requires
+add-requires c =
+    same_rules c.args.pp.now c.args.output.now c.args.words.now c.args.definitions.now c.loop-i.i c.loop-i.progress c.give_until.new.progress
+    c.loop-i.pp c.give_until.new.pp c.loop-i.output c.give_until.new.output c.loop-i.invariant.added (c.in_ok-give_until.ensures {u = tt}).given
+    ∙ c.requires.rules
 
 pub loop-i-preserved : goal.loop-i-preserved
 loop-i-preserved c =

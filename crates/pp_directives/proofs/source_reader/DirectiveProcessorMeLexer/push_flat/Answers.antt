@@ -1,4 +1,4 @@
-use Rattle.std.proofs.Common.{◌∙◌, refl}
+use Rattle.std.proofs.Common.{refl}
 use Rattle.pp_macros.specs.inner.Reader.{IsReadOnto, of_source, none_read}
 use Rattle.pp_macros.proofs.taking.RunLemmas.{flat_more, read_falls}
 use Rattle.pp_directives.proofs.source_reader.DirectiveProcessorMeLexer.push_flat.Goals as goal
@@ -8,18 +8,18 @@ words-init c = record { flat = none_read _ _ refl refl; in_text = c.if-not-is_in
 
 pub words-preserved : goal.words-preserved
 words-preserved c =
+    let pushed = c.in_ok-is_parenthesis.ensures {u = tt} in
     let onto : IsReadOnto (of_source c.words.self) c.words.tokens.items (of_source c.push_word.new.self) c.push_word.new.tokens.items
-    = rw c.if-branch.true at c.in_ok-push_word.ensures.onto in
+    = rw c.in-Some.is at pushed.onto in
     record {
-      flat = flat_more _ _ _ _ _ _ _ c.words.invariant.flat onto (c.ends_at_parenthesis.ensures _ onto.read (c.deref.ensures.value ∙ onto.is))
-          c.if-ends_at_parenthesis.false;
-      in_text = c.in_ok-push_word.ensures.stays;
+      flat = flat_more _ _ _ _ _ _ _ c.words.invariant.flat onto (rw c.in-Some.is at (pushed.nests _ onto.read onto.is)) c.if-is_parenthesis.false;
+      in_text = pushed.stays;
     }
 
 pub words-smaller : goal.words-smaller
 words-smaller c =
     let onto : IsReadOnto (of_source c.words.self) c.words.tokens.items (of_source c.push_word.new.self) c.push_word.new.tokens.items
-    = rw c.if-branch.true at c.in_ok-push_word.ensures.onto in
+    = rw c.in-Some.is at (c.in_ok-is_parenthesis.ensures {u = tt}).onto in
     read_falls _ _ _ _ onto
 
 pub returns-then-not-is_in_text : goal.returns-then-not-is_in_text

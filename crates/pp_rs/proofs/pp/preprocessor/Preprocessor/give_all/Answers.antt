@@ -3,7 +3,7 @@ use Rattle.pp_rs.proofs.runs.GivingLemmas.{giving_ends, giving_passes, giving_re
 use Rattle.pp_rs.proofs.pp.preprocessor.Preprocessor.give_all.Goals as goal
 
 pub items-init : goal.items-init
-items-init g c = record { unspent = c.requires.unspent; giving = giving_starts _ _ _ }
+items-init g c = record { unspent = c.requires.unspent; rules = refl; giving = giving_starts _ _ _ }
 
 pub step-requires : goal.step-requires
 step-requires g c = (c.in_ok-give_words.ensures {u = tt}).spent
@@ -17,6 +17,7 @@ items-preserved-in-Continue-branch-3 g c =
     let next = rw (c.in-Some-Some-Ok.is, c.in-Some-Some-Ok.field-0-is, c.in-Some-Some-Ok.field-0-0-is) at c.step.ensures in
     record {
       unspent = token_unspent _ _ c.in-Some-Some-Ok.token words.spent next;
+      rules = next.rules ∙ c.give_words.ensures.rules ∙ c.give_front.ensures.rules ∙ c.items.invariant.rules;
       giving = giving_takes _ _ _ _ _ giving words.spent c.of_token.result _ _
           (rw c.of_token.ensures.token next) (rw c.of_token.ensures.line c.call_line.ensures) (c.in_ok-given-in-Some-Some-Ok.ensures {u = tt});
     }
@@ -29,6 +30,7 @@ items-preserved g c =
     let pause = rw c.in-None.is at c.step.ensures in
     record {
       unspent = pause.passed.spent ∙ words.spent;
+      rules = pause.passed.rules ∙ c.give_words.ensures.rules ∙ c.give_front.ensures.rules ∙ c.items.invariant.rules;
       giving = giving_passes _ _ _ _ _ (words.giving _ _ (front.giving _ _ c.items.invariant.giving)) _ pause.passed;
     }
 

@@ -1,10 +1,10 @@
-use Rattle.std.proofs.Common.{◌∙◌, arith}
+use Rattle.std.proofs.Common.{◌∙◌, refl, arith}
 use Rattle.pp_rs.specs.TokenRefs.{token_of}
 use Rattle.pp_rs.proofs.runs.GivingLemmas.{giving_passes, giving_refused, giving_takes, on_err, token_unspent}
 use Rattle.pp_rs.proofs.pp.preprocessor.Preprocessor.give_front.Goals as goal
 
 pub tokens-init : goal.tokens-init
-tokens-init g c = record { unspent = c.requires.unspent; left = omega arith; giving = λ start first p. p }
+tokens-init g c = record { unspent = c.requires.unspent; left = omega arith; rules = refl; giving = λ start first p. p }
 
 -- a token of an open macro
 pub tokens-preserved : goal.tokens-preserved
@@ -17,6 +17,7 @@ tokens-preserved g c =
     record {
       unspent = token_unspent _ _ (token_of token) fresh next;
       left = omega (arith, next.less_left, passed.no_more_left, before.left);
+      rules = next.rules ∙ passed.rules ∙ before.rules;
       giving = λ start first p.
           giving_takes _ start _ first _ (giving_passes _ start _ first _ (before.giving start first p) _ passed) fresh token _ _ next
           (c.pass.ensures.line _ c.front.ensures.line) (c.in_ok-take.ensures {u = tt});

@@ -1,5 +1,5 @@
 use Rattle.std.proofs.Common.{◌≡◌, ◌≤◌, false}
-use Rattle.pp_rs.specs.Kept.{is_spent, most_items}
+use Rattle.pp_rs.specs.Kept.{is_spent, most_items, rules_of}
 use Rattle.pp_rs.specs.inner.GivingOn.{KeepsGiving}
 use Rattle.pp_rs.proofs.pp.preprocessor.Preprocessor.give_front.Given as goal
 
@@ -7,6 +7,7 @@ abbrev pub invariant-tokens : goal.invariant-tokens
 invariant-tokens g l = record {
   unspent : is_spent l.self ≡ false;
   left : most_items l.self ≤ most_items l.fn.self;
+  rules : rules_of l.self ≡ rules_of l.fn.self;
   giving : KeepsGiving g.S.TokenSink.takes l.fn.self l.fn.sink l.self l.sink;
 }
 

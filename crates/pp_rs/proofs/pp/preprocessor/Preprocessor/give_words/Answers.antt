@@ -1,5 +1,5 @@
-use Rattle.std.proofs.Common.{◌≡◌, ◌∙◌, ◌<◌, ◌≤◌, Bool, true, false, refl, sym, arith}
-use Rattle.pp_rs.specs.Kept.{Preprocessing, is_spent, most_items}
+use Rattle.std.proofs.Common.{◌≡◌, ◌∙◌, ◌<◌, ◌≤◌, Bool, true, false, refl, sym, ap, arith}
+use Rattle.pp_rs.specs.Kept.{Preprocessing, is_spent, most_items, rules_of}
 use Rattle.pp_rs.specs.inner.GivingOn.{HasLeft}
 use Rattle.pp_rs.proofs.runs.GivingLemmas.{giving_passes, giving_refused, giving_word, on_err}
 use Rattle.pp_rs.proofs.pp.preprocessor.Preprocessor.give_words.Goals as goal
@@ -13,6 +13,7 @@ pub words-init : goal.words-init
 words-init g c = record {
   reads = c.is_in_text.ensures.reads c.if-not-is_in_text.false;
   left = rw c.is_in_text.ensures.same (omega arith);
+  rules = ap rules_of c.is_in_text.ensures.same;
   giving = rw c.is_in_text.ensures.same (λ start first p. p);
 }
 
@@ -27,6 +28,7 @@ words-preserved g c =
     record {
       reads = word.reads;
       left = omega (arith, word.next.less_left, before.left);
+      rules = word.next.rules ∙ before.rules;
       giving = λ start first p.
           giving_word _ start _ first _ (before.giving start first p) before.reads.unspent c.in-Some.word _ c.of_word.result _ word
           c.of_word.ensures.token c.of_word.ensures.line (c.in_ok-take.ensures {u = tt});

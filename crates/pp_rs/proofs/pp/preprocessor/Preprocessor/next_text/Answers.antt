@@ -42,7 +42,7 @@ unfolding is_spent
 returns-in-Err-clause-gives c =
     let fresh = rw c.is_in_text.ensures.same at (c.is_in_text.ensures.reads c.if-not-is_in_text.false).unspent in
     let refused = rw c.is_in_text.ensures.same at (c.in-Err.ensures {u = tt}) in
-    rw c.out_of_memory.ensures (refused_next c.args.self.now c.next_word.new.self fresh refused.spent refused.some_left)
+    rw c.out_of_memory.ensures (refused_next c.args.self.now c.next_word.new.self fresh refused.spent refused.some_left refused.rules)
 
 pub returns-in-Err-clause-spent : goal.returns-in-Err-clause-spent
 unfolding is_spent

@@ -3,7 +3,7 @@ use Rattle.std.specs.Prelude.{is_some}
 use Rattle.pp_macros.specs.inner.Idle.{is_idle}
 use Rattle.pp_directives.specs.WordTokens.{word_token}
 use Rattle.pp_directives.specs.inner.PlainText.{IsInText}
-use Rattle.pp_rs.specs.Kept.{Preprocessing, is_spent}
+use Rattle.pp_rs.specs.Kept.{Preprocessing, is_spent, rules_of}
 use Rattle.pp_rs.proofs.runs.CallLineLemmas.{line_outside}
 use Rattle.pp_rs.proofs.runs.NextLemmas.{reached_first, reached_more, falls_more, less_more, some_items, token_fits, next_token}
 use Rattle.pp_rs.proofs.runs.OpenWordLemmas.{bare_over, bare_would}
@@ -20,6 +20,7 @@ words-init c =
     record {
       unspent = fresh;
       placed = ap (λ (p : Preprocessing). p.place) c.self.view_is;
+      ruled = ap (λ (p : Preprocessing). p.rules) c.self.view_is;
       alone = c.self.invariant.1;
       idle = ap (λ (p : Preprocessing). is_idle p.expander) c.self.view_is ∙ c.requires.idle;
       text = subst (λ (p : Preprocessing). IsInText p.source) (sym c.self.view_is) c.requires.text;
@@ -38,6 +39,7 @@ words-preserved c =
     record {
       unspent = c.words.invariant.unspent;
       placed = c.words.invariant.placed;
+      ruled = c.words.invariant.ruled;
       alone = c.words.invariant.alone;
       idle = c.words.invariant.idle;
       text = c.pass_newline.ensures.stays;
@@ -64,7 +66,7 @@ pub returns-in-Some-default-None-clause-gives : goal.returns-in-Some-default-Non
 returns-in-Some-default-None-clause-gives c =
     let takes = rw c.in-Some-default-None.field-0-1-is at c.in-Some-default-None.ensures.gives in
     record {
-      next = next_token _ _ _ _ _ _ c.words.invariant.reached c.args.self.now c.requires.unspent refl refl (word_token c.in-Some-default-None.word)
+      next = next_token _ _ _ _ _ _ c.words.invariant.reached c.args.self.now c.requires.unspent refl refl _ c.words.invariant.ruled (word_token c.in-Some-default-None.word)
           c.words.self-inside.spent c.words.self-inside.place c.words.self-inside.name_line c.words.invariant.unspent c.words.invariant.placed
           (idle_line c.words.self-inside.expander.here _ _ c.words.invariant.idle)
           (word_over _ _ _ (word_token c.in-Some-default-None.word) c.words.invariant.idle takes.step takes.does) takes.holds;
@@ -96,9 +98,9 @@ returns-in-Ok-clause-gives c =
     let opens = rw c.definitions-definitions.ensures at c.in-Ok.ensures.opens in
     let turns = bare_over _ _ _ _ _ c.words.invariant.idle takes _ opens in
     record {
-      passed = passed_pauses c.args.self.now _ _ _ _ _ (reached_more _ _ _ _ _ _ c.words.invariant.reached turns) c.requires.unspent
-          c.words.invariant.unspent c.words.invariant.placed;
-      less_left = λ _. less_more _ _ _ _ _ _ c.words.invariant.reached c.args.self.now c.requires.unspent refl refl _ _ _ c.words.invariant.unspent turns;
+      passed = passed_pauses c.args.self.now _ _ _ _ _ _ (reached_more _ _ _ _ _ _ c.words.invariant.reached turns) c.requires.unspent
+          c.words.invariant.unspent c.words.invariant.placed c.words.invariant.ruled;
+      less_left = λ _. less_more _ _ _ _ _ _ c.words.invariant.reached c.args.self.now c.requires.unspent refl refl _ c.words.invariant.ruled _ _ _ c.words.invariant.unspent turns;
     }
 
 -- no memory to open it
@@ -112,13 +114,30 @@ returns-in-Err-clause-spent c = refl
 pub returns-in-Err-clause-some_left : goal.returns-in-Err-clause-some_left
 returns-in-Err-clause-some_left c =
     let takes = rw c.in-Some-default-Some.field-0-1-is at c.in-Some-default-Some.ensures.gives in
-    some_items _ _ _ _ _ _ c.words.invariant.reached c.args.self.now c.requires.unspent refl refl
+    some_items _ _ _ _ _ _ c.words.invariant.reached c.args.self.now c.requires.unspent refl refl _ c.words.invariant.ruled
     (bare_would _ _ _ _ _ c.words.invariant.idle takes).1
 
 -- nothing else is a word
 pub returns-then-not-pass_newline-clause-gives : goal.returns-then-not-pass_newline-clause-gives
 returns-then-not-pass_newline-clause-gives c =
     rw (c.if-not-pass_newline.ensures.pauses, c.in-None.ensures.gives) (record {
-      passed = passed_pauses c.args.self.now _ _ _ _ _ c.words.invariant.reached c.requires.unspent c.words.invariant.unspent c.words.invariant.placed;
+      passed = passed_pauses c.args.self.now _ _ _ _ _ _ c.words.invariant.reached c.requires.unspent c.words.invariant.unspent c.words.invariant.placed
+          c.words.invariant.ruled;
       less_left = λ some. none_open _ (line_outside _ c.words.invariant.idle) some;
     })
+
+pub returns-in-Some-default-None-clause-rules : goal.returns-in-Some-default-None-clause-rules
+unfolding rules_of
+returns-in-Some-default-None-clause-rules c = c.words.invariant.ruled
+
+pub returns-in-Ok-clause-rules : goal.returns-in-Ok-clause-rules
+unfolding rules_of
+returns-in-Ok-clause-rules c = c.words.invariant.ruled
+
+pub returns-in-Err-clause-rules : goal.returns-in-Err-clause-rules
+unfolding rules_of
+returns-in-Err-clause-rules c = c.words.invariant.ruled
+
+pub returns-then-not-pass_newline-clause-rules : goal.returns-then-not-pass_newline-clause-rules
+unfolding rules_of
+returns-then-not-pass_newline-clause-rules c = c.words.invariant.ruled

@@ -12,6 +12,7 @@ abbrev pub invariant-words : goal.invariant-words
 invariant-words l = record {
   unspent : l.self-inside.spent ≡ false;
   placed : l.self-inside.place ≡ l.fn.self.place;
+  ruled : l.self-inside.rules ≡ l.fn.self.rules;
   alone : l.self-inside.expander.below ≡ [];
   idle : is_idle l.self-inside.expander.here ≡ true;
   text : IsInText l.self-inside.source;

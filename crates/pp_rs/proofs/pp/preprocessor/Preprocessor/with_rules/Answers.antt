@@ -1,17 +1,17 @@
 use Rattle.std.proofs.Common.{refl}
-use Rattle.pp_rs.specs.Kept.{is_spent, error_place, call_line}
+use Rattle.pp_rs.specs.Kept.{is_spent, error_place, call_line, rules_of}
 use Rattle.pp_rs.proofs.runs.StartLemmas.{start_stands, start_errors}
-use Rattle.pp_rs.proofs.pp.preprocessor.Preprocessor.new.Goals as goal
+use Rattle.pp_rs.proofs.pp.preprocessor.Preprocessor.with_rules.Goals as goal
 
 pub returns-clause-unspent : goal.returns-clause-unspent
 unfolding is_spent
 returns-clause-unspent c = refl
 
 pub returns-clause-stands : goal.returns-clause-stands
-returns-clause-stands c = rw (c.new.ensures, c.new-2.ensures) (start_stands c.args.input.now)
+returns-clause-stands c = rw (c.new.ensures, c.new-2.ensures) (start_stands c.args.rules c.args.input.now)
 
 pub returns-clause-errors : goal.returns-clause-errors
-returns-clause-errors c = rw (c.new.ensures, c.new-2.ensures) (start_errors c.args.input.now)
+returns-clause-errors c = rw (c.new.ensures, c.new-2.ensures) (start_errors c.args.rules c.args.input.now)
 
 pub returns-clause-place : goal.returns-clause-place
 unfolding error_place
@@ -20,3 +20,7 @@ returns-clause-place c = refl
 pub returns-clause-line : goal.returns-clause-line
 unfolding call_line
 returns-clause-line c = rw c.new.ensures refl
+
+pub returns-clause-rules : goal.returns-clause-rules
+unfolding rules_of
+returns-clause-rules c = refl
