@@ -1,7 +1,7 @@
 //! The lexer at pp-rs's rules and at GLSL's.
 
 use pp_lexer::lexer::{Lexer, LexerItem, TokenValue};
-use pp_lexer::rules::Rules;
+use pp_lexer::rules::{Profile, Rules};
 use pp_lexer::token::PreprocessorError;
 use std::alloc::Global;
 use std::test::Fail;
@@ -67,7 +67,7 @@ fn is_hash(item: Option<LexerItem>) -> bool {
 fn glsl_takes_widths(rt: HostRuntime) {
     let alloc = rt.alloc();
     let text = "1.0LF 2.5lf 1.0hf 3.HF 1.0f 1.0l 1e3lf 0x1.5hf";
-    let mut items = Lexer::with_rules(alloc, text, Rules::GLSL);
+    let mut items = Lexer::with_rules(alloc, text, Rules::glsl(460, Profile::Core));
     assert!(rt; is_float(items.next(), "1.0", 64));
     assert!(rt; is_float(items.next(), "2.5", 64));
     assert!(rt; is_float(items.next(), "1.0", 16));
@@ -78,7 +78,7 @@ fn glsl_takes_widths(rt: HostRuntime) {
     assert!(rt; is_float(items.next(), "1e3", 64));
     assert!(rt; is_float(items.next(), "01.5", 16));
     let text = "7ul 7UL 8l 8L 3s 3S 4us 4US 0x1FUL 1uL 1Ul 5u 6 1lu 017s";
-    let mut items = Lexer::with_rules(alloc, text, Rules::GLSL);
+    let mut items = Lexer::with_rules(alloc, text, Rules::glsl(460, Profile::Core));
     assert!(rt; is_integer(items.next(), 7, false, 64));
     assert!(rt; is_integer(items.next(), 7, false, 64));
     assert!(rt; is_integer(items.next(), 8, true, 64));
@@ -117,7 +117,7 @@ fn pp_rs_refuses_widths(rt: HostRuntime) {
 #[test]
 fn a_bad_character_takes_itself_or_up_to_two_more(rt: HostRuntime) {
     let text = "a $\n#define";
-    let mut items = Lexer::with_rules(rt.alloc(), text, Rules::GLSL);
+    let mut items = Lexer::with_rules(rt.alloc(), text, Rules::glsl(460, Profile::Core));
     assert!(rt; is_name(items.next(), "a"));
     assert!(rt; is_error(items.next(), PreprocessorError::UnexpectedCharacter));
     assert!(rt; is_newline(items.next()));
@@ -135,7 +135,7 @@ fn widths_are_spelled(rt: HostRuntime) -> Result<(), Fail> {
     let alloc = rt.alloc();
     let text = "1.0LF 1.0hf 1.0f 7UL 8L 3S 4US 5U 6";
     let mut shown = String::new(alloc);
-    for item in Lexer::with_rules(alloc, text, Rules::GLSL) {
+    for item in Lexer::with_rules(alloc, text, Rules::glsl(460, Profile::Core)) {
         let Ok(token) = item else {
             continue;
         };
