@@ -19,6 +19,7 @@ pub mod ReadsLemmas
 pub mod RunLemmas
 pub mod RunStatesLemmas
 pub mod OpenOnceLemmas
+pub mod OwnNameLemmas
 pub mod MovesLemmas
 pub mod ActsLemmas
 pub mod SourceEndLemmas

@@ -7,6 +7,7 @@ use Rattle.pp_lexer.specs.Lexed.{Seen}
 use Rattle.pp_lexer.specs.declared.lexer.item.Token.{Token as LexerToken}
 use Rattle.pp_lexer.specs.declared.token.Location.{Location}
 use Rattle.pp_lexer.specs.declared.token.Token.{Token}
+use Rattle.pp_lexer.specs.declared.rules.Rules.{Rules}
 use Rattle.pp_model.specs.Names.{Name}
 use Rattle.pp_model.specs.Conversions.{is_newline, closes_parameters, parts_parameters, conversion, refused_token}
 use Rattle.pp_model.specs.Definitions.{Definition, object_like}
@@ -17,7 +18,7 @@ use Rattle.pp_model.specs.inner.Lines.{tokens_from, after_first_token}
 use Rattle.pp_model.specs.Run.{content_tokens}
 use Rattle.pp_model.specs.inner.Run.{content_from}
 use Rattle.pp_expression.specs.Answers.{◌>>=◌}
-use Rattle.pp_model.specs.DefineLines.{Parameters, new_parameter, after_parameter, after_comma, parameters, has_parameters, definition_at, defined_on}
+use Rattle.pp_model.specs.DefineLines.{Parameters, new_parameter, after_parameter, after_comma, parameters, has_parameters, definition_at, defined_on, free_name}
 use Rattle.pp_model.proofs.PartsLemmas.{line_tokens_is, content_tokens_is}
 use Rattle.pp_model.proofs.HoldingLemmas.{more_holds}
 
@@ -109,9 +110,11 @@ module _ (Q : Token → Type 0) where
       (if_ok_then (Each Q) HoldsInBody (line_tokens rest) (λ body. Ok (object_like body)) (line_tokens_hold rest all) (λ body g. g))
 
   -- so has the body that a `#define` line says
-  pub defined_holds : (word : Location) (rest : List Seen) → HoldInItems rest → IfOk (defined_on word rest) (λ named. Each Q named.definition.body)
-  defined_holds word rest all =
-      if_ok_then (λ first. ⊤) (λ named. Each Q named.definition.body) (first_name word rest) _ (any_ok (first_name word rest)) (λ first h.
+  pub defined_holds : (rules : Rules) (word : Location) (rest : List Seen) → HoldInItems rest
+      → IfOk (defined_on rules word rest) (λ named. Each Q named.definition.body)
+  defined_holds rules word rest all =
+      if_ok_then (λ first. ⊤) (λ named. Each Q named.definition.body) (first_name word rest >>= free_name rules) _
+      (any_ok (first_name word rest >>= free_name rules)) (λ first h.
       if_ok_then HoldsInBody (λ named. Each Q named.definition.body) (definition_at word (after_first_token rest))
       (λ definition. Ok (record { name = first.name; location = first.location; definition = definition }))
       (definition_holds word (after_first_token rest) (after_holds rest all)) (λ definition g. g))

@@ -10,7 +10,7 @@ use Rattle.pp_model.specs.Emitting.{with_macro, Emits}
 use Rattle.pp_model.specs.Emitting as emits
 use Rattle.pp_model.specs.SourceReader.{SourceReader}
 use Rattle.pp_model.specs.Reads.{source_reading}
-use Rattle.pp_model.specs.Run.{start}
+use Rattle.pp_model.specs.Run.{start_by}
 use Rattle.pp_model.specs.ApartMarks.{AreApart, IsRest}
 use Rattle.pp_model.specs.RunStates.{LeadsTo}
 use Rattle.pp_model.specs.OpenOnce.{Passes, here, taking, object, name_alone, call, IsOpenOnce, RunOpensOnce, ListOpensOnce}
@@ -98,7 +98,7 @@ module _ (A : Answers) where
       (λ o e f item. passes_once (source_reading A) A e f (item_passes (source_reading A) A o e f item))
 
   pub run_opens_once : RunOpensOnce A
-  run_opens_once source e f reached passes = passes_once (source_reading A) A e f passes (leading_once (start source) e reached tt)
+  run_opens_once rules source e f reached passes = passes_once (source_reading A) A e f passes (leading_once (start_by rules source) e reached tt)
 
 pub reading_opens_once : (I : Reading Listed) (A : Answers) → ListOpensOnce I A
 reading_opens_once I A tokens visible hidden f apart passes = passes_once I A _ f passes apart

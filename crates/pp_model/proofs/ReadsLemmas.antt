@@ -5,7 +5,7 @@ use Rattle.pp_model.specs.Definitions.{Definition}
 use Rattle.pp_model.specs.Calls.{Fault, Answers}
 use Rattle.pp_model.specs.SourceReader.{SourceReader}
 use Rattle.pp_model.specs.Acts.{Acted, act, decided}
-use Rattle.pp_model.specs.Reads.{Defines, Evaluated, Does, Steps, Reads, here, later, source_reading}
+use Rattle.pp_model.specs.Reads.{Defines, Evaluated, Does, Steps, Reads, here, later, source_reading, numbered_line}
 use Rattle.pp_model.specs.inner.Reads.{after_define}
 use Rattle.pp_model.specs.ExpansionLaws.{OneReads, OneAnswer}
 use Rattle.pp_model.specs.RunLaws.{OneStep}
@@ -44,7 +44,7 @@ module _ (A : Answers) (single : OneAnswer A) where
       one_evaluated a.0 b.0 (λ holds. decided r.position holds after) r x y s t
       (one_condition A single word tokens r.definitions a.0 b.0 a.1 b.1) a.2 b.2
   one_outcome (step.LineNumber word tokens) after r x y s t a b =
-      one_evaluated a.0 b.0 (λ n. record after { line_offset = pos n -ℤ pos word.line }) r x y s t
+      one_evaluated a.0 b.0 (λ n. record after { line_offset = pos n -ℤ pos (numbered_line r.rules word.line) }) r x y s t
       (one_line_number A single word tokens r.definitions a.0 b.0 a.1 b.1) a.2 b.2
 
   pub one_step : OneStep A
@@ -92,7 +92,7 @@ GivenBy _ o = (o ≡ None) ⊎ ((fault : Fault) × (o ≡ Some (outcome.Fault fa
 abbrev pub HoldsAfter : (SourceReader → Type 0) → SourceReader → Step → SourceReader → Type 0
 HoldsAfter P r (step.Defines named) after = P after × P (after_define named after)
 HoldsAfter P r (step.Condition word tokens) after = P r × ((holds : Bool) → P (decided r.position holds after))
-HoldsAfter P r (step.LineNumber word tokens) after = P r × ((n : ℕ) → P (record after { line_offset = pos n -ℤ pos word.line }))
+HoldsAfter P r (step.LineNumber word tokens) after = P r × ((n : ℕ) → P (record after { line_offset = pos n -ℤ pos (numbered_line r.rules word.line) }))
 HoldsAfter P r _ after = P after
 
 module _ (A : Answers) (r : SourceReader) (o : Option Outcome) (t : SourceReader) where
@@ -110,7 +110,7 @@ module _ (A : Answers) (r : SourceReader) (o : Option Outcome) (t : SourceReader
   given_by (step.Given x) after d = d.0
   given_by (step.Defines named) after d = define_gives named (r.definitions named.name) after d
   given_by (step.Condition word tokens) after d = line_gives d.0 (λ holds. decided r.position holds after) d.2
-  given_by (step.LineNumber word tokens) after d = line_gives d.0 (λ n. record after { line_offset = pos n -ℤ pos word.line }) d.2
+  given_by (step.LineNumber word tokens) after d = line_gives d.0 (λ n. record after { line_offset = pos n -ℤ pos (numbered_line r.rules word.line) }) d.2
 
   module _ (P : SourceReader → Type 0) where
     define_leaves : (named : Named) (old : Option Definition) (after : SourceReader) → HoldsAfter P r (step.Defines named) after
@@ -129,4 +129,4 @@ module _ (A : Answers) (r : SourceReader) (o : Option Outcome) (t : SourceReader
     holds_after (step.Defines named) after h d = define_leaves named (r.definitions named.name) after h d
     holds_after (step.Condition word tokens) after h d = line_leaves d.0 (λ holds. decided r.position holds after) h.0 h.1 d.2
     holds_after (step.LineNumber word tokens) after h d =
-        line_leaves d.0 (λ n. record after { line_offset = pos n -ℤ pos word.line }) h.0 h.1 d.2
+        line_leaves d.0 (λ n. record after { line_offset = pos n -ℤ pos (numbered_line r.rules word.line) }) h.0 h.1 d.2

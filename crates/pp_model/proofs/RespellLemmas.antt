@@ -31,7 +31,7 @@ use Rattle.pp_model.specs.LineValues.{as_line_number}
 use Rattle.pp_model.specs.Reading.{Expander}
 use Rattle.pp_model.specs.Reads.{source_reading}
 use Rattle.pp_model.specs.RespellLaws.{IsText, HasText, token_of, given_token, given_tokens, IsReadAfresh, RunsAreReadAfresh, calls_for, replies_with}
-use Rattle.pp_model.specs.Run.{by_rules, Call, add_define, next, items_by, content_tokens, start, with_added, Runs, done, added, refused, given, failed}
+use Rattle.pp_model.specs.Run.{by_rules, Call, add_define, next, items_by, content_tokens, start_by, with_added, Runs, done, added, refused, given, failed}
 use Rattle.pp_model.specs.RunStates.{gives_line_name}
 use Rattle.pp_model.specs.SourceReader.{SourceReader}
 use Rattle.pp_model.specs.declared.call.Reply.{Reply}
@@ -169,9 +169,9 @@ module _ (level : ℕ) (rules : Rules) where
   given_are_good e calls replies (failed fault e1 f more r1 item p) texts h = rw p tt
 
   run_is_good : (text : List ℕ) (calls : List Call) (replies : List Reply) → IsText text → All HasText calls
-      → Runs (by_rules (answers_at level)) rules (start (items_by rules text)) calls replies → Each (IsGood rules) (given_tokens replies)
+      → Runs (by_rules (answers_at level)) rules (start_by rules (items_by rules text)) calls replies → Each (IsGood rules) (given_tokens replies)
   run_is_good text calls replies t texts runs =
-      given_are_good (start (items_by rules text)) calls replies runs texts
+      given_are_good (start_by rules (items_by rules text)) calls replies runs texts
       (record { held = tt; list = tt; reader = (text_good text t, λ name definition defined. cc) })
 
   -- no `__LINE__` is among the tokens that are given
@@ -239,7 +239,7 @@ module _ (level : ℕ) (rules : Rules) where
         tokens = g.tokens;
         same = g.same;
         run = subst (λ (x : Expander SourceReader). Runs (by_rules (answers_at level)) rules x (calls_for g.tokens) (replies_with g.tokens))
-            (sym (starts_there items none)) g.run;
+            (sym (starts_there rules items none)) g.run;
       }
 
 -- The text that spells the plain tokens of a run gives their values again.

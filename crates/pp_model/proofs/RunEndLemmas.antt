@@ -5,7 +5,7 @@ use Rattle.pp_lexer.specs.declared.rules.Rules.{Rules}
 use Rattle.pp_model.specs.Calls.{Answers}
 use Rattle.pp_model.specs.Reading.{Expander}
 use Rattle.pp_model.specs.SourceReader.{SourceReader}
-use Rattle.pp_model.specs.Run.{by_rules, Call, start, with_added, Runs, done, added, refused, given, failed}
+use Rattle.pp_model.specs.Run.{by_rules, Call, start_by, with_added, Runs, done, added, refused, given, failed}
 use Rattle.pp_model.specs.RunStates.{LeadsTo, EndStays, gives_item, RunEndsForGood}
 use Rattle.pp_model.specs.declared.call.Reply.{Reply}
 use Rattle.pp_model.specs.declared.call.Reply.TheVariants as reply
@@ -57,8 +57,8 @@ module _ (A : Answers) where
   stays_over = each_state A IsOver over_with_added (λ o e f item over. (item_when_over A o e f item over).1)
 
   pub end_stays : EndStays A
-  end_stays source o e f g h reached end more item =
-      let last = leads_to_last_end (start source) e reached (holds_nothing (start source) refl) in
+  end_stays rules source o e f g h reached end more item =
+      let last = leads_to_last_end (start_by rules source) e reached (holds_nothing (start_by rules source) refl) in
       let over = (item_ends A taken.End e f end last).1 refl in
       (item_when_over A o g h item (stays_over f g more over)).0
 
@@ -92,4 +92,4 @@ module _ (A : Answers) where
 
   pub run_ends_for_good : RunEndsForGood A
   run_ends_for_good rules source calls former later run =
-      no_item_after rules (start source) calls _ former later run (holds_nothing (start source) refl) refl
+      no_item_after rules (start_by rules source) calls _ former later run (holds_nothing (start_by rules source) refl) refl

@@ -10,7 +10,7 @@ use Rattle.pp_model.specs.Emitting.{Emits, answers_at, expansion_limit}
 use Rattle.pp_model.specs.Reading.{Expander}
 use Rattle.pp_model.specs.Reads.{source_reading}
 use Rattle.pp_model.specs.SourceReader.{SourceReader}
-use Rattle.pp_model.specs.Run.{Comings, by_rules, Call, items_by, start, with_added, is_fault, Gives, Runs, done, added, refused, given, failed}
+use Rattle.pp_model.specs.Run.{Comings, by_rules, Call, items_by, start_by, with_added, is_fault, Gives, Runs, done, added, refused, given, failed}
 use Rattle.pp_model.specs.ExpansionLaws.{OneAnswer}
 use Rattle.pp_model.specs.RunLaws.{OneReplies, OneRun}
 use Rattle.pp_model.specs.RunStates.{LeadsTo, nowhere, adding, giving}
@@ -88,4 +88,4 @@ pub one_replies_at : (level : ℕ) → OneReplies (answers_at level)
 one_replies_at level = one_replies (answers_at level) (one_answer level)
 
 pub one_run : OneRun
-one_run rules text calls x y a b = one_replies_at expansion_limit rules (start (items_by rules text)) calls x y a b
+one_run rules text calls x y a b = one_replies_at expansion_limit rules (start_by rules (items_by rules text)) calls x y a b

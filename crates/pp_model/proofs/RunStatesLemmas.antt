@@ -2,7 +2,7 @@
 use Rattle.std.proofs.Common.{◌≡◌, ◌∙◌, false, refl, ap}
 use Rattle.pp_model.specs.Calls.{Answers}
 use Rattle.pp_model.specs.Reads.{source_reading}
-use Rattle.pp_model.specs.Run.{start}
+use Rattle.pp_model.specs.Run.{start_by}
 use Rattle.pp_model.specs.ApartMarks.{HasApartMarks}
 use Rattle.pp_model.specs.NoLineName.{is_line_name, HoldsNoLineName}
 use Rattle.pp_model.specs.RunStates.{RunKeepsMarksApart, gives_line_name, RunShowsNoLineName}
@@ -24,12 +24,12 @@ same_name _ = refl
 
 module _ (A : Answers) where
   pub run_keeps_marks_apart : RunKeepsMarksApart A
-  run_keeps_marks_apart source e reached =
-      each_state A (λ e. HasApartMarks e.list) (λ name tokens e apart. apart) (item_keeps_apart (source_reading A) A) (start source) e reached tt
+  run_keeps_marks_apart rules source e reached =
+      each_state A (λ e. HasApartMarks e.list) (λ name tokens e apart. apart) (item_keeps_apart (source_reading A) A) (start_by rules source) e reached tt
 
   pub run_shows_no_line_name : RunShowsNoLineName A
   run_shows_no_line_name rules source calls replies run =
       let items = item_shows_none (source_reading A) A in
       each_reply A HoldsNoLineName (λ name tokens e none. none) (λ o e f item none. (items o e f item none).1) IsNoLineName refl (λ fault. refl)
       (λ o e f item none. ap (λ x. is_line_name (taken_of x)) item.is ∙ same_name item.taken ∙ (items item.taken e f item.emits none).0)
-      rules (start source) calls replies run tt
+      rules (start_by rules source) calls replies run tt

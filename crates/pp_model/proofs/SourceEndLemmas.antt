@@ -59,7 +59,7 @@ reported_end None r h = refl
 -- and there nothing else is
 end_acts : (r : SourceReader) → IsAtEnd r → act r ≡ at_end r
 end_acts r end =
-    subst (λ z. perform (move_at (is_live r.items r.truths r.position) (facts_here r) z (items_left r)) r ≡ at_end r) (sym end.nothing_left)
+    subst (λ z. perform (move_at r.rules (is_live r.items r.truths r.position) (facts_here r) z (items_left r)) r ≡ at_end r) (sym end.nothing_left)
     (reported_end (reported_next r) r end.all_reported)
 
 -- only the end is the end

@@ -118,10 +118,10 @@ module _ (Q : Token → Type 0) (L : ℕ → Type 0) (closed : AreClosed Q L) wh
     left_hold : HoldInItems Q (items_left r)
     left_hold = drop_holds r.position r.items h.0
 
-    line_defines : (word : Location) (said : Named) → defined_on word (after_word r) ≡ Ok said → Each Q said.definition.body
+    line_defines : (word : Location) (said : Named) → defined_on r.rules word (after_word r) ≡ Ok said → Each Q said.definition.body
     line_defines word said e =
         subst (λ (line : Result Named Fault). IfOk line (λ named. Each Q named.definition.body)) e
-        (defined_holds Q word (after_word r) (drop_holds 2 (items_left r) left_hold))
+        (defined_holds Q r.rules word (after_word r) (drop_holds 2 (items_left r) left_hold))
 
     shown_holds : (token : Token) → StandsThere r token → Q token
     shown_holds token (inl there) = subst HoldsOfSight there (sight_holds (items_left r) left_hold)

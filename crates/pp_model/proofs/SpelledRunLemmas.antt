@@ -32,7 +32,7 @@ use Rattle.pp_model.specs.Taking.{line_number, Takes, read, shown_token, shown_o
 use Rattle.pp_model.specs.Calls.{Answers}
 use Rattle.pp_model.specs.Emitting.{Emits, itself}
 use Rattle.pp_model.specs.Reads.{Steps, Reads, here, later, source_reading, shown_line}
-use Rattle.pp_model.specs.Run.{by_rules, start, Runs, done, given}
+use Rattle.pp_model.specs.Run.{by_rules, start_by, Runs, done, given}
 use Rattle.pp_model.specs.RespellLaws.{calls_for, replies_with}
 use Rattle.pp_model.specs.declared.call.Reply.TheVariants as reply
 use Rattle.pp_model.specs.declared.outcome.Outcome.TheVariants as outcome
@@ -77,15 +77,15 @@ no_blocks : (items : List Seen) (position : ℕ) → Each IsNoHash items → blo
 no_blocks items position all = ap open_blocks (no_block_lines 0 (take position items) (front_holds position items all))
 
 -- the reader of such a text, and the expander over it
-abbrev reader_at : List Seen → ℕ → SourceReader
-reader_at items position = record { items = items; position = position; definitions = nothing_defined; line_offset = pos 0; truths = []; unfinished = 0 }
+abbrev reader_at : Rules → List Seen → ℕ → SourceReader
+reader_at rules items position = record { rules = rules; items = items; position = position; definitions = nothing_defined; line_offset = pos 0; truths = []; unfinished = 0 }
 
-abbrev state_at : List Seen → ℕ → Expander SourceReader
-state_at items position = record { held = None; list = []; reader = reader_at items position; hidden = [] }
+abbrev state_at : Rules → List Seen → ℕ → Expander SourceReader
+state_at rules items position = record { held = None; list = []; reader = reader_at rules items position; hidden = [] }
 
-pub starts_there : (items : List Seen) → Each IsNoHash items → start items ≡ state_at items 0
-starts_there items all =
-    ap (λ (n : ℕ). record { held = None; list = []; reader = record (reader_at items 0) { unfinished = n }; hidden = [] })
+pub starts_there : (rules : Rules) (items : List Seen) → Each IsNoHash items → start_by rules items ≡ state_at rules items 0
+starts_there rules items all =
+    ap (λ (n : ℕ). record { held = None; list = []; reader = record (reader_at rules items 0) { unfinished = n }; hidden = [] })
     (ap length (no_blocks items (length items) all))
 
 -- a value that can be spelled by these rules, and is not `__LINE__`
@@ -100,7 +100,7 @@ or_none false _ = refl
 
 module _ (A : Answers) (rules : Rules) (items : List Seen) (all : Each IsNoHash items) where
   opens_nothing : (position : ℕ) (value : TokenValue) (location : Location)
-      → opening (source_reading A) (state_at items position) (taken.Token (unpainted (record { value = value; location = location }))) ≡ None
+      → opening (source_reading A) (state_at rules items position) (taken.Token (unpainted (record { value = value; location = location }))) ≡ None
   opens_nothing position (Ident name) location = refl
   opens_nothing position _ location = refl
 
@@ -108,22 +108,22 @@ module _ (A : Answers) (rules : Rules) (items : List Seen) (all : Each IsNoHash 
   live_there position = ap (list_all (is_branch_live [])) (no_blocks items position all)
 
   act_there : (position : ℕ) (shown : Sight) → sight_of (drop position items) ≡ shown
-      → act (reader_at items position) ≡ perform (move_at true (facts_here (reader_at items position)) shown (drop position items)) (reader_at items position)
+      → act (reader_at rules items position) ≡ perform (move_at rules true (facts_here (reader_at rules items position)) shown (drop position items)) (reader_at rules items position)
   act_there position shown e =
-      let r = reader_at items position in
-      ap (λ live. perform (move_at live (facts_here r) (sight_of (drop position items)) (drop position items)) r) (live_there position)
-      ∙ ap (λ s. perform (move_at true (facts_here r) s (drop position items)) r) e
+      let r = reader_at rules items position in
+      ap (λ live. perform (move_at rules live (facts_here r) (sight_of (drop position items)) (drop position items)) r) (live_there position)
+      ∙ ap (λ s. perform (move_at rules true (facts_here r) s (drop position items)) r) e
 
   -- what comes first of this text is taken, unpainted, where no name is open
   painted_none : (x : Taken) → taken_among [] x ≡ x
   painted_none (taken.Token token) = ap (λ b. taken.Token (record token { painted = b })) (or_none token.painted token.token.value)
   painted_none _ = refl
 
-  taken_there : (position : ℕ) (x o : Taken) (after : ℕ) → Reads A (reader_at items position) x (reader_at items after)
-      → o ≡ shown_outcome (shown_line (reader_at items after)) x → Takes (source_reading A) (state_at items position) o (state_at items after)
+  taken_there : (position : ℕ) (x o : Taken) (after : ℕ) → Reads A (reader_at rules items position) x (reader_at rules items after)
+      → o ≡ shown_outcome (shown_line (reader_at rules items after)) x → Takes (source_reading A) (state_at rules items position) o (state_at rules items after)
   taken_there position x o after r is = record {
     first = o;
-    fetches = read x o (reader_at items after) (state_at items position) (state_at items after) refl refl r is refl;
+    fetches = read x o (reader_at rules items after) (state_at rules items position) (state_at rules items after) refl refl r is refl;
     paints = sym (painted_none o);
   }
 
@@ -137,58 +137,58 @@ module _ (A : Answers) (rules : Rules) (items : List Seen) (all : Each IsNoHash 
   -- a token gives itself
   gives_token : (position : ℕ) (value : TokenValue) (location : Location)
       → sight_of (drop position items) ≡ sight.Token (record { value = value; location = location }) → is_identifier line_name value ≡ false
-      → Emits (source_reading A) A (state_at items position) (taken.Token (unpainted (record { value = value; location = location })))
-      (state_at items (position + 1))
+      → Emits (source_reading A) A (state_at rules items position) (taken.Token (unpainted (record { value = value; location = location })))
+      (state_at rules items (position + 1))
   gives_token position value location e plain =
       let token : Token = record { value = value; location = location } in
       let a = act_there position (sight.Token token) e in
-      let r = reader_at items position in
-      let s : Steps A r (Some (outcome.Token token)) (reader_at items (position + 1)) =
-      act_does A (step.Given (outcome.Token token)) (reader_at items (position + 1)) r (Some (outcome.Token token)) (reader_at items (position + 1)) a
+      let r = reader_at rules items position in
+      let s : Steps A r (Some (outcome.Token token)) (reader_at rules items (position + 1)) =
+      act_does A (step.Given (outcome.Token token)) (reader_at rules items (position + 1)) r (Some (outcome.Token token)) (reader_at rules items (position + 1)) a
       (refl, refl) in
-      itself (taken.Token (unpainted token)) (state_at items position) (state_at items (position + 1))
+      itself (taken.Token (unpainted token)) (state_at rules items position) (state_at rules items (position + 1))
       (taken_there position (taken.Token (unpainted token)) (taken.Token (unpainted token)) (position + 1)
-      (here (outcome.Token token) (taken.Token (unpainted token)) r (reader_at items (position + 1)) s refl)
-      (taken_plain (shown_line (reader_at items (position + 1))) value location plain))
+      (here (outcome.Token token) (taken.Token (unpainted token)) r (reader_at rules items (position + 1)) s refl)
+      (taken_plain (shown_line (reader_at rules items (position + 1))) value location plain))
       (opens_nothing (position + 1) value location)
 
   ended_there : innermost (take 0 (blocks_at items (length items))) ≡ None
   ended_there = ap (λ (blocks : List Block). innermost (take 0 blocks)) (no_blocks items (length items) all)
 
-  reads_end : (position : ℕ) → drop position items ≡ [] → Reads A (reader_at items position) taken.End (reader_at items position)
+  reads_end : (position : ℕ) → drop position items ≡ [] → Reads A (reader_at rules items position) taken.End (reader_at rules items position)
   reads_end position e =
-      let r = reader_at items position in
+      let r = reader_at rules items position in
       let a : act r ≡ record { step = step.Given outcome.End; after = r } = act_there position sight.End (ap sight_of e)
       ∙ ap (λ block. end_by block r) ended_there in
       here outcome.End taken.End r r (act_does A (step.Given outcome.End) r r (Some outcome.End) r a (refl, refl)) refl
 
   -- after the last token a newline may stand
   reads_newline : (position : ℕ) → sight_of (drop position items) ≡ sight.NewLine → drop (position + 1) items ≡ []
-      → Reads A (reader_at items position) taken.End (reader_at items (position + 1))
+      → Reads A (reader_at rules items position) taken.End (reader_at rules items (position + 1))
   reads_newline position e last =
-      let r = reader_at items position in
+      let r = reader_at rules items position in
       let a = act_there position sight.NewLine e in
-      later taken.End r (reader_at items (position + 1)) (reader_at items (position + 1))
-      (act_does A step.Passed (reader_at items (position + 1)) r None (reader_at items (position + 1)) a (refl, refl)) (reads_end (position + 1) last)
+      later taken.End r (reader_at rules items (position + 1)) (reader_at rules items (position + 1))
+      (act_does A step.Passed (reader_at rules items (position + 1)) r None (reader_at rules items (position + 1)) a (refl, refl)) (reads_end (position + 1) last)
 
-  gives_end : (position after : ℕ) → Reads A (reader_at items position) taken.End (reader_at items after)
-      → Emits (source_reading A) A (state_at items position) taken.End (state_at items after)
-  gives_end position after r = itself taken.End (state_at items position) (state_at items after)
+  gives_end : (position after : ℕ) → Reads A (reader_at rules items position) taken.End (reader_at rules items after)
+      → Emits (source_reading A) A (state_at rules items position) taken.End (state_at rules items after)
+  gives_end position after r = itself taken.End (state_at rules items position) (state_at rules items after)
       (taken_there position taken.End taken.End after r refl) refl
 
   -- from a position on the run gives these values
   pub record GivesFrom (position : ℕ) (values : List TokenValue) : Type 0 where
     pub tokens : List Token
     pub same : values_of tokens ≡ values
-    pub run : Runs (by_rules A) rules (state_at items position) (calls_for tokens) (replies_with tokens)
+    pub run : Runs (by_rules A) rules (state_at rules items position) (calls_for tokens) (replies_with tokens)
 
-  ends_run : (position after : ℕ) → Reads A (reader_at items position) taken.End (reader_at items after) → GivesFrom position []
+  ends_run : (position after : ℕ) → Reads A (reader_at rules items position) taken.End (reader_at rules items after) → GivesFrom position []
   ends_run position after r = record {
     tokens = [];
     same = refl;
-    run = given outcome.End (state_at items position) (state_at items after) [] [] (reply.Given outcome.End ∷ [])
+    run = given outcome.End (state_at rules items position) (state_at rules items after) [] [] (reply.Given outcome.End ∷ [])
         (record { taken = taken.End; emits = gives_end position after r; is = refl }) refl
-        (done (state_at items after) [] refl) refl;
+        (done (state_at rules items after) [] refl) refl;
   }
 
   after_one : (position : ℕ) (s : Seen) (rest : List Seen) → drop position items ≡ s ∷ rest → drop (position + 1) items ≡ rest
@@ -240,7 +240,7 @@ module _ (A : Answers) (rules : Rules) (items : List Seen) (all : Each IsNoHash 
       record {
         tokens = token ∷ g.tokens;
         same = ap (λ later. value ∷ later) g.same;
-        run = given (outcome.Token token) (state_at items position) (state_at items (position + 1)) (calls_for g.tokens) (replies_with g.tokens)
+        run = given (outcome.Token token) (state_at rules items position) (state_at rules items (position + 1)) (calls_for g.tokens) (replies_with g.tokens)
             (replies_with (token ∷ g.tokens))
             (record { taken = taken.Token (unpainted token); emits = gives_token position value location e plain; is = refl }) refl g.run refl;
       }

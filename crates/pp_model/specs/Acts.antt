@@ -78,4 +78,4 @@ abbrev pub act : SourceReader → Acted
 act reader =
     let rest = drop reader.position reader.items in
     let live = is_live reader.items reader.truths reader.position in
-    perform (move_at live (facts_here reader) (sight_of rest) rest) reader
+    perform (move_at reader.rules live (facts_here reader) (sight_of rest) rest) reader

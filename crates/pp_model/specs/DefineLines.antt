@@ -1,17 +1,22 @@
 -- What a `#define` line says (GLSL ES 3.20, section 3.4, and docs/RULES.md, Directives 5). Faults come in the order of
 -- reading.
-use Rattle.std.specs.Prelude.{Bool, true, false, not, ◌&&◌, if◌then◌else◌, List, [], ◌∷◌, ◌++◌, drop, Result, Ok, Err}
+use Rattle.std.specs.Prelude.{Bool, true, false, not, ◌&&◌, ◌||◌, if◌then◌else◌, List, [], ◌∷◌, ◌++◌, take, drop}
+use Rattle.std.specs.Prelude.{Result, Ok, Err, codes}
+use Rattle.pp_lexer.specs.declared.rules.Rules.{Rules}
 use Rattle.pp_lexer.specs.Lexed.{Seen}
 use Rattle.pp_lexer.specs.Items.{Lexeme}
 use Rattle.pp_lexer.specs.declared.token.Location.{Location}
 use Rattle.pp_lexer.specs.declared.token.PreprocessorError.TheVariants.{UnexpectedEndOfInput, DuplicateParameter}
-use Rattle.pp_model.specs.Names.{Name, is_in}
+use Rattle.pp_lexer.specs.declared.token.PreprocessorError.TheVariants.{UnexpectedToken}
+use Rattle.pp_lexer.specs.declared.token.TokenValue.TheVariants.{Ident}
+use Rattle.pp_model.specs.Names.{Name, is_in, is_same_name}
 use Rattle.pp_model.specs.Definitions.{Definition, object_like}
 use Rattle.pp_model.specs.Calls.{Fault}
 use Rattle.pp_model.specs.Conversions.{opens_parameters, closes_parameters, parts_parameters, refused_token}
-use Rattle.pp_model.specs.Lines.{line_tokens, first_name, name_of}
+use Rattle.pp_model.specs.Lines.{line_tokens, first_name, name_of, ended_line}
 use Rattle.pp_expression.specs.Answers.{◌>>=◌}
 use Rattle.pp_model.specs.declared.definition.Named.{Named}
+use Rattle.pp_model.specs.declared.definition.Placed.{Placed}
 
 -- the parameters of a macro, and the items after their `)`
 pub record Parameters : Type 0 where
@@ -62,9 +67,27 @@ definition_at word rest =
     Ok (record { function_like = true; parameters = list.names; body = body }))
     else (line_tokens rest >>= λ body. Ok (object_like body))
 
+-- the names that the language defines itself, and those that begin as its own do
+abbrev pub own_names : List Name
+own_names = codes "defined" ∷ codes "__LINE__" ∷ codes "__FILE__" ∷ codes "__VERSION__" ∷ []
+
+abbrev pub is_own_name : Name → Bool
+is_own_name name = is_in name own_names || is_same_name (take 3 name) (codes "GL_")
+
+-- by GLSL's rules no `#define` and no `#undef` takes such a name
+abbrev pub free_name : Rules → Placed → Result Placed Fault
+free_name rules first =
+    if rules.keeps_own_names && is_own_name first.name then Err (UnexpectedToken (Ident first.name), first.location)
+    else Ok first
+
 -- what the line defines, or its first fault
-abbrev pub defined_on : Location → List Seen → Result Named Fault
-defined_on word rest =
-    first_name word rest >>= λ first.
+abbrev pub defined_on : Rules → Location → List Seen → Result Named Fault
+defined_on rules word rest =
+    (first_name word rest >>= free_name rules) >>= λ first.
     definition_at word (drop 1 rest) >>= λ definition.
     Ok (record { name = first.name; location = first.location; definition = definition })
+
+-- the name whose definition an `#undef` line takes away, or its first fault
+abbrev pub undefined_on : Rules → Location → List Seen → Result Name Fault
+undefined_on rules word rest =
+    (first_name word rest >>= free_name rules) >>= λ first. ended_line word (drop 1 rest) >>= λ end. Ok first.name

@@ -1,9 +1,10 @@
 -- The table of directives: what a token or a line at the front of the items that are left does, one equation a rule
 -- (GLSL ES 3.20, section 3.4, and docs/RULES.md, Directives 1 to 14). Acts says what each effect does to a reader.
 -- The lines of `#define`, `#if`, `#elif` and `#line` are gathered here and decided in Reads.
-use Rattle.std.specs.Prelude.{ℕ, ◌+◌, Bool, true, false, not, ◌||◌, if◌then◌else◌, List, drop, Option, Some, None}
-use Rattle.std.specs.Prelude.{Result, Ok, Err}
+use Rattle.std.specs.Prelude.{ℕ, ◌+◌, Bool, true, false, not, ◌&&◌, ◌||◌, if◌then◌else◌, List, ◌∷◌, drop, Option}
+use Rattle.std.specs.Prelude.{Some, None, Result, Ok, Err}
 use Rattle.std.specs.Option.{option_map_or}
+use Rattle.pp_lexer.specs.declared.rules.Rules.{Rules}
 use Rattle.pp_lexer.specs.Entry.{Entry}
 use Rattle.pp_lexer.specs.Lexed.{Seen}
 use Rattle.pp_lexer.specs.Preorder.{preorder}
@@ -18,7 +19,8 @@ use Rattle.pp_lexer.specs.declared.token.TokenValue.TheVariants.{Version, Extens
 use Rattle.pp_model.specs.Names.{Name}
 use Rattle.pp_model.specs.Calls.{Fault}
 use Rattle.pp_model.specs.Lines.{line_length, line_fault, line_tokens, comments_before_end, ended_line, only_name}
-use Rattle.pp_model.specs.DefineLines.{defined_on}
+use Rattle.pp_model.specs.DefineLines.{defined_on, undefined_on}
+use Rattle.pp_model.specs.Sights.{is_directive_hash}
 use Rattle.pp_model.specs.declared.definition.Named.{Named}
 use Rattle.pp_model.specs.declared.directive.Directive.{Directive}
 use Rattle.pp_model.specs.declared.directive.Directive.TheVariants as d
@@ -68,9 +70,11 @@ abbrev pub line_move : {A : Type 0} → Result A Fault → (A → Effect) → Li
 line_move (Ok value) effect after = record { effect = effect value; taken = line_length after }
 line_move (Err fault) effect after = failing fault
 
--- a line that is skipped, except for the lexer's errors
-abbrev pub skip_move : List Seen → Move
-skip_move line = option_map_or failing (line_fault line) (passing (line_length line))
+-- a line that is skipped, except for the lexer's errors; by GLSL's rules these are skipped too
+abbrev pub skip_move : Rules → List Seen → Move
+skip_move rules line =
+    if rules.passes_dead_errors then passing (line_length line)
+    else option_map_or failing (line_fault line) (passing (line_length line))
 
 -- an item that holds the tokens of its line
 abbrev pub item_move : (List Entry → Bool → Bool → TokenValue) → Location → List Seen → Move
@@ -87,11 +91,11 @@ abbrev pub pragma_item : List Entry → Bool → Bool → TokenValue
 pragma_item tokens has_text is_first = Pragma (record { tokens = tokens })
 
 -- an `#elif` of the innermost block; it is skipped if its branch can't be the first one that is taken
-abbrev pub elif_move : Option BlockFacts → Location → List Seen → Move
-elif_move None word after = failing (ElifOutsideOfBlock, word)
-elif_move (Some block) word after =
+abbrev pub elif_move : Rules → Option BlockFacts → Location → List Seen → Move
+elif_move rules None word after = failing (ElifOutsideOfBlock, word)
+elif_move rules (Some block) word after =
     if block.has_else then failing (ElifAfterElse, word)
-    else if not block.are_surroundings_live || block.has_taken_branch then skip_move after
+    else if not block.are_surroundings_live || block.has_taken_branch then skip_move rules after
     else line_move (line_tokens after) (decides word) after
 
 -- an `#else` of the innermost block, if its line ends as it must
@@ -103,42 +107,50 @@ abbrev pub else_move : Option BlockFacts → Location → List Seen → Move
 else_move block word after = line_move (ended_line word after) (λ end. else_effect block word) after
 
 -- an `#endif` of the innermost block; in dead surroundings its line is skipped
-abbrev pub endif_move : Option BlockFacts → Location → List Seen → Move
-endif_move None word after = failing (EndifOutsideOfBlock, word)
-endif_move (Some block) word after =
-    if block.are_surroundings_live then line_move (ended_line word after) (λ end. passes) after else skip_move after
+abbrev pub endif_move : Rules → Option BlockFacts → Location → List Seen → Move
+endif_move rules None word after = failing (EndifOutsideOfBlock, word)
+endif_move rules (Some block) word after =
+    if block.are_surroundings_live then line_move (ended_line word after) (λ end. passes) after
+    else skip_move rules after
 
 -- A directive in live or in dead text, if these items come after its word. The directives that part and close blocks
 -- act in dead text too.
-abbrev pub directive_move : Bool → Option BlockFacts → Directive → Location → List Seen → Move
-directive_move live block d.Elif word after = elif_move block word after
-directive_move live block d.Else word after = else_move block word after
-directive_move live block d.Endif word after = endif_move block word after
+abbrev pub directive_move : Rules → Bool → Option BlockFacts → Directive → Location → List Seen → Move
+directive_move rules live block d.Elif word after = elif_move rules block word after
+directive_move rules live block d.Else word after = else_move block word after
+directive_move rules live block d.Endif word after = endif_move rules block word after
 -- In live text each other directive acts.
-directive_move true block d.Define word after = line_move (defined_on word after) defines after
-directive_move true block d.Undef word after = line_move (only_name word after) undefines after
-directive_move true block d.If word after = line_move (line_tokens after) (decides word) after
-directive_move true block d.Ifdef word after = line_move (only_name word after) (tests (λ is. is)) after
-directive_move true block d.Ifndef word after = line_move (only_name word after) (tests not) after
-directive_move true block d.Error word after = failing (ErrorDirective, word)
-directive_move true block d.Line word after = line_move (line_tokens after) (renumbers word) after
-directive_move true block d.Version word after = item_move (version_item (comments_before_end after)) word after
-directive_move true block d.Extension word after = item_move extension_item word after
-directive_move true block d.Pragma word after = item_move pragma_item word after
-directive_move true block d.Unknown word after = failing (UnknownDirective, word)
+directive_move rules true block d.Define word after = line_move (defined_on rules word after) defines after
+directive_move rules true block d.Undef word after = line_move (undefined_on rules word after) undefines after
+directive_move rules true block d.If word after = line_move (line_tokens after) (decides word) after
+directive_move rules true block d.Ifdef word after = line_move (only_name word after) (tests (λ is. is)) after
+directive_move rules true block d.Ifndef word after = line_move (only_name word after) (tests not) after
+directive_move rules true block d.Error word after = failing (ErrorDirective, word)
+directive_move rules true block d.Line word after = line_move (line_tokens after) (renumbers word) after
+directive_move rules true block d.Version word after = item_move (version_item (comments_before_end after)) word after
+directive_move rules true block d.Extension word after = item_move extension_item word after
+directive_move rules true block d.Pragma word after = item_move pragma_item word after
+directive_move rules true block d.Unknown word after = failing (UnknownDirective, word)
 -- In dead text each other line is skipped, also one that opens a block; after an unknown word it is dead text.
-directive_move false block d.Unknown word after = passing 0
-directive_move false block _ word after = skip_move after
+directive_move rules false block d.Unknown word after = passing 0
+directive_move rules false block _ word after = skip_move rules after
+
+-- the items of an error in front, with the `#` of a directive before it
+abbrev pub error_length : List Seen → ℕ
+error_length (s ∷ t ∷ rest) = if is_directive_hash s.item then 2 else 1
+error_length rest = 1
 
 -- what is at the front of these items does this, in live or in dead text, if these are the facts of the innermost block
-abbrev pub move_at : Bool → Option BlockFacts → Sight → List Seen → Move
-move_at live block sight.End rest = record { effect = ends; taken = 0 }
-move_at live block sight.NewLine rest = passing 1
-move_at live block (sight.Fault fault) rest = failing fault
-move_at live block (sight.Token token) rest = if live then record { effect = gives token; taken = 1 } else passing 1
-move_at live block (sight.Hash location) rest = if live then failing (UnexpectedHash, location) else passing 1
-move_at live block sight.Lone rest = passing 2
-move_at live block (sight.NoWord fault) rest = if live then failing fault else passing 2
-move_at live block (sight.Directive directive word) rest =
-    let line = directive_move live block directive word (drop 2 rest) in
+abbrev pub move_at : Rules → Bool → Option BlockFacts → Sight → List Seen → Move
+move_at rules live block sight.End rest = record { effect = ends; taken = 0 }
+move_at rules live block sight.NewLine rest = passing 1
+move_at rules live block (sight.Fault fault) rest =
+    if not live && rules.passes_dead_errors then passing (error_length rest) else failing fault
+move_at rules live block (sight.Token token) rest =
+    if live then record { effect = gives token; taken = 1 } else passing 1
+move_at rules live block (sight.Hash location) rest = if live then failing (UnexpectedHash, location) else passing 1
+move_at rules live block sight.Lone rest = passing 2
+move_at rules live block (sight.NoWord fault) rest = if live then failing fault else passing 2
+move_at rules live block (sight.Directive directive word) rest =
+    let line = directive_move rules live block directive word (drop 2 rest) in
     record line { taken = 2 + line.taken }

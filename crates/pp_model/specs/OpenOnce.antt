@@ -2,6 +2,7 @@
 -- argument of a call, and of the line of an `#if`, `#elif` or `#line` (docs/RULES.md, Expansion 2 to 8).
 use Rattle.std.specs.Prelude.{◌≡◌, ℕ, true, false, List, [], Some}
 use Rattle.pp_lexer.specs.Lexed.{Seen}
+use Rattle.pp_lexer.specs.declared.rules.Rules.{Rules}
 use Rattle.pp_model.specs.Names.{Name}
 use Rattle.pp_model.specs.Definitions.{Definitions}
 use Rattle.pp_model.specs.Reading.{Reading, Expander, Listed, Opening, opening, masked_names, reading_of}
@@ -47,7 +48,7 @@ IsOpenOnce e = AreApart (masked_names e)
 
 -- In no state that a run passes is a macro open twice.
 abbrev pub RunOpensOnce : Answers → Type 0
-RunOpensOnce A = (source : List Seen) (e f : Expander SourceReader) → IsReached A source e
+RunOpensOnce A = (rules : Rules) (source : List Seen) (e f : Expander SourceReader) → IsReached A rules source e
     → Passes (source_reading A) A e f → IsOpenOnce f
 
 -- The same of each state that the reading of a list of tokens alone passes, if no name is open twice around it.

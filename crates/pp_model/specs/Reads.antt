@@ -1,6 +1,8 @@
 -- Reading a source: what comes next, once directives have acted (GLSL ES 3.20, section 3.4,
 -- and docs/RULES.md, Directives).
-use Rattle.std.specs.Prelude.{◌≡◌, ◌⊎◌, ℕ, pos, ◌+ℤ◌, ◌-ℤ◌, Bool, false, Option, Some, None, Result, Ok, Err}
+use Rattle.std.specs.Prelude.{◌≡◌, ◌⊎◌, ℕ, ◌+◌, pos, ◌+ℤ◌, ◌-ℤ◌, Bool, false, if◌then◌else◌, Option, Some, None}
+use Rattle.std.specs.Prelude.{Result, Ok, Err}
+use Rattle.pp_lexer.specs.declared.rules.Rules.{Rules}
 use Rattle.pp_lexer.specs.declared.token.PreprocessorError.TheVariants.{DefineRedefined}
 use Rattle.pp_model.specs.Definitions.{Definition, with_change, IsSameDefinition}
 use Rattle.pp_model.specs.Painting.{taken_of}
@@ -15,6 +17,10 @@ use Rattle.pp_model.specs.declared.outcome.Outcome.TheVariants as outcome
 use Rattle.pp_model.specs.declared.read.Taken.{Taken}
 use Rattle.pp_model.specs.declared.step.Step.{Step}
 use Rattle.pp_model.specs.declared.step.Step.TheVariants as step
+
+-- the line to which a `#line` gives its number: its own, or by GLSL's rules the one after it
+abbrev pub numbered_line : Rules → ℕ → ℕ
+numbered_line rules line = if rules.numbers_next_line then line + 1 else line
 
 -- the line number that `__LINE__` shows for a line
 abbrev pub shown_line : SourceReader → ℕ → Option ℕ
@@ -48,7 +54,7 @@ Does A r (step.Condition word tokens) after o t =
     × Evaluated condition (λ holds. decided r.position holds after) r o t
 Does A r (step.LineNumber word tokens) after o t =
     (number : Result ℕ Fault) × IsLineNumber A word tokens r.definitions number
-    × Evaluated number (λ n. record after { line_offset = pos n -ℤ pos word.line }) r o t
+    × Evaluated number (λ n. record after { line_offset = pos n -ℤ pos (numbered_line r.rules word.line) }) r o t
 
 -- One token or line of the source: it gives something, or nothing.
 abbrev pub Steps : Answers → SourceReader → Option Outcome → SourceReader → Type 0

@@ -8,7 +8,7 @@ use Rattle.pp_lexer.specs.declared.token.Token.{Token}
 use Rattle.pp_lexer.specs.declared.token.TokenValue.{TokenValue}
 use Rattle.pp_lexer.specs.declared.rules.Rules.{Rules}
 use Rattle.pp_model.specs.Calls.{Answers}
-use Rattle.pp_model.specs.Run.{by_rules, Call, add_define, next, items_by, start, Runs}
+use Rattle.pp_model.specs.Run.{by_rules, Call, add_define, next, items_by, start_by, Runs}
 use Rattle.pp_model.specs.declared.call.Reply.{Reply}
 use Rattle.pp_model.specs.declared.call.Reply.TheVariants as reply
 use Rattle.pp_model.specs.declared.outcome.Outcome.{Outcome}
@@ -50,7 +50,7 @@ replies_with (token ∷ tokens) = reply.Given (outcome.Token token) ∷ replies_
 pub record GivesValues (A : Answers) (rules : Rules) (text : List ℕ) (values : List TokenValue) : Type 0 where
   pub tokens : List Token
   pub same : values_of tokens ≡ values
-  pub run : Runs (by_rules A) rules (start (items_by rules text)) (calls_for tokens) (replies_with tokens)
+  pub run : Runs (by_rules A) rules (start_by rules (items_by rules text)) (calls_for tokens) (replies_with tokens)
 
 -- The text that spells these values gives these values, and no other, and no error.
 abbrev pub IsReadAfresh : Answers → Rules → List TokenValue → Type 0
@@ -62,6 +62,6 @@ RunsAreReadAfresh A =
     (rules : Rules) (text : List ℕ) (calls : List Call) (replies : List Reply)
     → IsText text
     → All HasText calls
-    → Runs (by_rules A) rules (start (items_by rules text)) calls replies
+    → Runs (by_rules A) rules (start_by rules (items_by rules text)) calls replies
     → All (λ token. is_ordinary token.value ≡ true) (given_tokens replies)
     → IsReadAfresh A rules (values_of (given_tokens replies))

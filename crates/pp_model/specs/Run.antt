@@ -57,9 +57,13 @@ content_tokens (s ∷ rest) =
     if ends_line s.item then content_tokens rest
     else (s.item >>= λ token. conversion token >>= λ first. first_before first (content_tokens rest))
 
--- an expander over the start of a source
+-- an expander over the start of a source that is read by these rules
+abbrev pub start_by : Rules → List Seen → Expander SourceReader
+start_by rules source = record { held = None; list = []; reader = reader_at_start rules source; hidden = [] }
+
+-- the same by pp-rs's rules
 abbrev pub start : List Seen → Expander SourceReader
-start source = record { held = None; list = []; reader = reader_at_start source; hidden = [] }
+start source = start_by pp_rs source
 
 -- the name is the object-like macro with these tokens as its body from now on
 abbrev pub with_added : Name → List Token → Expander SourceReader → Expander SourceReader
@@ -121,7 +125,7 @@ pub data Runs (C : Comings) (rules : Rules) : Expander SourceReader → List Cal
 -- the run of a source by these rules: arguments may be expanded inside one another up to the limit
 abbrev pub IsRunBy : Rules → List ℕ → List Call → List Reply → Type 0
 IsRunBy rules text calls replies =
-    Runs (by_rules (answers_at expansion_limit)) rules (start (items_by rules text)) calls replies
+    Runs (by_rules (answers_at expansion_limit)) rules (start_by rules (items_by rules text)) calls replies
 
 -- the same by pp-rs's rules
 abbrev pub IsRun : List ℕ → List Call → List Reply → Type 0

@@ -10,7 +10,7 @@ use Rattle.pp_model.specs.Emitting.{Emits}
 use Rattle.pp_model.specs.SourceReader.{SourceReader}
 use Rattle.pp_model.specs.Reads.{source_reading}
 use Rattle.pp_model.specs.Run.{Comings, by_rules, Call, add_define, next, items_by, content_tokens, with_added}
-use Rattle.pp_model.specs.Run.{is_fault, start, Runs}
+use Rattle.pp_model.specs.Run.{is_fault, start_by, Runs}
 use Rattle.pp_model.specs.declared.call.Reply.{Reply}
 use Rattle.pp_model.specs.declared.call.Reply.TheVariants as reply
 use Rattle.pp_model.specs.declared.outcome.Outcome.{Outcome}
@@ -60,11 +60,11 @@ pub data Chain (C : Comings) (rules : Rules)
 pub record ChainsAreRuns (A : Answers) : Type 0 where
   pub whole : (rules : Rules) (source : List Seen) (calls : List Call) (replies : List Reply)
       (f : Expander SourceReader)
-      → Chain (by_rules A) rules (start source) calls replies f
-      → Runs (by_rules A) rules (start source) calls replies
+      → Chain (by_rules A) rules (start_by rules source) calls replies f
+      → Runs (by_rules A) rules (start_by rules source) calls replies
   pub to_error : (rules : Rules) (source : List Seen) (calls : List Call) (replies : List Reply)
       (f g : Expander SourceReader) (fault : Fault)
-      → Chain (by_rules A) rules (start source) calls replies f
+      → Chain (by_rules A) rules (start_by rules source) calls replies f
       → Emits (source_reading A) A f (taken.Fault fault) g
-      → Runs (by_rules A) rules (start source) (calls ++ next ∷ [])
+      → Runs (by_rules A) rules (start_by rules source) (calls ++ next ∷ [])
       (replies ++ reply.Given (outcome.Fault fault) ∷ [])

@@ -11,7 +11,7 @@ use Rattle.pp_model.specs.Calls.{Answers}
 use Rattle.pp_model.specs.Emitting.{Emits}
 use Rattle.pp_model.specs.SourceReader.{SourceReader}
 use Rattle.pp_model.specs.Reads.{source_reading}
-use Rattle.pp_model.specs.Run.{by_rules, Call, start, with_added, Runs}
+use Rattle.pp_model.specs.Run.{by_rules, Call, start_by, with_added, Runs}
 use Rattle.pp_model.specs.ApartMarks.{HasApartMarks}
 use Rattle.pp_model.specs.NoLineName.{is_line_name}
 use Rattle.pp_model.specs.declared.call.Reply.{Reply}
@@ -32,13 +32,14 @@ pub data LeadsTo (A : Answers) : Expander SourceReader → Expander SourceReader
       → LeadsTo A f g
       → LeadsTo A e g
 
--- a state of a run of the source
-abbrev pub IsReached : Answers → List Seen → Expander SourceReader → Type 0
-IsReached A source e = LeadsTo A (start source) e
+-- a state of a run of the source by these rules
+abbrev pub IsReached : Answers → Rules → List Seen → Expander SourceReader → Type 0
+IsReached A rules source e = LeadsTo A (start_by rules source) e
 
 -- No macro is open twice: in no state of a run does the list hold two end marks of one name.
 abbrev pub RunKeepsMarksApart : Answers → Type 0
-RunKeepsMarksApart A = (source : List Seen) (e : Expander SourceReader) → IsReached A source e → HasApartMarks e.list
+RunKeepsMarksApart A =
+    (rules : Rules) (source : List Seen) (e : Expander SourceReader) → IsReached A rules source e → HasApartMarks e.list
 
 -- whether the reply is the identifier `__LINE__`
 abbrev pub gives_line_name : Reply → Bool
@@ -50,14 +51,14 @@ gives_line_name reply.Added = false
 abbrev pub RunShowsNoLineName : Answers → Type 0
 RunShowsNoLineName A =
     (rules : Rules) (source : List Seen) (calls : List Call) (replies : List Reply)
-    → Runs (by_rules A) rules (start source) calls replies
+    → Runs (by_rules A) rules (start_by rules source) calls replies
     → All (λ given. gives_line_name given ≡ false) replies
 
 -- After the end was given, nothing but the end is given, whatever is added.
 abbrev pub EndStays : Answers → Type 0
 EndStays A =
-    (source : List Seen) (x : Taken) (e f g h : Expander SourceReader)
-    → IsReached A source e
+    (rules : Rules) (source : List Seen) (x : Taken) (e f g h : Expander SourceReader)
+    → IsReached A rules source e
     → Emits (source_reading A) A e taken.End f
     → LeadsTo A f g
     → Emits (source_reading A) A g x h
@@ -75,5 +76,5 @@ gives_item reply.Added = false
 abbrev pub RunEndsForGood : Answers → Type 0
 RunEndsForGood A =
     (rules : Rules) (source : List Seen) (calls : List Call) (former later : List Reply)
-    → Runs (by_rules A) rules (start source) calls (former ++ (reply.Given outcome.End ∷ later))
+    → Runs (by_rules A) rules (start_by rules source) calls (former ++ (reply.Given outcome.End ∷ later))
     → All (λ given. gives_item given ≡ false) later

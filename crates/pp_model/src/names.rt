@@ -1,8 +1,9 @@
 //! Tests of names.
 
-ghost use Rattle.std.specs.Prelude.{◌≡◌};
+ghost use Rattle.std.specs.Prelude.{◌≡◌, take, codes};
 ghost use Rattle.std.specs.Str.{chars};
-ghost use Rattle.pp_model.specs.Names.{is_same_name, is_identifier, line_name, defined_name};
+ghost use Rattle.pp_model.specs.Names.{is_in, is_same_name, is_identifier, line_name, defined_name};
+ghost use Rattle.pp_model.specs.DefineLines.{own_names, is_own_name};
 
 use pp_lexer::token::{Text, TokenValue};
 
@@ -29,4 +30,29 @@ pub fn is_defined_name(name: &Text) -> bool
     ensures { result ≡ is_same_name name.now defined_name }
 {
     is_spelled(name, "defined")
+}
+
+// Whether the name begins as the language's own do.
+fn begins_as_own(name: &Text) -> bool
+    ensures { result ≡ is_same_name (take 3 name.now) (codes "GL_") }
+{
+    name.as_str().starts_with("GL_")
+}
+
+// Whether the language defines the name itself.
+#[tactic(auto, using(crate::proofs::OwnNameLemmas::in_own_names))]
+fn is_predefined(name: &Text) -> bool
+    ensures { result ≡ is_in name.now own_names }
+{
+    is_spelled(name, "defined")
+        || is_spelled(name, "__LINE__")
+        || is_spelled(name, "__FILE__")
+        || is_spelled(name, "__VERSION__")
+}
+
+/// Returns whether the language keeps the name for itself.
+pub fn is_own_name(name: &Text) -> bool
+    ensures { result ≡ is_own_name name.now }
+{
+    is_predefined(name) || begins_as_own(name)
 }

@@ -12,7 +12,7 @@ use Rattle.pp_model.specs.Definitions.{object_like}
 use Rattle.pp_model.specs.Emitting.{answers_at, expansion_limit}
 use Rattle.pp_model.specs.SourceReader.{SourceReader}
 use Rattle.pp_model.specs.Reads.{source_reading}
-use Rattle.pp_model.specs.Run.{Call, add_define, next, items_by, content_tokens, start, with_added, is_fault, Gives, by_rules, Runs, done, added, refused, given, failed}
+use Rattle.pp_model.specs.Run.{Call, add_define, next, items_by, content_tokens, start_by, with_added, is_fault, Gives, by_rules, Runs, done, added, refused, given, failed}
 use Rattle.pp_model.specs.ExistenceLaws.{AnAnswer, AnItem, RunDefinesFinitelyMany, ARun}
 use Rattle.pp_model.specs.RunStates.{LeadsTo}
 use Rattle.pp_model.specs.declared.call.Reply.{Reply}
@@ -70,8 +70,8 @@ module _ (A : Answers) (answered : AnAnswer A) (rules : Rules) where
 -- ---- states
 
 -- At the start of a source no name is defined.
-pub start_finite : (source : List Seen) → HasFinite (start source).reader
-start_finite source = record { names = []; among = λ name definition h. cc }
+pub start_finite : (rules : Rules) (source : List Seen) → HasFinite (start_by rules source).reader
+start_finite rules source = record { names = []; among = λ name definition h. cc }
 
 module _ (level : ℕ) where
   leads_to_finite : (e f : Expander SourceReader) → LeadsTo (answers_at level) e f → HasFinite e.reader → HasFinite f.reader
@@ -85,11 +85,11 @@ module _ (level : ℕ) where
 
   -- In each state of a run finitely many names are defined.
   pub run_defines_finitely_many : RunDefinesFinitelyMany (answers_at level)
-  run_defines_finitely_many source e reached = leads_to_finite (start source) e reached (start_finite source)
+  run_defines_finitely_many rules source e reached = leads_to_finite (start_by rules source) e reached (start_finite rules source)
 
 -- ---- runs
 
 -- Every source has a run, whatever is called.
 pub a_run : ARun
 a_run rules text calls =
-    replies_to (answers_at expansion_limit) (an_answer expansion_limit) rules calls (start (items_by rules text)) (start_finite (items_by rules text))
+    replies_to (answers_at expansion_limit) (an_answer expansion_limit) rules calls (start_by rules (items_by rules text)) (start_finite rules (items_by rules text))

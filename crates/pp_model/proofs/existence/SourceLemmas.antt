@@ -11,7 +11,7 @@ use Rattle.pp_model.specs.Calls.{Fault, Answers}
 use Rattle.pp_model.specs.LineValues.{IsCondition, IsLineNumber}
 use Rattle.pp_model.specs.SourceReader.{SourceReader}
 use Rattle.pp_model.specs.Acts.{decided, act}
-use Rattle.pp_model.specs.Reads.{Does, Steps, here, later, source_reading}
+use Rattle.pp_model.specs.Reads.{Does, Steps, here, later, source_reading, numbered_line}
 use Rattle.pp_model.specs.inner.Reads.{after_define}
 use Rattle.pp_model.specs.ExistenceLaws.{is_given_token, IsFinite, AnAnswer, AStep, AReading}
 use Rattle.pp_model.specs.declared.definition.Named.{Named}
@@ -85,7 +85,7 @@ module _ (A : Answers) (answered : AnAnswer A) where
     numbered_by : (word : Location) (tokens : List Token) → (act r).step ≡ step.LineNumber word tokens
         → (x : Result ℕ Fault) → IsLineNumber A word tokens r.definitions x → Stepped r
     numbered_by word tokens p (Ok n) c =
-        let t : SourceReader = record (act r).after { line_offset = pos n -ℤ pos word.line } in
+        let t : SourceReader = record (act r).after { line_offset = pos n -ℤ pos (numbered_line r.rules word.line) } in
         passed (step.LineNumber word tokens) t p refl ((moves r).finite f) refl (Ok n, c, (refl, refl))
     numbered_by word tokens p (Err fault) c = faulty (step.LineNumber word tokens) fault r p f (Err fault, c, (refl, refl))
 
