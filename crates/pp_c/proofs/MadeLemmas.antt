@@ -1,5 +1,5 @@
 -- Calls of the preprocessor, one after another.
-use Rattle.std.proofs.Common.{◌≡◌, ◌∙◌, List, [], ◌∷◌, ◌++◌, map, refl, ap, sym, Option, Some, None}
+use Rattle.std.proofs.Common.{◌≡◌, ◌∙◌, List, [], ◌∷◌, ◌++◌, map, refl, ap, sym, subst, Option, Some, None}
 use Rattle.std.specs.List.{AllByRecursion as Each}
 use Rattle.std.specs.Str.{chars}
 use Rattle.pp_macros.specs.LexerErrors.{ErrorAt}
@@ -12,7 +12,8 @@ use Rattle.pp_model.specs.declared.outcome.Outcome.{Outcome}
 use Rattle.pp_model.specs.declared.outcome.Outcome.TheVariants as outcome
 use Rattle.pp_rs.specs.Comes.{State}
 use Rattle.pp_rs.specs.Kept.{Preprocessing, Stands, errors_left, rules_of}
-use Rattle.pp_rs.specs.Preprocessing.{IsErrorAt}
+use Rattle.pp_rs.specs.declared.rules.Rules.{Rules}
+use Rattle.pp_rs.specs.Preprocessing.{PassesErrors}
 use Rattle.pp_rs.specs.Preprocessing as place
 use Rattle.pp_rs.specs.Rules.{pp_rs}
 use Rattle.pp_c.specs.Preprocessed.{Given, token, error, outcomes_of, replies_to_next, ErrorsStand, GivenHoldsOrdinary}
@@ -121,31 +122,40 @@ pub record AreReported (given : List Given) (left : List ErrorAt) : Type 0 where
   pub places : ErrorsStand given left
   pub holds : Each GivenHoldsOrdinary given
 
-reported_token : (p q : Preprocessing) (g : Given) (rest : List Given) → GivesNext p (Some g) q → AreReported rest (errors_left q) → AreReported (g ∷ rest) (errors_left p)
-reported_token p q (token t) rest g r = record {
-  places = stand.after_token t _ rest _ refl (rw (← g.given.reports.0) r.places);
+-- pp-rs's rules pass no error of the lexer
+none_passed : (p : Preprocessing) (left : List ErrorAt) → rules_of p ≡ pp_rs → PassesErrors (rules_of p).passes_dead_errors (errors_left p) left
+    → left ≡ errors_left p
+none_passed p left usual h = subst (λ (rules : Rules). PassesErrors rules.passes_dead_errors (errors_left p) left) usual h
+
+reported_token : (p q : Preprocessing) (g : Given) (rest : List Given) → rules_of p ≡ pp_rs → GivesNext p (Some g) q → AreReported rest (errors_left q)
+    → AreReported (g ∷ rest) (errors_left p)
+reported_token p q (token t) rest usual g r = record {
+  places = stand.after_token t _ rest _ refl
+      (rw (← (g.given.reports.reports.0 ∙ none_passed p g.given.reports.left usual g.given.reports.passes)) r.places);
   holds = (g.given.holds, r.holds);
 }
-reported_token p q (error fault at) rest g r = record {
-  places = elim g.given.reports [
-    | place.of_lexer h ↦ stand.of_lexer fault at _ rest _ (errors_left q) refl (rw g.placed h) r.places
-    | place.of_its_own here left ↦ stand.of_its_own fault _ rest _ (rw (g.placed, here)) (rw (← left) r.places)
-  ];
+reported_token p q (error fault at) rest usual g r = record {
+  places =
+      let same = none_passed p g.given.reports.left usual g.given.reports.passes in
+      elim g.given.reports.reports [
+        | place.of_lexer h ↦ stand.of_lexer fault at _ rest _ (errors_left q) refl (rw g.placed (sym same ∙ h)) r.places
+        | place.of_its_own here left ↦ stand.of_its_own fault _ rest _ (rw (g.placed, here)) (rw (← (left ∙ same)) r.places)
+      ];
   holds = (tt, r.holds);
 }
 
-pub reported : (p q : Preprocessing) (calls : List Call) (answers : List (Option Given)) (given : List Given) → map Some given ++ None ∷ [] ≡ answers → Made p calls answers q
-    → AreReported given (errors_left p)
-reported p q calls answers [] is (made.none p1 q1 c a ce ae e) = let bad : None ∷ [] ≡ [] = is ∙ ae in cc
-reported p q calls answers (g ∷ given) is (made.none p1 q1 c a ce ae e) = let bad : Some g ∷ map Some given ++ None ∷ [] ≡ [] = is ∙ ae in cc
-reported p q calls answers given is (made.added name content tokens p1 q1 r1 rest c a has w m e) =
-    rw (← w.errors) (reported q1 q rest answers given is m)
-reported p q calls answers given is (made.refused name content fault p1 r1 rest c a has m e) = reported p q rest answers given is m
-reported p q calls answers [] is (made.gave None p1 q1 r1 rest c others a g m e b) = record {
-  places = stand.none [] _ refl g.given.reports.0;
+pub reported : (p q : Preprocessing) (calls : List Call) (answers : List (Option Given)) (given : List Given) → map Some given ++ None ∷ [] ≡ answers
+    → rules_of p ≡ pp_rs → Made p calls answers q → AreReported given (errors_left p)
+reported p q calls answers [] is usual (made.none p1 q1 c a ce ae e) = let bad : None ∷ [] ≡ [] = is ∙ ae in cc
+reported p q calls answers (g ∷ given) is usual (made.none p1 q1 c a ce ae e) = let bad : Some g ∷ map Some given ++ None ∷ [] ≡ [] = is ∙ ae in cc
+reported p q calls answers given is usual (made.added name content tokens p1 q1 r1 rest c a has w m e) =
+    rw (← w.errors) (reported q1 q rest answers given is (w.rules ∙ usual) m)
+reported p q calls answers given is usual (made.refused name content fault p1 r1 rest c a has m e) = reported p q rest answers given is usual m
+reported p q calls answers [] is usual (made.gave None p1 q1 r1 rest c others a g m e b) = record {
+  places = stand.none [] _ refl (sym (none_passed p g.given.reports.left usual g.given.reports.passes) ∙ g.given.reports.reports.0);
   holds = tt;
 }
-reported p q calls answers [] is (made.gave (Some other) p1 q1 r1 rest c others a g m e b) = let bad : None ∷ [] ≡ Some other ∷ others = is ∙ b in cc
-reported p q calls answers (first ∷ given) is (made.gave answer p1 q1 r1 rest c others a g m e b) =
+reported p q calls answers [] is usual (made.gave (Some other) p1 q1 r1 rest c others a g m e b) = let bad : None ∷ [] ≡ Some other ∷ others = is ∙ b in cc
+reported p q calls answers (first ∷ given) is usual (made.gave answer p1 q1 r1 rest c others a g m e b) =
     let same = same_first answer others first given (is ∙ b) in
-    reported_token p q1 first given (rw same.0 at g) (reported q1 q rest others given (sym same.1) m)
+    reported_token p q1 first given usual (rw same.0 at g) (reported q1 q rest others given (sym same.1) (g.rules ∙ usual) m)

@@ -2,7 +2,8 @@
 use Rattle.std.proofs.Common.{◌≡◌, ◌∙◌, ℕ, ◌+◌, ◌<◌, ◌^◌, List, [], ◌∷◌, ◌++◌, map, length, drop, refl, ap, Some, None, arith}
 use Rattle.pp_macros.specs.LexerErrors.{lexer_errors}
 use Rattle.pp_model.specs.Run.{items_of, start}
-use Rattle.pp_rs.specs.Kept.{Preprocessing, Stands, errors_left}
+use Rattle.pp_rs.specs.Kept.{Preprocessing, Stands, errors_left, rules_of}
+use Rattle.pp_rs.specs.Rules.{pp_rs}
 use Rattle.pp_c.specs.Calls.{calls_from}
 use Rattle.pp_c.specs.Ends.{HasRoom}
 use Rattle.pp_c.specs.Entries.{Entry, in_64_bits, items_from, texts_of, room_of, put_over}
@@ -18,11 +19,11 @@ use Rattle.pp_c.proofs.TakingLemmas.{room_after-is, sizes_same}
 
 -- the items of a source, from what was made of it
 pub gives_items : (source words : List ℕ) (definitions : List Definition) (begun new : Preprocessing) (output after : Output)
-    → Stands begun (start (items_of source)) → errors_left begun ≡ lexer_errors source → HasAll begun output words definitions new after
+    → Stands begun (start (items_of source)) → errors_left begun ≡ lexer_errors source → rules_of begun ≡ pp_rs → HasAll begun output words definitions new after
     → Gives source words definitions output after
-gives_items source words definitions begun new output after stands errors h =
+gives_items source words definitions begun new output after stands errors usual h =
     let r = run_to_end begun new (calls_from words (length h.given + 1) 0 definitions) h.given (start (items_of source)) stands h.made in
-    let p = reported begun new (calls_from words (length h.given + 1) 0 definitions) (map Some h.given ++ None ∷ []) h.given refl h.made in
+    let p = reported begun new (calls_from words (length h.given + 1) 0 definitions) (map Some h.given ++ None ∷ []) h.given refl usual h.made in
     record {
       given = h.given;
       are_items = record { replies = r.replies; run = r.runs; gives = r.gives; places = rw errors at p.places; holds = p.holds };

@@ -4,10 +4,12 @@ use Rattle.std.specs.Option.{option_map_or}
 use Rattle.std.proofs.Math.Seq.{take-append_seam}
 use Rattle.std.proofs.lemmas.List.{length_push}
 use Rattle.std.specs.Prelude.{ℤ, pos, ◌-ℤ◌}
+use Rattle.pp_lexer.specs.declared.rules.Rules.{Rules}
 use Rattle.pp_lexer.specs.declared.token.Location.{Location}
 use Rattle.pp_lexer.specs.declared.token.Token.{Token}
 use Rattle.pp_model.specs.Calls.{Fault}
 use Rattle.pp_model.specs.Lines.{line_length, line_tokens}
+use Rattle.pp_model.specs.Reads.{numbered_line}
 use Rattle.pp_model.specs.declared.block.Part.TheVariants as part
 use Rattle.pp_macros.specs.inner.Defined.{Defined}
 use Rattle.pp_macros.specs.inner.OpenBlocks.{last_block, outer_blocks, with_last, block_opened, block_decided, block_branched, BlockChange, unchanged, elif_change, block_change}
@@ -19,24 +21,28 @@ use Rattle.pp_macros.specs.declared.halt.Halt.TheVariants as halt
 use Rattle.pp_directives.specs.inner.ReadingLines.{ReadsLine}
 use Rattle.pp_directives.specs.inner.SourceActs.{Acts, HasKept}
 use Rattle.pp_macros.specs.inner.SourceLexed.{SourceLexed, unreported_at}
-use Rattle.pp_macros.specs.inner.Unreported.{IsMet}
+use Rattle.pp_macros.specs.inner.Unreported.{IsMet, ReportsNone}
 use Rattle.pp_model.specs.Moves.{decides, renumbers, line_move}
 use Rattle.pp_macros.specs.inner.SourceMoves.{unnoted}
 use Rattle.pp_directives.proofs.LineReadingLemmas.{drop_fewer}
 use Rattle.pp_directives.proofs.SourceActsLemmas.{source_of}
-use Rattle.pp_directives.proofs.UnreportedLemmas.{nothing_met}
+use Rattle.pp_directives.proofs.UnreportedLemmas.{nothing_met, same_none}
 
 -- the innermost block changes
 pub with_last_is : (change : OpenBlock → OpenBlock) (blocks : List OpenBlock) (block : OpenBlock) → last_block blocks ≡ Some block
     → with_last change blocks ≡ outer_blocks blocks ++ change block ∷ []
 with_last_is change blocks block last = ap (λ found. outer_blocks blocks ++ option_map_or (λ b. change b ∷ []) found []) last
 
-module _ (definitions : List Defined) (blocks : List OpenBlock)
+module _ (rules : Rules) (definitions : List Defined) (blocks : List OpenBlock)
     (line_offset : ℤ) (has_text has_directive dead : Bool) (old new : SourceLexed) (word : Location) (tokens : List Token)
     (read : ReadsLine {A = List Token} (λ tokens. tokens) line_tokens old (Ok tokens) new) where
+  none_read : ReportsNone rules.passes_dead_errors (unreported_at old) (unreported_at new)
+  none_read = same_none rules.passes_dead_errors (unreported_at old) (unreported_at new) read.errors
+
   after_line : (offset : ℤ) (after : List OpenBlock) → IsAfter (line_length old.rest) unnoted after
-      (source_of old definitions blocks offset has_text has_directive dead) (source_of new definitions after offset has_text has_directive dead)
+      (source_of old rules definitions blocks offset has_text has_directive dead) (source_of new rules definitions after offset has_text has_directive dead)
   after_line offset after = record {
+    rules = refl;
     rest = read.takes.rest;
     blocks = refl;
     line_offset = refl;
@@ -49,38 +55,39 @@ module _ (definitions : List Defined) (blocks : List OpenBlock)
   -- an `#if` opens a block
   pub if_opens : (value : Bool) (after : List OpenBlock) → Condition word tokens definitions (Ok value) → after ≡ blocks ++ block_opened word value ∷ []
       → Acts (block_change (Some part.Opens) word) (line_move (line_tokens old.rest) (decides word) old.rest)
-      (source_of old definitions blocks line_offset has_text has_directive dead) (Ok tt) (source_of new definitions after line_offset has_text has_directive dead)
+      (source_of old rules definitions blocks line_offset has_text has_directive dead) (Ok tt) (source_of new rules definitions after line_offset has_text has_directive dead)
   if_opens value after condition made = record {
     acts = rw (read.is, made) (holds value condition (refl, after_line line_offset _, refl));
     holds = tt;
-    errors = read.errors;
+    errors = none_read;
   }
 
   -- an `#elif` parts the innermost block
   pub elif_parts : (block : OpenBlock) (value : Bool) (after : List OpenBlock) → Condition word tokens definitions (Ok value)
       → last_block blocks ≡ Some block → after ≡ outer_blocks blocks ++ block_decided block value ∷ []
       → Acts elif_change (line_move (line_tokens old.rest) (decides word) old.rest)
-      (source_of old definitions blocks line_offset has_text has_directive dead) (Ok tt) (source_of new definitions after line_offset has_text has_directive dead)
+      (source_of old rules definitions blocks line_offset has_text has_directive dead) (Ok tt) (source_of new rules definitions after line_offset has_text has_directive dead)
   elif_parts block value after condition last made = record {
     acts = rw (read.is, made ∙ sym (with_last_is (block_branched (Some value)) blocks block last))
         (holds value condition (refl, after_line line_offset _, refl));
     holds = tt;
-    errors = read.errors;
+    errors = none_read;
   }
 
   -- a `#line` numbers the lines after it
-  pub line_numbers : (n : ℕ) (offset : ℤ) → LineNumber word tokens definitions (Ok n) → offset ≡ pos n -ℤ pos word.line
+  pub line_numbers : (n : ℕ) (offset : ℤ) → LineNumber word tokens definitions (Ok n) → offset ≡ pos n -ℤ pos (numbered_line rules word.line)
       → Acts unchanged (line_move (line_tokens old.rest) (renumbers word) old.rest)
-      (source_of old definitions blocks line_offset has_text has_directive dead) (Ok tt) (source_of new definitions blocks offset has_text has_directive dead)
+      (source_of old rules definitions blocks line_offset has_text has_directive dead) (Ok tt) (source_of new rules definitions blocks offset has_text has_directive dead)
   line_numbers n offset number made = record {
-    acts = rw (read.is, made) (numbers n number (refl, after_line (pos n -ℤ pos word.line) blocks, refl));
+    acts = rw (read.is, made) (numbers n number (refl, after_line (pos n -ℤ pos (numbered_line rules word.line)) blocks, refl));
     holds = tt;
-    errors = read.errors;
+    errors = none_read;
   }
 
   kept : (after : List OpenBlock) (offset : ℤ) → length after ≤ length blocks
-      → HasKept (source_of old definitions blocks line_offset has_text has_directive dead) (source_of new definitions after offset has_text has_directive dead)
+      → HasKept (source_of old rules definitions blocks line_offset has_text has_directive dead) (source_of new rules definitions after offset has_text has_directive dead)
   kept after offset few = record {
+    rules = refl;
     left = omega (arith, few, drop_fewer old.rest new.rest (line_length old.rest) read.takes.rest);
     names = refl;
     tokens = omega arith;
@@ -94,8 +101,8 @@ module _ (definitions : List Defined) (blocks : List OpenBlock)
   pub condition_failed : (change : BlockChange) (after : List OpenBlock) → length after ≤ length blocks → (h : Halt)
       → Satisfies {A = Bool} (Err h) (Condition word tokens definitions)
       → Acts change (line_move (line_tokens old.rest) (decides word) old.rest)
-      (source_of old definitions blocks line_offset has_text has_directive dead) (Err h)
-      (source_of new definitions after line_offset has_text has_directive dead)
+      (source_of old rules definitions blocks line_offset has_text has_directive dead) (Err h)
+      (source_of new rules definitions after line_offset has_text has_directive dead)
   condition_failed change after few (halt.Fault fault) condition =
       record { acts = rw read.is (condition, kept after line_offset few); holds = tt; errors = nothing_more fault }
   condition_failed change after few halt.OutOfMemory condition = record { acts = tt; holds = tt; errors = tt }
@@ -103,8 +110,8 @@ module _ (definitions : List Defined) (blocks : List OpenBlock)
   -- so is the number of a `#line`, after which the lines may be numbered from anywhere
   pub number_failed : (offset : ℤ) (h : Halt) → Satisfies {A = ℕ} (Err h) (LineNumber word tokens definitions)
       → Acts unchanged (line_move (line_tokens old.rest) (renumbers word) old.rest)
-      (source_of old definitions blocks line_offset has_text has_directive dead) (Err h)
-      (source_of new definitions blocks offset has_text has_directive dead)
+      (source_of old rules definitions blocks line_offset has_text has_directive dead) (Err h)
+      (source_of new rules definitions blocks offset has_text has_directive dead)
   number_failed offset (halt.Fault fault) number =
       record { acts = rw read.is (number, kept blocks offset (omega arith)); holds = tt; errors = nothing_more fault }
   number_failed offset halt.OutOfMemory number = record { acts = tt; holds = tt; errors = tt }

@@ -1,5 +1,5 @@
 -- In the items of a text each line ends: an item that doesn't end its line is followed by another.
-use Rattle.std.proofs.Common.{◌≡◌, ◌≢◌, ◌∙◌, Bool, true, false, List, [], ◌∷◌, ◌++◌, sym, ap, refl, subst}
+use Rattle.std.proofs.Common.{◌≡◌, ◌≢◌, ◌∙◌, ℕ, zero, suc, Bool, true, false, List, [], ◌∷◌, ◌++◌, drop, sym, ap, refl, subst}
 use Rattle.pp_lexer.specs.declared.rules.Rules.{Rules}
 use Rattle.pp_lexer.specs.declared.lexer.char_iterator.Spot.{Spot}
 use Rattle.pp_lexer.specs.declared.lexer.Flags.{Flags}
@@ -42,3 +42,10 @@ start_ended rules ss =
 pub ended_after : (items : List Seen) → AreEnded items → AreEnded (after_first_item items)
 ended_after [] h = h
 ended_after (s ∷ rest) h = h.1
+
+-- and after some of them
+pub ended_further : (n : ℕ) (items : List Seen) → AreEnded items → AreEnded (drop n items)
+ended_further zero [] h = h
+ended_further (suc n) [] h = h
+ended_further zero (s ∷ rest) h = h
+ended_further (suc n) (s ∷ rest) h = ended_further n rest h.1

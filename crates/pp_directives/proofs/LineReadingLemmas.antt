@@ -1,14 +1,19 @@
 -- The tokens of a line, read one after another.
-use Rattle.std.proofs.Common.{◌≡◌, ℕ, ◌+◌, ◌≤◌, Bool, true, false, if◌then◌else◌, not, List, [], ◌∷◌, ◌++◌, length, drop, Option, Some, None, Result, Ok, Err, refl, sym, ◌∙◌, ap, append_assoc, length-drop, suc, arith}
+use Rattle.std.proofs.Common.{◌≡◌, ℕ, ◌+◌, ◌≤◌, Bool, true, false, if◌then◌else◌, not, ◌&&◌, List, [], ◌∷◌, ◌++◌, length, drop, Option, Some, None, Result, Ok, Err, refl, sym, ◌∙◌, ap, append_assoc, length-drop, suc, arith}
 use Rattle.pp_lexer.specs.Items.{Lexeme}
 use Rattle.pp_lexer.specs.Lexed.{Seen}
 use Rattle.pp_lexer.specs.declared.token.Token.{Token}
 use Rattle.pp_model.specs.Calls.{Fault}
 use Rattle.pp_model.specs.Conversions.{is_newline, conversion}
 use Rattle.pp_model.specs.inner.Emitting.{token_before}
-use Rattle.pp_model.specs.Lines.{line_tokens, line_length, line_fault}
+use Rattle.pp_lexer.specs.declared.rules.Rules.{Rules}
+use Rattle.pp_lexer.specs.declared.token.PreprocessorError.TheVariants.{UnexpectedToken}
+use Rattle.pp_lexer.specs.declared.token.TokenValue.TheVariants.{Ident}
+use Rattle.pp_model.specs.DefineLines.{is_own_name, free_name}
+use Rattle.pp_model.specs.declared.definition.Placed.{Placed}
+use Rattle.pp_model.specs.Lines.{line_tokens, line_length, line_fault, ends_line}
 use Rattle.pp_expression.specs.Answers.{◌>>=◌}
-use Rattle.pp_macros.specs.inner.LineReading.{HasTaken, TakesItems, some_token, next_line_token, tokens_after, length_after, unless_fault, skipped_line, goes_on_after, line_goes_on}
+use Rattle.pp_macros.specs.inner.LineReading.{HasTaken, TakesItems, some_token, next_line_token, tokens_after, length_after, unless_fault, skipped_line, goes_on_after, line_goes_on, item_goes_on}
 use Rattle.pp_macros.specs.inner.SourceLexed.{SourceLexed, unreported_at}
 use Rattle.pp_macros.specs.declared.halt.Halt.{Halt}
 use Rattle.pp_macros.specs.declared.halt.Halt.TheVariants as halt
@@ -128,7 +133,7 @@ takes_after (Err halt.OutOfMemory) first more total old mid new m t e = t
 -- the tokens of a line are read: the next one, and those after it
 pub reads_line : {A : Type 0} (shows : A → List Token) (first : Option Token) (result : Result A Halt) (old mid new : SourceLexed)
     → ReadsNext {A = Option Token} (λ t. t) next_line_token old (Ok first) mid
-    → ReadsPart shows (tokens_after first mid.rest) (length_after first mid.rest) mid result new
+    → ReadsPart false shows (tokens_after first mid.rest) (length_after first mid.rest) mid result new
     → ReadsLine shows line_tokens old result new
 reads_line shows first result old mid new next more =
     let rest = old.rest in
@@ -139,5 +144,50 @@ reads_line shows first result old mid new next more =
       is = rw tokens more.is;
       takes = takes_after result 1 _ _ _ _ _ next.takes more.takes
           (line_place-next rest first next.is ∙ ap (λ r. drop (length_after first r) r) same);
-      errors = reports_after result (unreported_at old) (unreported_at mid) (unreported_at new) next.errors more.errors;
+      errors = reports_after false result (unreported_at old) (unreported_at mid) (unreported_at new) next.errors more.errors;
     }
+
+-- a line that is passed with its errors goes on after an item that doesn't end it, and else ends there
+pass_place_by : (s : Seen) (rest : List Seen) (ends : Bool) → not ends ≡ true
+    → drop (line_length rest) rest ≡ drop (if ends then 1 else 1 + line_length rest) (s ∷ rest)
+pass_place_by s rest true e = cc
+pass_place_by s rest false e = sym (drop_past (line_length rest) s rest)
+
+pub passed_place : (rest after : List Seen) (goes_on : Bool) → ◌≡◌ {A = Result Bool Fault} (Ok (item_goes_on rest)) (Ok goes_on) → goes_on ≡ true
+    → after ≡ drop 1 rest → drop (line_length after) after ≡ drop (line_length rest) rest
+passed_place [] after goes_on is on d = let bad : false ≡ goes_on = cc in cc
+passed_place (s ∷ rest) after goes_on is on d =
+    let same : not (ends_line s.item) ≡ goes_on = cc in
+    rw d (pass_place_by s rest (ends_line s.item) (same ∙ on))
+
+pass_end_by : (s : Seen) (rest : List Seen) (ends : Bool) → not ends ≡ false
+    → drop (if ends then 1 else 1 + line_length rest) (s ∷ rest) ≡ rest
+pass_end_by s rest true e = refl
+pass_end_by s rest false e = cc
+
+pub passed_end : (rest after : List Seen) (goes_on : Bool) → ◌≡◌ {A = Result Bool Fault} (Ok (item_goes_on rest)) (Ok goes_on) → goes_on ≡ false
+    → after ≡ drop 1 rest → after ≡ drop (line_length rest) rest
+passed_end [] after goes_on is on d = d
+passed_end (s ∷ rest) after goes_on is on d =
+    let same : not (ends_line s.item) ≡ goes_on = cc in
+    d ∙ sym (pass_end_by s rest (ends_line s.item) (same ∙ on))
+
+-- a free name is the first name
+free_by : (b : Bool) (refused : Fault) (first placed : Placed) → ◌≡◌ {A = Result Placed Fault} (if b then Err refused else Ok first) (Ok placed)
+    → first ≡ placed
+free_by true refused first placed e = cc
+free_by false refused first placed e = cc
+
+pub free_is_first : (rules : Rules) (found : Result Placed Fault) (placed : Placed) → (found >>= free_name rules) ≡ Ok placed → found ≡ Ok placed
+free_is_first rules (Err fault) placed e = cc
+free_is_first rules (Ok first) placed e =
+    ap Ok (free_by (rules.keeps_own_names && is_own_name first.name) (UnexpectedToken (Ident first.name), first.location) first placed e)
+
+-- after an error of the lexer a line goes on
+pub fault_goes_on : (rest : List Seen) (fault : Fault) → line_goes_on rest ≡ Err fault → item_goes_on rest ≡ true
+fault_goes_on [] fault e = cc
+fault_goes_on (s ∷ rest) fault e = go s.item e
+  where
+    go : (item : Lexeme) → goes_on_after item ≡ Err fault → not (ends_line item) ≡ true
+    go (Ok token) e = cc
+    go (Err found) e = refl

@@ -1,17 +1,25 @@
 -- After the word of a directive it is remembered that a directive was read.
-use Rattle.std.proofs.Common.{◌≡◌, ℕ, ◌+◌, Bool, true, List, Option, Some, None, inl, inr, refl, drop}
+use Rattle.std.proofs.Common.{◌≡◌, ℕ, ◌+◌, Bool, true, false, ◌&&◌, List, Option, Some, None, Ok, Err, inl, inr, refl, drop}
 use Rattle.std.specs.Prelude.{ℤ, pos, ◌-ℤ◌}
+use Rattle.pp_lexer.specs.declared.rules.Rules.{Rules}
 use Rattle.pp_lexer.specs.declared.token.Location.{Location}
 use Rattle.pp_lexer.specs.declared.token.Token.{Token}
+use Rattle.pp_model.specs.Calls.{Fault}
 use Rattle.pp_model.specs.Definitions.{Definition}
+use Rattle.pp_model.specs.Lines.{first_token}
 use Rattle.pp_model.specs.declared.definition.Named.{Named}
 use Rattle.pp_macros.specs.inner.Defined.{Defined, meaning_of}
-use Rattle.pp_macros.specs.inner.OpenBlocks.{last_block, BlockChange}
+use Rattle.pp_macros.specs.inner.OpenBlocks.{last_block, facts_among, BlockChange}
 use Rattle.pp_macros.specs.declared.blocks.OpenBlock.{OpenBlock}
 use Rattle.pp_macros.specs.inner.Source.{Source, IsAfter, DefinesOver, HasEffect, Makes, Decides, holds, faulty, Renumbers, numbers, unnumbered}
-use Rattle.pp_macros.specs.inner.SourceLexed.{SourceLexed}
+use Rattle.pp_macros.specs.inner.LineReading.{HasTaken}
+use Rattle.pp_macros.specs.inner.SourceLexed.{SourceLexed, unreported_at}
+use Rattle.pp_macros.specs.inner.Unreported.{IsMet}
+use Rattle.pp_directives.specs.inner.SourceActs.{ActsNoted, word_note, word_change, word_move}
+use Rattle.pp_directives.proofs.UnreportedLemmas.{met_none}
 use Rattle.pp_model.specs.Moves.{Effect, gives, gives_item, fails, ends, passes, defines, undefines, tests, decides, renumbers, Move}
 use Rattle.pp_model.specs.inner.Moves.{taking_more}
+use Rattle.pp_model.specs.Reads.{numbered_line}
 use Rattle.pp_macros.specs.inner.SourceMoves.{unnoted, directive_line}
 use Rattle.pp_macros.specs.inner.Turns.{as_pause}
 use Rattle.pp_directives.proofs.SourceActsLemmas.{source_of, pause_no_fault, pause_not_ends, effect_after}
@@ -22,6 +30,7 @@ remembering source = record source { has_directive = true }
 noted_after : (taken : ℕ) (old after : Source) (still_open : List OpenBlock) → IsAfter taken unnoted still_open old after
     → IsAfter taken directive_line still_open old (remembering after)
 noted_after taken old after still_open b = record {
+  rules = b.rules;
   rest = b.rest;
   blocks = b.blocks;
   line_offset = b.line_offset;
@@ -51,7 +60,7 @@ module _ (taken : ℕ) (old after : Source) (given : Option Token) where
       → Renumbers word tokens taken directive_line old (as_pause given) (remembering after)
   renumbers_noted word tokens (numbers n number h) = numbers n number (
     h.0,
-    noted_after taken (record old { line_offset = pos n -ℤ pos word.line }) after old.blocks h.1,
+    noted_after taken (record old { line_offset = pos n -ℤ pos (numbered_line old.rules word.line) }) after old.blocks h.1,
     h.2,
   )
   renumbers_noted word tokens (unnumbered fault number failed left) = absurd (pause_no_fault given fault failed)
@@ -71,11 +80,44 @@ module _ (taken : ℕ) (old after : Source) (given : Option Token) where
   effect_noted (renumbers word tokens) change h = renumbers_noted word tokens h
 
 -- what a directive does after its number sign, where the word was read
-pub word_read : (definitions : List Defined) (blocks : List OpenBlock) (line_offset : ℤ) (has_text has_directive dead : Bool) (old mid : SourceLexed)
+pub word_read : (rules : Rules) (definitions : List Defined) (blocks : List OpenBlock) (line_offset : ℤ) (has_text has_directive dead : Bool) (old mid : SourceLexed)
     → mid.rest ≡ drop 1 old.rest → (change : BlockChange) (move : Move) (given : Option Token) (after : Source)
-    → Makes unnoted change move (source_of mid definitions blocks line_offset has_text has_directive dead) (as_pause given) after
-    → Makes directive_line change (taking_more 1 move) (source_of old definitions blocks line_offset has_text has_directive dead)
+    → Makes unnoted change move (source_of mid rules definitions blocks line_offset has_text has_directive dead) (as_pause given) after
+    → Makes directive_line change (taking_more 1 move) (source_of old rules definitions blocks line_offset has_text has_directive dead)
     (as_pause given) (remembering after)
-word_read definitions blocks line_offset has_text has_directive dead old mid taken change move given after h =
-    effect_noted (1 + move.taken) (source_of old definitions blocks line_offset has_text has_directive dead) after given move.effect change
-    (effect_after definitions blocks line_offset has_text has_directive dead old mid 1 move.taken (1 + move.taken) refl taken unnoted change given after move.effect h)
+word_read rules definitions blocks line_offset has_text has_directive dead old mid taken change move given after h =
+    effect_noted (1 + move.taken) (source_of old rules definitions blocks line_offset has_text has_directive dead) after given move.effect change
+    (effect_after rules definitions blocks line_offset has_text has_directive dead old mid 1 move.taken (1 + move.taken) refl taken unnoted change given after move.effect h)
+
+-- the same where an error of the lexer was read in the place of the word, and is passed
+pub error_passed : (rules : Rules) (definitions : List Defined) (blocks : List OpenBlock) (line_offset : ℤ) (has_text has_directive dead : Bool)
+    (old mid new : SourceLexed) (hash : Location) (fault : Fault) → first_token hash old.rest ≡ Err fault → HasTaken 1 old mid
+    → IsMet fault (unreported_at old) (unreported_at mid) → new ≡ record mid { error_place = None } → rules.passes_dead_errors ≡ true
+    → ActsNoted (word_note false (first_token hash old.rest)) (word_change (first_token hash old.rest))
+    (word_move rules false (facts_among blocks) (first_token hash old.rest) (drop 1 old.rest))
+    (source_of old rules definitions blocks line_offset has_text has_directive dead) (Ok tt)
+    (source_of new rules definitions blocks line_offset has_text has_directive dead)
+error_passed rules definitions blocks line_offset has_text has_directive dead old mid new hash fault is took met same passed =
+    rw (is, passed, same) (record {
+      acts = (
+        refl,
+        record {
+          rules = refl;
+          rest = took.rest;
+          blocks = refl;
+          line_offset = refl;
+          spent = took.spent;
+          has_text = refl;
+          has_directive = refl;
+          dead_for_good = refl;
+        },
+        refl,
+      );
+      holds = tt;
+      errors = met_none fault (unreported_at old) (unreported_at mid) _ met refl;
+    })
+
+-- the second of two that both hold
+pub and_second : (a b : Bool) → (a && b) ≡ true → b ≡ true
+and_second true b e = e
+and_second false b e = cc

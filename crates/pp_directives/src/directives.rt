@@ -1,6 +1,6 @@
 //! The source's reader: directives act, and the tokens between them are given.
 
-ghost use Rattle.std.specs.Prelude.{◌≡◌, ◌-◌, ◌^◌, ◌<◌, [], length, false, Err, IsTrue, IfOk, None};
+ghost use Rattle.std.specs.Prelude.{◌≡◌, ◌-◌, ◌^◌, ◌<◌, ◌&&◌, not, [], length, false, Err, IsTrue, IfOk, None};
 ghost use Rattle.std.specs.Prelude.{pos, ◌+ℤ◌};
 ghost use Rattle.std.specs.Str.{chars};
 ghost use Rattle.pp_model.specs.LineValues.{as_line_number};
@@ -37,6 +37,7 @@ use std::marker::Model;
 #[derive(Drop)]
 pub struct DirectiveProcessor<'a> {
     alloc: Global,
+    rules: Rules,
     lexer: SourceLexer<'a>,
     definitions: Definitions,
     blocks: Blocks,
@@ -55,6 +56,7 @@ impl<'a> Model for DirectiveProcessor<'a> {
     ghost Value = { Source };
 
     ghost view = { λ p. record {
+      rules = p.rules;
       rest = p.lexer.rest;
       places = p.lexer.places;
       error_place = p.lexer.error_place;
@@ -78,6 +80,7 @@ impl<'a> DirectiveProcessor<'a> {
     {
         DirectiveProcessor {
             alloc,
+            rules,
             lexer: SourceLexer::new(alloc, input, rules),
             definitions: Definitions::new(alloc),
             blocks: Blocks::new(alloc),
@@ -141,12 +144,21 @@ impl<'a> DirectiveProcessor<'a> {
         !self.dead_for_good && self.blocks.are_live()
     }
 
+    // Whether an error of the lexer is passed here.
+    fn passes_errors(&self) -> bool
+        ensures { result ≡ (not (is_live_among self.now.dead_for_good self.now.blocks)
+            && self.now.rules.passes_dead_errors) }
+    {
+        !self.is_live() && self.rules.passes_dead_errors
+    }
+
     // Reports the innermost block that is open at the end of the source or, without one, the end.
     fn end(&mut self) -> StepExit
         requires unspent { self.old.spent ≡ false }
         requires end { self.old.rest ≡ [] }
         ensures reads { StepsSource self.old (Err result) self.new }
-        ensures errors { ExitReports result (unreported_of self.old) (unreported_of self.new) }
+        ensures errors { ExitReports self.old.rules.passes_dead_errors result (unreported_of self.old)
+            (unreported_of self.new) }
     {
         match self.blocks.pop() {
             Some(block) => StepExit::Error((PreprocessorError::UnfinishedBlock, block.word)),
@@ -159,7 +171,8 @@ impl<'a> DirectiveProcessor<'a> {
         requires { self.old.spent ≡ false }
         ensures reads { StepsDirective hash self.old result self.new }
         ensures holds { IfOk result (λ token. HoldsOrdinary token.value) }
-        ensures errors { StepReports result (unreported_of self.old) (unreported_of self.new) }
+        ensures errors { StepReports self.old.rules.passes_dead_errors result
+            (unreported_of self.old) (unreported_of self.new) }
     {
         match self.read_directive(hash)? {
             Some(item) => Ok(item),
@@ -172,13 +185,21 @@ impl<'a> DirectiveProcessor<'a> {
         requires { self.old.spent ≡ false }
         ensures reads { StepsSource self.old result self.new }
         ensures holds { IfOk result (λ token. HoldsOrdinary token.value) }
-        ensures errors { StepReports result (unreported_of self.old) (unreported_of self.new) }
+        ensures errors { StepReports self.old.rules.passes_dead_errors result
+            (unreported_of self.old) (unreported_of self.new) }
     {
         if self.lexer.pass_newline() {
             return Err(StepExit::Continue);
         }
-        let Some(token) = self.lexer.next_token()? else {
-            return Err(self.end());
+        let token = match self.lexer.next_token() {
+            Ok(Some(token)) => token,
+            Ok(None) => return Err(self.end()),
+            Err(Halt::Fault(fault)) if self.passes_errors() => {
+                drop(fault);
+                self.lexer.take_error_place();
+                return Err(StepExit::Continue);
+            }
+            Err(halt) => return Err(StepExit::from(halt)),
         };
         match token.value {
             lexer::TokenValue::NewLine => {
@@ -208,13 +229,14 @@ impl<'a> DirectiveProcessor<'a> {
     /// `#undef`, `#if`, `#ifdef`, `#ifndef`, `#elif`, `#else`, `#endif` and `#line`. In live text `#version`,
     /// `#extension` and `#pragma` are tokens at their word, which hold the tokens of their line; `#error` is
     /// `ErrorDirective` at its word, and a number sign that begins no line is `UnexpectedHash` at its place. The
-    /// lexer's errors are passed on as they are. At the end `UnfinishedBlock` is reported for each block that is open,
-    /// the innermost first.
+    /// lexer's errors are given as they are, and in dead text passed if the rules say so. At the end `UnfinishedBlock`
+    /// is reported for each block that is open, the innermost first.
     #[inline(always)]
     pub fn step(&mut self) -> Step<Token>
         ensures reads { StepsSource self.old result self.new }
         ensures holds { IfOk result (λ token. HoldsOrdinary token.value) }
-        ensures errors { StepReports result (unreported_of self.old) (unreported_of self.new) }
+        ensures errors { StepReports self.old.rules.passes_dead_errors result
+            (unreported_of self.old) (unreported_of self.new) }
     {
         if self.lexer.is_spent() {
             return Err(StepExit::Finished);

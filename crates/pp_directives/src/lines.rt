@@ -1,6 +1,6 @@
 //! The lines of directives, read token by token.
 
-ghost use Rattle.std.specs.Prelude.{◌≡◌, ◌≢◌, [], false, Some, Ok, IsTrue, All, IfOk, IfSome};
+ghost use Rattle.std.specs.Prelude.{◌≡◌, ◌≢◌, [], true, false, Some, Ok, IsTrue, All, IfOk, IfSome};
 ghost use Rattle.pp_lexer.specs.Lexed.{comments_before};
 ghost use Rattle.pp_lexer.specs.TokenValue.{is_ordinary};
 ghost use Rattle.pp_model.specs.DefineLines.{is_attached_paren, definition_at, defined_on};
@@ -11,23 +11,27 @@ ghost use Rattle.pp_directives.specs.inner.DefineReading.{opens_list};
 ghost use Rattle.pp_macros.specs.Held.{is_ordinary_leaf};
 ghost use Rattle.pp_macros.specs.inner.LineReading as spec;
 ghost use Rattle.pp_directives.specs.inner.ReadNames.{as_named, as_placed};
-ghost use Rattle.pp_directives.specs.inner.ReadingLines.{AreOrdinary, ReadsNext, ReadsLine, ReadsTokens};
+ghost use Rattle.pp_directives.specs.inner.ReadingLines.{AreOrdinary, first_free_name, ReadsPart, ReadsNext};
+ghost use Rattle.pp_directives.specs.inner.ReadingLines.{ReadsLine, ReadsBy, ReadsTokens};
 ghost use Rattle.pp_macros.specs.inner.ParameterReading.{function_at};
 
 use crate::parameters::parameters;
 use crate::source_lexer::SourceLexer;
 use crate::token_list::{LineReads, TokenList};
 use pp_lexer::lexer::{self, Form};
-use pp_lexer::token::{Location, PreprocessorError, Punct, Text, Token, Tokens};
+use pp_lexer::rules::Rules;
+use pp_lexer::token::{Location, PreprocessorError, Punct, Text, Token, TokenValue, Tokens};
 use pp_macros::define::Define;
 use pp_macros::halt::Halt;
 use pp_model::conversion::{convert_lexer_token, refused_token};
+use pp_model::names::is_own_name;
 use std::alloc::Global;
 
 /// The next token. The end of the source is an error at the directive's word.
 pub fn first_token(word: Location, lexer: &mut SourceLexer<'_>) -> Result<lexer::Token, Halt>
     requires { lexer.old.spent ≡ false }
     ensures reads { ReadsNext (λ t. t) (first_token word) lexer.old result lexer.new }
+    ensures one { spec.FaultTakesOne result lexer.old lexer.new }
     ensures left { IfOk result (λ token. spec.LeavesSome (Some token) lexer.new.rest) }
 {
     match lexer.next_token()? {
@@ -57,6 +61,24 @@ pub fn first_name(word: Location, lexer: &mut SourceLexer<'_>) -> Result<PlacedN
     }
 }
 
+/// The name that comes next, unless the rules keep it. Anything else is an error.
+pub fn free_name(
+    rules: Rules,
+    word: Location,
+    lexer: &mut SourceLexer<'_>,
+) -> Result<PlacedName, Halt>
+    requires { lexer.old.spent ≡ false }
+    ensures reads { ReadsNext as_placed (first_free_name rules word) lexer.old result lexer.new }
+    ensures left { IfOk result (λ name. lexer.new.rest ≢ []) }
+{
+    let first = first_name(word, lexer)?;
+    if rules.keeps_own_names && is_own_name(&first.name) {
+        let refused = PreprocessorError::UnexpectedToken(TokenValue::Ident(first.name));
+        return Err(Halt::Fault((refused, first.location)));
+    }
+    Ok(first)
+}
+
 /// Fails unless the line ends here.
 pub fn ended_line(word: Location, lexer: &mut SourceLexer<'_>) -> Result<(), Halt>
     requires { lexer.old.spent ≡ false }
@@ -84,6 +106,7 @@ fn pass_token(lexer: &mut SourceLexer<'_>) -> Result<bool, Halt>
     requires { lexer.old.spent ≡ false }
     ensures reads { ReadsNext (λ t. t) spec.line_goes_on lexer.old result lexer.new }
     ensures fault { spec.FaultTakesSome result lexer.old lexer.new }
+    ensures one { spec.FaultTakesOne result lexer.old lexer.new }
 {
     if let Some(word) = lexer.peek_word() {
         lexer.pass_word(&word);
@@ -95,8 +118,32 @@ fn pass_token(lexer: &mut SourceLexer<'_>) -> Result<bool, Halt>
     }
 }
 
-/// Passes the rest of the line. An error of the lexer on it is returned.
-pub fn skip_line(lexer: &mut SourceLexer<'_>) -> Result<(), Halt>
+// Passes a token or an error of the lexer. Returns whether the line continues after it.
+fn pass_item(lexer: &mut SourceLexer<'_>) -> Result<bool, Halt>
+    requires { lexer.old.spent ≡ false }
+    ensures { ReadsPart true (λ t. t) (Ok (spec.item_goes_on lexer.old.rest)) 1 lexer.old result lexer.new }
+{
+    match pass_token(lexer) {
+        Err(Halt::Fault(fault)) => {
+            drop(fault);
+            lexer.take_error_place();
+            Ok(true)
+        }
+        passed => passed,
+    }
+}
+
+// Passes the rest of the line, and the errors of the lexer on it.
+fn pass_line(lexer: &mut SourceLexer<'_>) -> Result<(), Halt>
+    requires { lexer.old.spent ≡ false }
+    ensures { ReadsBy true (spec.passed_line true) lexer.old result lexer.new }
+{
+    'line: while pass_item(lexer)? {}
+    Ok(())
+}
+
+// Passes the rest of the line. An error of the lexer on it is returned.
+fn skip_tokens(lexer: &mut SourceLexer<'_>) -> Result<(), Halt>
     requires { lexer.old.spent ≡ false }
     ensures reads { ReadsLine (λ t. t) spec.skipped_line lexer.old result lexer.new }
     ensures fault { spec.FaultTakesSome result lexer.old lexer.new }
@@ -105,15 +152,33 @@ pub fn skip_line(lexer: &mut SourceLexer<'_>) -> Result<(), Halt>
     Ok(())
 }
 
-/// Reads the end of an `#endif` line, or skips it if the block's surroundings are dead.
-pub fn endif_end(live_around: bool, word: Location, lexer: &mut SourceLexer<'_>) -> Result<(), Halt>
+/// Passes the rest of the line. An error of the lexer on it is passed too, or else returned.
+pub fn skip_line(passes: bool, lexer: &mut SourceLexer<'_>) -> Result<(), Halt>
     requires { lexer.old.spent ≡ false }
-    ensures { ReadsLine (λ t. t) (spec.endif_end live_around word) lexer.old result lexer.new }
+    ensures reads { ReadsBy passes (spec.passed_line passes) lexer.old result lexer.new }
+    ensures fault { spec.FaultTakesSome result lexer.old lexer.new }
+{
+    if passes {
+        pass_line(lexer)
+    } else {
+        skip_tokens(lexer)
+    }
+}
+
+/// Reads the end of an `#endif` line, or skips it if the block's surroundings are dead.
+pub fn endif_end(
+    live_around: bool,
+    passes: bool,
+    word: Location,
+    lexer: &mut SourceLexer<'_>,
+) -> Result<(), Halt>
+    requires { lexer.old.spent ≡ false }
+    ensures { ReadsBy passes (spec.endif_end live_around passes word) lexer.old result lexer.new }
 {
     if live_around {
         ended_line(word, lexer)
     } else {
-        skip_line(lexer)
+        skip_line(passes, lexer)
     }
 }
 
@@ -285,13 +350,14 @@ fn definition(alloc: Global, word: Location, lexer: &mut SourceLexer<'_>) -> Res
 /// Reads a `#define` line, after its word.
 pub fn define_line(
     alloc: Global,
+    rules: Rules,
     word: Location,
     lexer: &mut SourceLexer<'_>,
 ) -> Result<DefineLine, Halt>
     requires { lexer.old.spent ≡ false }
-    ensures { ReadsLine as_named (defined_on word) lexer.old result lexer.new }
+    ensures { ReadsLine as_named (defined_on rules word) lexer.old result lexer.new }
 {
-    let PlacedName { name, location } = first_name(word, lexer)?;
+    let PlacedName { name, location } = free_name(rules, word, lexer)?;
     let define = definition(alloc, word, lexer)?;
     Ok(DefineLine {
         name,

@@ -82,7 +82,7 @@ pub fn parameters(
     ensures is { spec.Meets (λ names. parameters_to names lexer.new) result
         (parameters word lexer.old.rest) }
     ensures goes { GoesOnInLine result lexer.old lexer.new }
-    ensures errors { Reports result (unreported_at lexer.old) (unreported_at lexer.new) }
+    ensures errors { Reports false result (unreported_at lexer.old) (unreported_at lexer.new) }
 {
     let none = ParameterNames::new(alloc);
     let Some(first) = first_parameter(word, lexer)? else {

@@ -16,6 +16,7 @@ use Rattle.pp_model.proofs.existence.DefinitionLemmas.{with_one}
 use Rattle.pp_model.proofs.existence.EndLemmas.{an_end}
 use Rattle.pp_model.proofs.existence.RunLemmas.{start_finite}
 use Rattle.pp_model.proofs.existence.SourceLemmas.{HasFinite}
+use Rattle.pp_rs.specs.Rules.{pp_rs}
 use Rattle.pp_rs.specs.Comes.{State, nothing, first, IsRunFrom}
 use Rattle.pp_rs.specs.declared.token.Token.{Token}
 use Rattle.pp_print.specs.SourceRuns.{Definition, tokens_of, start_of, last_outcome, Adds, IsRunOf}
@@ -67,7 +68,7 @@ added (d ∷ ds) e finite accepted =
 -- A source and definitions have a run.
 pub a_run_of : ARun
 a_run_of source ds accepted =
-    let a = added ds (start_of source) (start_finite (items_of source)) accepted in
+    let a = added ds (start_of source) (start_finite pp_rs (items_of source)) accepted in
     let e = an_end (answers_at expansion_limit) (an_answer expansion_limit) a.after a.finite in
     let end = end_of e.1 (no_token a.after e.0 e.1 e.2) in
     (e.0, end.0, record { state = a.after; adds = a.adds; run = rw end.1 (is_run_from a.after e.0 e.1 e.2) })

@@ -1,4 +1,5 @@
 pub mod SpellingLemmas
+pub mod PassedErrorsLemmas
 pub mod UnreportedTurnLemmas
 pub mod Leads
 pub mod LeftLemmas

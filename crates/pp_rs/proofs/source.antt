@@ -14,5 +14,8 @@ pub mod StandsBlockLemmas
 pub mod EndSimulates
 pub mod BareSimulates
 pub mod LineSimulates
+pub mod ErrorFrontLemmas
+pub mod ErrorSimulates
 pub mod SourceSimulates
 pub mod ReaderInvariantLemmas
+pub mod RulesLemmas

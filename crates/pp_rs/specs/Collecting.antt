@@ -1,16 +1,16 @@
 -- One call of `append_all`, `preprocess_all` or `drain` (docs/RULES.md, "Calls").
-use Rattle.std.specs.Prelude.{◌≡◌, true, false, List, [], ◌∷◌, ◌++◌, Option, Some, None, Ok, Err, MatchBool, All}
+use Rattle.std.specs.Prelude.{◌≡◌, Bool, true, false, List, [], ◌∷◌, ◌++◌, Option, Some, None, Ok, Err, MatchBool, All}
 use Rattle.pp_lexer.specs.PreprocessorError.{out_of_memory}
 use Rattle.pp_lexer.specs.declared.token.Token.{Token}
 use Rattle.pp_model.specs.declared.outcome.Outcome.{Outcome}
 use Rattle.pp_model.specs.declared.outcome.Outcome.TheVariants as outcome
 use Rattle.pp_rs.specs.Comes.{State, Gives, IsRunFrom}
 use Rattle.pp_macros.specs.Item.{Fault, Item}
-use Rattle.pp_rs.specs.Kept.{Preprocessing, Stands, is_spent, most_items, errors_left, error_place}
+use Rattle.pp_rs.specs.Kept.{Preprocessing, Stands, is_spent, most_items, errors_left, error_place, rules_of}
 use Rattle.pp_macros.specs.Held.{ItemHoldsOrdinary}
 use Rattle.pp_macros.specs.LexerErrors.{ErrorAt}
 use Rattle.pp_lexer.specs.declared.token.Location.{Location}
-use Rattle.pp_rs.specs.Preprocessing.{IsNextItem}
+use Rattle.pp_rs.specs.Preprocessing.{PassesErrors, IsNextItem}
 
 -- the tokens before the first error item
 abbrev pub tokens_before_error : List Item → List Token
@@ -40,32 +40,39 @@ AreItemsOf old items =
     MatchBool (is_spent old) (items ≡ []) ((state : State) → Stands old state → AreItemsFrom state items)
 
 -- How items report the errors of the lexer. An error item is either the first error of the lexer that was not reported
--- yet, with its true place, or another error, which is at its own place. `left` and `after` are the errors that were
--- not reported before and after the items, `place` and `last` the place of the last error before and after them.
-pub data Reports : List Item → List ErrorAt → Location → List ErrorAt → Location → Type 0 where
+-- yet, with its true place, or another error, which is at its own place. Errors of dead text are passed, if the rules
+-- say so. `left` and `after` are the errors that were not reported before and after the items, `place` and `last` the
+-- place of the last error before and after them.
+pub data Reports (passes : Bool) : List Item → List ErrorAt → Location → List ErrorAt → Location → Type 0 where
   none : (items : List Item) (left after : List ErrorAt) (place last : Location)
       → items ≡ []
       → after ≡ left
       → last ≡ place
-      → Reports items left place after last
+      → Reports passes items left place after last
+  passed : (items : List Item) (left others after : List ErrorAt) (place last : Location)
+      → PassesErrors passes left others
+      → Reports passes items others place after last
+      → Reports passes items left place after last
   token : (first : Token) (rest items : List Item) (left after : List ErrorAt) (place last : Location)
-      → Reports rest left place after last
+      → Reports passes rest left place after last
       → items ≡ Ok first ∷ rest
-      → Reports items left place after last
+      → Reports passes items left place after last
   of_lexer : (first : Fault) (there : Location) (rest items : List Item) (others left after : List ErrorAt)
       (place last : Location)
       → left ≡ record { item = first; place = there } ∷ others
-      → Reports rest others there after last
+      → Reports passes rest others there after last
       → items ≡ Err first ∷ rest
-      → Reports items left place after last
+      → Reports passes items left place after last
   of_its_own : (first : Fault) (rest items : List Item) (left after : List ErrorAt) (place last : Location)
-      → Reports rest left first.1 after last
+      → Reports passes rest left first.1 after last
       → items ≡ Err first ∷ rest
-      → Reports items left place after last
+      → Reports passes items left place after last
 
 -- the same, for the preprocessor before the items and after them
 abbrev pub AreReported : Preprocessing → List Item → Preprocessing → Type 0
-AreReported old items new = Reports items (errors_left old) (error_place old) (errors_left new) (error_place new)
+AreReported old items new =
+    Reports (rules_of old).passes_dead_errors items (errors_left old) (error_place old) (errors_left new)
+    (error_place new)
 
 -- Up to and with the first error item these items came from the state. If none of them is an error, the preprocessor
 -- stands for the state after them, unless memory ran out for the next one. This says nothing of items after an error.

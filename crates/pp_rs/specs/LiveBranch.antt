@@ -3,11 +3,12 @@
 use Rattle.std.specs.Prelude.{◌≡◌, ℕ, ◌≤◌, ◌<◌, true, List, take, drop, length, Some, option_map}
 use Rattle.std.specs.List.{AllByRecursion as Each}
 use Rattle.pp_lexer.specs.Lexed.{Seen}
+use Rattle.pp_lexer.specs.declared.rules.Rules.{Rules}
 use Rattle.pp_model.specs.Blocks.{Truths, Block, line_at, blocks_at, innermost, is_last_chosen, are_surroundings_live}
 use Rattle.pp_model.specs.Blocks.{has_else}
 use Rattle.pp_model.specs.Calls.{Answers}
 use Rattle.pp_model.specs.Reading.{Expander}
-use Rattle.pp_model.specs.Run.{items_of}
+use Rattle.pp_model.specs.Run.{items_by}
 use Rattle.pp_model.specs.RunStates.{IsReached}
 use Rattle.pp_model.specs.Sights.{sight_of}
 use Rattle.pp_model.specs.SourceReader.{SourceReader}
@@ -49,6 +50,6 @@ pub record HasLiveBranches (reader : SourceReader) : Type 0 where
 -- this holds in each state of a run of a text
 abbrev pub RunHasLiveBranches : Answers → Type 0
 RunHasLiveBranches A =
-    (text : List ℕ) (e : Expander SourceReader)
-    → IsReached A (items_of text) e
+    (rules : Rules) (text : List ℕ) (e : Expander SourceReader)
+    → IsReached A rules (items_by rules text) e
     → HasLiveBranches e.reader

@@ -41,7 +41,7 @@ module _ (A : Answers) (name : Name) (place after : Location) (b f c g : Bool) (
   items = word_of name place b f s ∷ newline_of after c g n ∷ []
 
   abbrev reader_at : ℕ → SourceReader
-  reader_at position = record (reader_at_start items) { position = position }
+  reader_at position = record (reader_at_start pp_rs items) { position = position }
 
   abbrev state_at : ℕ → Expander SourceReader
   state_at position = record (start items) { reader = reader_at position }

@@ -74,7 +74,7 @@ PassesNewline old answer new = MatchBool answer (TakesNewline old new) (new ≡ 
 -- one step of a source that reports the errors of its lexer
 pub record IsStep (old : Source) (step : Step Token) (new : Source) : Type 0 where
   pub reads : StepsSource old step new
-  pub errors : StepReports step (unreported_of old) (unreported_of new)
+  pub errors : StepReports old.rules.passes_dead_errors step (unreported_of old) (unreported_of new)
 
 -- the text is live, and memory didn't run out
 pub record IsInText (source : Source) : Type 0 where

@@ -1,7 +1,8 @@
 -- What a directive does once its word or its number sign has been read.
-use Rattle.std.specs.Prelude.{◌≡◌, ◌≤◌, ◌+◌, Bool, false, not, if◌then◌else◌, List, length, drop, Option, Some, None}
-use Rattle.std.specs.Prelude.{Result, Ok, Err, IfOk, ⊤}
+use Rattle.std.specs.Prelude.{◌≡◌, ◌≤◌, ◌+◌, Bool, false, not, ◌&&◌, if◌then◌else◌, List, length, drop, Option, Some}
+use Rattle.std.specs.Prelude.{None, Result, Ok, Err, IfOk, ⊤}
 use Rattle.pp_lexer.specs.Lexed.{Seen}
+use Rattle.pp_lexer.specs.declared.rules.Rules.{Rules}
 use Rattle.pp_lexer.specs.declared.lexer.item.Token.{Token as LexerToken}
 use Rattle.pp_lexer.specs.declared.token.PreprocessorError.TheVariants.{DefineRedefined}
 use Rattle.pp_lexer.specs.declared.token.Token.{Token}
@@ -30,9 +31,10 @@ use Rattle.pp_macros.specs.declared.halt.Halt.{Halt}
 use Rattle.pp_macros.specs.declared.halt.Halt.TheVariants as halt
 use Rattle.pp_macros.specs.declared.step.StepExit.TheVariants.{Continue}
 
--- All that is known after a fault: no more items and open blocks are left, the same names have numbers, no more tokens
--- of bodies are defined, and memory didn't run out.
+-- All that is known after a fault: the rules are the same, no more items and open blocks are left, the same names have
+-- numbers, no more tokens of bodies are defined, and memory didn't run out.
 pub record HasKept (old new : Source) : Type 0 where
+  pub rules : new.rules ≡ old.rules
   pub left : length new.rest + length new.blocks ≤ length old.rest + length old.blocks
   pub names : names_in new.definitions ≡ names_in old.definitions
   pub tokens : body_tokens new.definitions ≤ body_tokens old.definitions
@@ -60,12 +62,13 @@ DoesMove shows note change move old (Err (halt.Fault fault)) new =
     FailsWith move.effect old.definitions fault × HasKept old new
 DoesMove shows note change move old (Err halt.OutOfMemory) new = ⊤
 
--- A directive does so; what it gives holds ordinary tokens; and an error of the lexer that it reads is reported.
+-- A directive does so; what it gives holds ordinary tokens; and an error of the lexer that it reads is reported, unless
+-- it is passed.
 pub record ActsAs {A : Type 0} (shows : A → Step Token) (note : Note) (change : BlockChange) (move : Move)
     (old : Source) (result : Result A Halt) (new : Source) : Type 0 where
   pub acts : DoesMove shows note change move old result new
   pub holds : IfOk result (λ value. IfOk (shows value) (λ token. HoldsOrdinary token.value))
-  pub errors : Reports result (unreported_of old) (unreported_of new)
+  pub errors : Reports old.rules.passes_dead_errors result (unreported_of old) (unreported_of new)
 
 -- a directive that gives nothing, as one that may give an item
 abbrev pub without_item : Result (Unit {0}) Halt → Result (Option Token) Halt
@@ -102,15 +105,16 @@ abbrev pub word_change : Result LexerToken Fault → BlockChange
 word_change first = block_change_at (directive_sight first)
 
 -- what a directive does after its number sign, if this token follows it, and then these items
-abbrev pub name_move : Bool → Option BlockFacts → LexerToken → Option Name → List Seen → Move
-name_move live block token (Some name) after =
-    taking_more 1 (directive_move live block (directive_of name) token.location after)
-name_move live block token None after =
+abbrev pub name_move : Rules → Bool → Option BlockFacts → LexerToken → Option Name → List Seen → Move
+name_move rules live block token (Some name) after =
+    taking_more 1 (directive_move rules live block (directive_of name) token.location after)
+name_move rules live block token None after =
     if is_newline token.value then passing 1 else if live then failing (refused_token token) else passing 1
 
-abbrev pub word_move : Bool → Option BlockFacts → Result LexerToken Fault → List Seen → Move
-word_move live block (Ok token) after = name_move live block token (identifier_of token.value) after
-word_move live block (Err fault) after = failing fault
+abbrev pub word_move : Rules → Bool → Option BlockFacts → Result LexerToken Fault → List Seen → Move
+word_move rules live block (Ok token) after = name_move rules live block token (identifier_of token.value) after
+word_move rules live block (Err fault) after =
+    if not live && rules.passes_dead_errors then passing 1 else failing fault
 
 -- what a directive of this source does and gives after its number sign, which is at `hash`
 abbrev pub GivesDirective : Location → Source → Result (Option Token) Halt → Source → Type 0
@@ -118,7 +122,7 @@ GivesDirective hash old result new =
     let live = is_live_among old.dead_for_good old.blocks in
     let first = first_token hash old.rest in
     GivesNoted (word_note live first) (word_change first)
-    (word_move live (facts_among old.blocks) first (drop 1 old.rest)) old result new
+    (word_move old.rules live (facts_among old.blocks) first (drop 1 old.rest)) old result new
 
 -- and this as a step
 pub record StepsDirective (hash : Location) (old : Source) (step : Step Token) (new : Source) : Type 0 where

@@ -9,6 +9,7 @@ use Rattle.pp_macros.specs.inner.Source.{Source}
 abbrev pub source_start : Rules → List ℕ → Source
 source_start rules input =
     record {
+      rules = rules;
       rest = (start_by rules (spots_of input)).rest;
       places = places_by rules (spots_of input);
       error_place = None;

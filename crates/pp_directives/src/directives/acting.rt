@@ -1,7 +1,9 @@
 //! What the lines of directives do, in live and in dead text.
 
 ghost use Rattle.std.specs.Prelude.{◌≡◌, ◌≢◌, [], drop, false, true, pos, ◌-ℤ◌};
-ghost use Rattle.pp_model.specs.Lines.{only_name, line_tokens, comments_before_end, first_token};
+ghost use Rattle.pp_model.specs.Lines.{line_tokens, comments_before_end, first_token};
+ghost use Rattle.pp_model.specs.DefineLines.{undefined_on};
+ghost use Rattle.pp_model.specs.Reads.{numbered_line};
 ghost use Rattle.pp_model.specs.Blocks.{part_of};
 ghost use Rattle.pp_model.specs.declared.directive.Directive.TheVariants as d;
 ghost use Rattle.pp_directives.specs.inner.ReadNames.{as_named};
@@ -14,7 +16,7 @@ ghost use Rattle.pp_model.specs.Moves as moves;
 use crate::directives::DirectiveProcessor;
 use crate::line_value::line_number;
 use crate::lines::{
-    DefineLine, define_line, ended_line, first_name, first_token, line_reads, line_tokens,
+    DefineLine, define_line, ended_line, first_token, free_name, line_reads, line_tokens,
     only_name, skip_line,
 };
 use pp_lexer::lexer;
@@ -61,30 +63,32 @@ impl<'a> DirectiveProcessor<'a> {
     // Acts on a `#define` line, after its word.
     fn define(&mut self, word: Location) -> Result<(), Halt>
         requires { self.old.spent ≡ false }
-        ensures { Acts unchanged (moves.directive_move true
+        ensures { Acts unchanged (moves.directive_move self.old.rules true
             (facts_among self.old.blocks) d.Define word self.old.rest) self.old result self.new }
     {
-        let line = define_line(self.alloc, word, &mut self.lexer)?;
+        let line = define_line(self.alloc, self.rules, word, &mut self.lexer)?;
         self.add(line)
     }
 
     // Acts on an `#undef` line, after its word. A name that is followed by more tokens is undefined too.
     fn undef(&mut self, word: Location) -> Result<(), Halt>
         requires { self.old.spent ≡ false }
-        ensures { Acts unchanged (moves.line_move (only_name word self.old.rest)
+        ensures { Acts unchanged (moves.line_move (undefined_on self.old.rules word self.old.rest)
             moves.undefines self.old.rest) self.old result self.new }
     {
-        let first = first_name(word, &mut self.lexer)?;
+        let first = free_name(self.rules, word, &mut self.lexer)?;
         self.definitions.remove(first.name.as_str());
         drop(first);
         ended_line(word, &mut self.lexer)
     }
 
-    // Shows the line as this number from now on, and the lines after it accordingly.
+    // Shows the line that a `#line` here numbers as this number from now on, and the lines after it accordingly.
     fn count_from(&mut self, line: u32, number: u32)
-        ensures { self.new ≡ record self.old { line_offset = pos number -ℤ pos line } }
+        ensures { self.new ≡ record self.old
+            { line_offset = pos number -ℤ pos (numbered_line self.old.rules line) } }
     {
-        self.line_offset = i64::from(number) - i64::from(line);
+        let numbered = i64::from(line) + i64::from(self.rules.numbers_next_line);
+        self.line_offset = i64::from(number) - numbered;
     }
 
     // Acts on a `#line` line, after its word: the next lines are numbered from its first number, also if only what
@@ -119,9 +123,9 @@ impl<'a> DirectiveProcessor<'a> {
     // Skips the line.
     fn skip(&mut self) -> Result<(), Halt>
         requires { self.old.spent ≡ false }
-        ensures { Acts unchanged (moves.skip_move self.old.rest) self.old result self.new }
+        ensures { Acts unchanged (moves.skip_move self.old.rules self.old.rest) self.old result self.new }
     {
-        skip_line(&mut self.lexer)
+        skip_line(self.rules.passes_dead_errors, &mut self.lexer)
     }
 
     // A `#version` line as an item.
@@ -180,7 +184,7 @@ impl<'a> DirectiveProcessor<'a> {
     fn act_live(&mut self, directive: Directive, word: Location) -> Result<Option<Token>, Halt>
         requires unspent { self.old.spent ≡ false }
         requires left { self.old.rest ≢ [] }
-        ensures { Gives (block_change (part_of directive) word) (moves.directive_move true
+        ensures { Gives (block_change (part_of directive) word) (moves.directive_move self.old.rules true
             (facts_among self.old.blocks) directive word self.old.rest) self.old result self.new }
     {
         match directive {
@@ -204,7 +208,7 @@ impl<'a> DirectiveProcessor<'a> {
     // Acts on a directive in dead text, after its word.
     fn act_dead(&mut self, directive: Directive, word: Location) -> Result<(), Halt>
         requires { self.old.spent ≡ false }
-        ensures { Acts (block_change (part_of directive) word) (moves.directive_move false
+        ensures { Acts (block_change (part_of directive) word) (moves.directive_move self.old.rules false
             (facts_among self.old.blocks) directive word self.old.rest) self.old result self.new }
     {
         match directive {
@@ -229,7 +233,7 @@ impl<'a> DirectiveProcessor<'a> {
         requires { self.old.spent ≡ false }
         ensures { GivesNoted (word_note true (first_token hash self.old.rest))
             (word_change (first_token hash self.old.rest))
-            (word_move true (facts_among self.old.blocks) (first_token hash self.old.rest)
+            (word_move self.old.rules true (facts_among self.old.blocks) (first_token hash self.old.rest)
             (drop 1 self.old.rest)) self.old result self.new }
     {
         let token = first_token(hash, &mut self.lexer)?;
@@ -257,15 +261,24 @@ impl<'a> DirectiveProcessor<'a> {
         }
     }
 
-    // Acts on a directive in dead text, after its number sign. Without a word after the number sign it does nothing.
+    // Acts on a directive in dead text, after its number sign. Without a word after the number sign it does nothing,
+    // and an error of the lexer there is passed if the rules say so.
     fn read_dead(&mut self, hash: Location) -> Result<(), Halt>
         requires { self.old.spent ≡ false }
         ensures { ActsNoted (word_note false (first_token hash self.old.rest))
             (word_change (first_token hash self.old.rest))
-            (word_move false (facts_among self.old.blocks) (first_token hash self.old.rest)
+            (word_move self.old.rules false (facts_among self.old.blocks) (first_token hash self.old.rest)
             (drop 1 self.old.rest)) self.old result self.new }
     {
-        let token = first_token(hash, &mut self.lexer)?;
+        let token = match first_token(hash, &mut self.lexer) {
+            Ok(token) => token,
+            Err(Halt::Fault(fault)) if self.rules.passes_dead_errors => {
+                drop(fault);
+                self.lexer.take_error_place();
+                return Ok(());
+            }
+            Err(halt) => return Err(halt),
+        };
         let word = token.location;
         match token.value {
             lexer::TokenValue::Ident(name) => {

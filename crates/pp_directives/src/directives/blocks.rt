@@ -53,20 +53,20 @@ impl<'a> DirectiveProcessor<'a> {
     pub(crate) fn open_unread(&mut self, word: Location) -> Result<(), Halt>
         requires { self.old.spent ≡ false }
         ensures { Acts (block_change (Some part.Opens) word)
-            (moves.skip_move self.old.rest) self.old result self.new }
+            (moves.skip_move self.old.rules self.old.rest) self.old result self.new }
     {
         self.blocks.push(OpenBlock::unread(word))?;
-        skip_line(&mut self.lexer)
+        skip_line(self.rules.passes_dead_errors, &mut self.lexer)
     }
 
     // Skips the branch after an `#elif` of the innermost block, also if its line has a fault.
     fn skip_branch(&mut self, block: OpenBlock) -> Result<(), Halt>
         requires unspent { self.old.spent ≡ false }
         requires innermost { last_block self.old.blocks ≡ Some block }
-        ensures { Acts elif_change (moves.skip_move self.old.rest) self.old result self.new }
+        ensures { Acts elif_change (moves.skip_move self.old.rules self.old.rest) self.old result self.new }
     {
         self.blocks.replace_last(block.skipped());
-        skip_line(&mut self.lexer)
+        skip_line(self.rules.passes_dead_errors, &mut self.lexer)
     }
 
     // Begins a new branch of the innermost block by the condition on the line. After a fault the branch is dead.
@@ -94,7 +94,7 @@ impl<'a> DirectiveProcessor<'a> {
     pub(crate) fn elif_line(&mut self, word: Location) -> Result<(), Halt>
         requires { self.old.spent ≡ false }
         ensures { Acts elif_change
-            (moves.elif_move (facts_among self.old.blocks) word self.old.rest)
+            (moves.elif_move self.old.rules (facts_among self.old.blocks) word self.old.rest)
             self.old result self.new }
     {
         let Some(block) = self.blocks.last() else {
@@ -133,12 +133,17 @@ impl<'a> DirectiveProcessor<'a> {
     pub(crate) fn endif_line(&mut self, word: Location) -> Result<(), Halt>
         requires { self.old.spent ≡ false }
         ensures { Acts (block_change (Some part.Closes) word)
-            (moves.endif_move (facts_among self.old.blocks) word self.old.rest)
+            (moves.endif_move self.old.rules (facts_among self.old.blocks) word self.old.rest)
             self.old result self.new }
     {
         let Some(block) = self.blocks.pop() else {
             return Err(Halt::Fault((PreprocessorError::EndifOutsideOfBlock, word)));
         };
-        endif_end(block.live_around, word, &mut self.lexer)
+        endif_end(
+            block.live_around,
+            self.rules.passes_dead_errors,
+            word,
+            &mut self.lexer,
+        )
     }
 }

@@ -79,7 +79,7 @@ module _ (old new : Source) where
       go true h = stays (ap (λ (s : Source). s.definitions) h.1)
       go false (inl h) = absurd (let bad : true ≡ false = rw h.fault at reported in cc)
       go false (inr h) =
-          let move = move_of old.dead_for_good old.blocks old.rest in
+          let move = move_of old.rules old.dead_for_good old.blocks old.rest in
           effect_grows move.effect move.taken (note_of old.dead_for_good old.blocks old.rest) (block_change_at (sight_of old.rest)) step h
 
 given_wants : (given : Step Token) → wants_memory (unpainted_step given) ≡ wants_memory given

@@ -1,6 +1,7 @@
 -- A directive takes at least as many items as it defines tokens, without its number sign and its word.
 use Rattle.std.proofs.Common.{◌≡◌, ℕ, ◌≤◌, Bool, List, length, subst, arith, Option, Result, Ok, IfOk}
 use Rattle.pp_lexer.specs.Lexed.{Seen}
+use Rattle.pp_lexer.specs.declared.rules.Rules.{Rules}
 use Rattle.pp_lexer.specs.declared.token.Location.{Location}
 use Rattle.pp_model.specs.Calls.{Fault}
 use Rattle.pp_model.specs.DefineLines.{defined_on}
@@ -22,20 +23,20 @@ pub record IsWithin (move : Move) (count : ℕ) : Type 0 where
   pub adds : effect_adds move.effect ≤ move.taken
   pub taken : move.taken ≤ count
 
-module _ (word : Location) (after : List Seen) where
+module _ (rules : Rules) (word : Location) (after : List Seen) where
   line_within : (effect : Effect) → effect_adds effect ≤ 0 → IsWithin (over_line effect after) (length after)
   line_within effect few = record { adds = omega (arith, few); taken = line_length_least after }
 
-  define_within : (named : Named) → defined_on word after ≡ Ok named → IsWithin (over_line (defines named) after) (length after)
+  define_within : (named : Named) → defined_on rules word after ≡ Ok named → IsWithin (over_line (defines named) after) (length after)
   define_within named e =
       let low : length named.definition.body ≤ line_length after =
-      subst (λ (r : Result Named Fault). IfOk r (λ n. length n.definition.body ≤ line_length after)) e (defined_least word after) in
+      subst (λ (r : Result Named Fault). IfOk r (λ n. length n.definition.body ≤ line_length after)) e (defined_least rules word after) in
       record { adds = omega (arith, low); taken = line_length_least after }
 
   pub directive_within : (live : Bool) (block : Option BlockFacts) (directive : Directive)
-      → IsWithin (directive_move live block directive word after) (length after)
+      → IsWithin (directive_move rules live block directive word after) (length after)
   directive_within live block directive =
-      directive_holds (λ move. IsWithin move (length after)) block word after live directive (record {
+      directive_holds (λ move. IsWithin move (length after)) rules block word after live directive (record {
         failing = λ fault. record { adds = omega arith; taken = omega arith };
         refusing = λ fault. line_within _ (omega arith);
         unknown = λ live its. record { adds = omega arith; taken = omega arith };

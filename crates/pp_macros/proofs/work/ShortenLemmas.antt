@@ -1,10 +1,12 @@
 -- A move takes more than it adds: fewer items and open blocks are left after it.
-use Rattle.std.proofs.Common.{◌≡◌, ℕ, ◌+◌, ◌-◌, ◌<◌, ◌≤◌, Bool, true, false, List, [], ◌∷◌, ◌++◌, length, drop, length-drop, append-nil, refl, ap, arith, Option, Some, None}
+use Rattle.std.proofs.Common.{◌≡◌, ℕ, ◌+◌, ◌-◌, ◌<◌, ◌≤◌, Bool, true, false, not, ◌&&◌, if◌then◌else◌, List, [], ◌∷◌, ◌++◌, length, drop, length-drop, append-nil, refl, ap, arith, Option, Some, None}
 use Rattle.std.specs.Option.{option_map_or}
 use Rattle.std.proofs.lemmas.List.{length-take, length_push}
 use Rattle.pp_lexer.specs.Lexed.{Seen}
+use Rattle.pp_lexer.specs.declared.rules.Rules.{Rules}
 use Rattle.pp_lexer.specs.declared.token.Location.{Location}
 use Rattle.pp_model.specs.Blocks.{part_of}
+use Rattle.pp_model.specs.Calls.{Fault}
 use Rattle.pp_model.specs.Sights.{sight_of}
 use Rattle.pp_model.specs.declared.block.Part.{Part}
 use Rattle.pp_model.specs.declared.block.Part.TheVariants as part
@@ -13,9 +15,10 @@ use Rattle.pp_model.specs.declared.sight.Sight.{Sight}
 use Rattle.pp_model.specs.declared.sight.Sight.TheVariants as sight
 use Rattle.pp_macros.specs.inner.OpenBlocks.{last_block, outer_blocks, with_last, facts_among, is_live_among, block_parted, block_begun, block_branched, block_change, block_change_at}
 use Rattle.pp_macros.specs.declared.blocks.OpenBlock.{OpenBlock}
-use Rattle.pp_model.specs.Moves.{BlockFacts, Effect, fails, ends, Move, directive_move, move_at}
+use Rattle.pp_model.specs.Moves.{BlockFacts, Effect, fails, ends, passes, Move, failing, passing, directive_move, error_length, move_at}
 use Rattle.pp_model.specs.inner.Moves.{taking_more}
 use Rattle.pp_macros.specs.inner.SourceMoves.{move_of}
+use Rattle.pp_model.proofs.MovesLemmas.{error_taken}
 use Rattle.pp_macros.proofs.work.DirectiveLineLemmas.{begins_directive}
 use Rattle.pp_macros.proofs.work.MoveSizeLemmas.{effect_adds, IsWithin, directive_within}
 
@@ -78,16 +81,21 @@ two_items rest directive word e =
     let front = ap length (begins_directive rest directive word e).front in
     omega (arith, front)
 
-module _ (block : Option BlockFacts) (blocks : ℕ) (rest : List Seen) where
+module _ (rules : Rules) (block : Option BlockFacts) (blocks : ℕ) (rest : List Seen) where
+  fault_shortens : (fault : Fault) (passed : Bool) → 0 < length rest
+      → Shortens 0 (if passed then passing (error_length rest) else failing fault) (length rest) blocks
+  fault_shortens fault true some e = omega (arith, some, error_taken rest)
+  fault_shortens fault false some e = absurd (cc)
+
   within_shortens : (more : ℕ) → more ≤ 1 → (move : Move) → IsWithin move (length (drop 2 rest)) → 2 ≤ length rest
       → left_after more (taking_more 2 move) (length rest) blocks < length rest + blocks
   within_shortens more few move within two = omega (arith, few, within.adds, within.taken, length-drop 2 rest)
 
   shown_shortens : (live : Bool) (shown : Sight) → sight_of rest ≡ shown → 0 < length rest
-      → Shortens (sight_adds shown) (move_at live block shown rest) (length rest) blocks
+      → Shortens (sight_adds shown) (move_at rules live block shown rest) (length rest) blocks
   shown_shortens live sight.End is some e = absurd (cc)
   shown_shortens live sight.NewLine is some e = omega arith
-  shown_shortens live (sight.Fault fault) is some e = absurd (cc)
+  shown_shortens live (sight.Fault fault) is some e = fault_shortens fault (not live && rules.passes_dead_errors) some e
   shown_shortens true (sight.Token token) is some e = omega arith
   shown_shortens false (sight.Token token) is some e = omega arith
   shown_shortens true (sight.Hash location) is some e = absurd (cc)
@@ -96,12 +104,12 @@ module _ (block : Option BlockFacts) (blocks : ℕ) (rest : List Seen) where
   shown_shortens true (sight.NoWord fault) is some e = absurd (cc)
   shown_shortens false (sight.NoWord fault) is some e = omega arith
   shown_shortens live (sight.Directive directive word) is some e =
-      within_shortens (part_adds (part_of directive)) (part_adds_one (part_of directive)) (directive_move live block directive word (drop 2 rest))
-      (directive_within word (drop 2 rest) live block directive) (two_items rest directive word is)
+      within_shortens (part_adds (part_of directive)) (part_adds_one (part_of directive)) (directive_move rules live block directive word (drop 2 rest))
+      (directive_within rules word (drop 2 rest) live block directive) (two_items rest directive word is)
 
 -- each move takes more than it adds
-pub move_of_shortens : (dead : Bool) (blocks : List OpenBlock) (rest : List Seen)
-    → Shortens (sight_adds (sight_of rest)) (move_of dead blocks rest) (length rest) (length blocks)
-move_of_shortens dead blocks [] e = absurd (cc)
-move_of_shortens dead blocks (s ∷ rest) e =
-    shown_shortens (facts_among blocks) (length blocks) (s ∷ rest) (is_live_among dead blocks) (sight_of (s ∷ rest)) refl (omega arith) e
+pub move_of_shortens : (rules : Rules) (dead : Bool) (blocks : List OpenBlock) (rest : List Seen)
+    → Shortens (sight_adds (sight_of rest)) (move_of rules dead blocks rest) (length rest) (length blocks)
+move_of_shortens rules dead blocks [] e = absurd (cc)
+move_of_shortens rules dead blocks (s ∷ rest) e =
+    shown_shortens rules (facts_among blocks) (length blocks) (s ∷ rest) (is_live_among dead blocks) (sight_of (s ∷ rest)) refl (omega arith) e

@@ -6,6 +6,7 @@ use Rattle.std.specs.Prelude.{pos, ◌-ℤ◌}
 use Rattle.pp_lexer.specs.declared.token.Location.{Location}
 use Rattle.pp_lexer.specs.declared.token.Token.{Token}
 use Rattle.pp_model.specs.Definitions.{Definition}
+use Rattle.pp_model.specs.Reads.{numbered_line}
 use Rattle.pp_model.specs.declared.definition.Named.{Named}
 use Rattle.pp_macros.specs.inner.Defined.{Defined, names_in, meaning_of, body_tokens}
 use Rattle.pp_macros.specs.Item.{Step}
@@ -81,7 +82,7 @@ renumbers_shrinks : (old new : Source) (word : Location) (tokens : List Token) (
     → length old.rest - taken + length old.blocks + 0 < length old.rest + length old.blocks
     → Renumbers word tokens taken note old step new → Shrinks old new
 renumbers_shrinks old new word tokens taken note step low (numbers n number h) =
-    let k = passed_shrinks (record old { line_offset = pos n -ℤ pos word.line }) new taken 0 note old.blocks h.1 h.2 low (omega arith) in
+    let k = passed_shrinks (record old { line_offset = pos n -ℤ pos (numbered_line old.rules word.line) }) new taken 0 note old.blocks h.1 h.2 low (omega arith) in
     record { shorter = k.shorter; names = k.names; steps = k.steps }
 renumbers_shrinks old new word tokens taken note step low (unnumbered fault number failed left) = fault_shrinks old new left
 
@@ -116,7 +117,7 @@ module _ (old new : Source) where
   source_shrinks step h on = go old.spent h
     where
       move : Move
-      move = move_of old.dead_for_good old.blocks old.rest
+      move = move_of old.rules old.dead_for_good old.blocks old.rest
 
       shown : Sight
       shown = sight_of old.rest
@@ -129,4 +130,4 @@ module _ (old new : Source) where
       go false (inl h) = absurd (goes_on_not_want step on h.fault)
       go false (inr h) =
           effect_shrinks move.taken note (block_change_at shown) (sight_adds shown) (λ condition. sight_least shown condition old.blocks) step
-          (goes_on_not_end step on) move.effect (move_of_shortens old.dead_for_good old.blocks old.rest) h
+          (goes_on_not_end step on) move.effect (move_of_shortens old.rules old.dead_for_good old.blocks old.rest) h

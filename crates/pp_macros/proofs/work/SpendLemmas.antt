@@ -93,7 +93,7 @@ source_end_stays old new h = go old.spent h
     go true h = h.1
     go false (inl h) = let bad = h.fault in cc
     go false (inr h) =
-        let move = move_of old.dead_for_good old.blocks old.rest in
+        let move = move_of old.rules old.dead_for_good old.blocks old.rest in
         effect_stays move.effect move.taken (note_of old.dead_for_good old.blocks old.rest) (block_change_at (sight_of old.rest)) old new h
 
 -- what a step of a reader leaves: less, but at the end

@@ -10,7 +10,7 @@ use Rattle.pp_lexer.specs.declared.token.Token.{Token}
 use Rattle.pp_model.specs.Calls.{Fault}
 use Rattle.pp_model.specs.Conversions.{is_newline, conversion}
 use Rattle.pp_model.specs.inner.Emitting.{token_before}
-use Rattle.pp_model.specs.Lines.{line_tokens, line_length, line_fault, comments_before_end, ended_line}
+use Rattle.pp_model.specs.Lines.{line_tokens, line_length, line_fault, comments_before_end, ended_line, ends_line}
 use Rattle.pp_expression.specs.Answers.{◌>>=◌}
 use Rattle.pp_macros.specs.inner.SourceLexed.{SourceLexed}
 use Rattle.pp_macros.specs.declared.halt.Halt.{Halt}
@@ -43,6 +43,12 @@ abbrev pub FaultTakesSome : {A : Type 0} → Result A Halt → SourceLexed → S
 FaultTakesSome (Ok value) old new = ⊤
 FaultTakesSome (Err (halt.Fault fault)) old new = length new.rest < length old.rest
 FaultTakesSome (Err halt.OutOfMemory) old new = ⊤
+
+-- a fault takes the item in front, if there is one
+abbrev pub FaultTakesOne : {A : Type 0} → Result A Halt → SourceLexed → SourceLexed → Type 0
+FaultTakesOne (Ok value) old new = ⊤
+FaultTakesOne (Err (halt.Fault fault)) old new = HasTaken 1 old new
+FaultTakesOne (Err halt.OutOfMemory) old new = ⊤
 
 -- memory runs out only if something is left
 abbrev pub RefusedWithin : {A : Type 0} → Result A Halt → List Seen → Type 0
@@ -106,13 +112,22 @@ abbrev pub line_goes_on : List Seen → Result Bool Fault
 line_goes_on [] = Ok false
 line_goes_on (s ∷ rest) = goes_on_after s.item
 
+-- the same where an error of the lexer is passed
+abbrev pub item_goes_on : List Seen → Bool
+item_goes_on [] = false
+item_goes_on (s ∷ rest) = not (ends_line s.item)
+
 -- a line that is skipped, except for the lexer's errors
 abbrev pub skipped_line : List Seen → Result (Unit {0}) Fault
 skipped_line rest = unless_fault (line_fault rest) (Ok tt)
 
+-- the same by rules that pass the lexer's errors there, or don't
+abbrev pub passed_line : Bool → List Seen → Result (Unit {0}) Fault
+passed_line passes rest = if passes then Ok tt else skipped_line rest
+
 -- the end of an `#endif` line: it is skipped if the surroundings of the block are dead
-abbrev pub endif_end : Bool → Location → List Seen → Result (Unit {0}) Fault
-endif_end live_around word rest = if live_around then ended_line word rest else skipped_line rest
+abbrev pub endif_end : Bool → Bool → Location → List Seen → Result (Unit {0}) Fault
+endif_end live_around passes word rest = if live_around then ended_line word rest else passed_line passes rest
 
 abbrev pub IsOrdinaryIfOk : Result (Option Token) Halt → Type 0
 IsOrdinaryIfOk result = IfOk result (λ token. IfSome token (λ t. IsTrue (is_ordinary t.value)))

@@ -44,7 +44,7 @@ StepsListed old step new =
 pub record ReadsSource (old : Source) (step : Step Read) (new : Source) : Type 0 where
   pub given : Step Token
   pub steps : StepsSource old given new
-  pub reports : StepReports given (unreported_of old) (unreported_of new)
+  pub reports : StepReports old.rules.passes_dead_errors given (unreported_of old) (unreported_of new)
   pub is : step ≡ unpainted_step given
 
 -- one step of a reader: a source stays a source, a list a list

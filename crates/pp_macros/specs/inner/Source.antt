@@ -2,6 +2,7 @@
 use Rattle.std.specs.Prelude.{◌≡◌, ◌≢◌, ℕ, ◌+◌, ◌<◌, ◌≤◌, ◌⊎◌, Bool, false, not, ◌||◌, is_some, List, []}
 use Rattle.std.specs.Prelude.{length, drop, Option, Some, None, Result, Ok, Err, MatchBool, ℤ, pos, ◌-ℤ◌}
 use Rattle.pp_lexer.specs.Lexed.{Seen}
+use Rattle.pp_lexer.specs.declared.rules.Rules.{Rules}
 use Rattle.pp_lexer.specs.PreprocessorError.{out_of_memory}
 use Rattle.pp_lexer.specs.declared.token.PreprocessorError.TheVariants.{DefineRedefined, UnfinishedBlock}
 use Rattle.pp_lexer.specs.declared.token.Token.{Token}
@@ -10,6 +11,7 @@ use Rattle.pp_model.specs.Calls.{Fault}
 use Rattle.pp_model.specs.Definitions.{Definition, IsSameDefinition}
 use Rattle.pp_model.specs.Emitting.{answers_at, expansion_limit}
 use Rattle.pp_model.specs.LineValues.{IsCondition, IsLineNumber}
+use Rattle.pp_model.specs.Reads.{numbered_line}
 use Rattle.pp_model.specs.declared.definition.Named.{Named}
 use Rattle.pp_macros.specs.Item.{Step}
 use Rattle.pp_macros.specs.inner.Defined.{Defined, meaning_of, names_in, body_tokens, IsChanged}
@@ -22,11 +24,12 @@ use Rattle.pp_macros.specs.inner.SourceMoves.{Note, notes_text, notes_directive,
 use Rattle.pp_macros.specs.inner.Unreported.{Unreported, unreported}
 use Rattle.pp_macros.specs.declared.step.StepExit.TheVariants.{Error, Continue, Finished}
 
--- the items that are left, with their places; the place of an error of the lexer that was read and not reported; what
--- is defined; the open blocks, the outermost first; what `#line` adds to a line; whether memory ran out; whether a live
--- token of the text was read so far, and whether a directive was; and whether an `#elif` outside of all blocks made all
--- that follows dead
+-- the rules by which it is read; the items that are left, with their places; the place of an error of the lexer that
+-- was read and not reported; what is defined; the open blocks, the outermost first; what `#line` adds to a line;
+-- whether memory ran out; whether a live token of the text was read so far, and whether a directive was; and whether an
+-- `#elif` outside of all blocks made all that follows dead
 pub record Source : Type 0 where
+  pub rules : Rules
   pub rest : List Seen
   pub places : List Location
   pub error_place : Option Location
@@ -44,6 +47,7 @@ unreported_of s = unreported s.rest s.places s.error_place
 
 -- after `taken` items, with this remembered of them, and with these blocks open
 pub record IsAfter (taken : ℕ) (note : Note) (still_open : List OpenBlock) (old new : Source) : Type 0 where
+  pub rules : new.rules ≡ old.rules
   pub rest : new.rest ≡ drop taken old.rest
   pub blocks : new.blocks ≡ still_open
   pub line_offset : new.line_offset ≡ old.line_offset
@@ -52,9 +56,10 @@ pub record IsAfter (taken : ℕ) (note : Note) (still_open : List OpenBlock) (ol
   pub has_directive : new.has_directive ≡ (notes_directive note || old.has_directive)
   pub dead_for_good : new.dead_for_good ≡ old.dead_for_good
 
--- All that is known after a fault: fewer items and open blocks are left, the same names have numbers, no more tokens of
--- bodies are defined, and memory didn't run out.
+-- All that is known after a fault: the rules are the same, fewer items and open blocks are left, the same names have
+-- numbers, no more tokens of bodies are defined, and memory didn't run out.
 pub record IsAfterFault (old new : Source) : Type 0 where
+  pub rules : new.rules ≡ old.rules
   pub fewer : length new.rest + length new.blocks < length old.rest + length old.blocks
   pub names : names_in new.definitions ≡ names_in old.definitions
   pub tokens : body_tokens new.definitions ≤ body_tokens old.definitions
@@ -62,6 +67,7 @@ pub record IsAfterFault (old new : Source) : Type 0 where
 
 -- after the innermost block was reported at the end: the outer blocks are still open
 pub record IsAfterBlock (old new : Source) : Type 0 where
+  pub rules : new.rules ≡ old.rules
   pub rest : new.rest ≡ old.rest
   pub definitions : new.definitions ≡ old.definitions
   pub blocks : new.blocks ≡ outer_blocks old.blocks
@@ -120,7 +126,8 @@ pub data Renumbers (word : Location) (tokens : List Token) (taken : ℕ) (note :
     (new : Source) : Type 0 where
   numbers : (n : ℕ)
       → LineNumber word tokens old.definitions (Ok n)
-      → Pauses taken note old.blocks (record old { line_offset = pos n -ℤ pos word.line }) step new
+      → Pauses taken note old.blocks
+      (record old { line_offset = pos n -ℤ pos (numbered_line old.rules word.line) }) step new
       → Renumbers word tokens taken note old step new
   unnumbered : (fault : Fault)
       → LineNumber word tokens old.definitions (Err fault)
@@ -158,7 +165,7 @@ Makes note change move old step new = HasEffect move.effect move.taken note chan
 abbrev pub MakesMove : Source → Step Token → Source → Type 0
 MakesMove old step new =
     Makes (note_of old.dead_for_good old.blocks old.rest) (block_change_at (sight_of old.rest))
-    (move_of old.dead_for_good old.blocks old.rest) old step new
+    (move_of old.rules old.dead_for_good old.blocks old.rest) old step new
 
 -- memory ran out, and something was left to read
 pub record IsRefusedStep (old : Source) (step : Step Token) : Type 0 where

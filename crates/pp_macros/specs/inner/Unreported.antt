@@ -1,5 +1,5 @@
 -- The errors of the lexer that were not reported yet.
-use Rattle.std.specs.Prelude.{◌≡◌, false, List, ◌∷◌, Option, Some, None, Result, Ok, Err, ⊤}
+use Rattle.std.specs.Prelude.{◌≡◌, Bool, true, false, List, ◌∷◌, ◌++◌, Option, Some, None, Result, Ok, Err, ⊤}
 use Rattle.pp_lexer.specs.Lexed.{Seen}
 use Rattle.pp_lexer.specs.declared.token.Location.{Location}
 use Rattle.pp_macros.specs.Item.{Fault, Step, is_out_of_memory}
@@ -27,21 +27,29 @@ with_read fault (Some place) later = record { item = fault; place = place } ∷ 
 abbrev pub IsMet : Fault → Unreported → Unreported → Type 0
 IsMet fault old new = old.read ≡ None → old.later ≡ with_read fault new.read new.later
 
--- A value reads no error. If memory runs out, this says nothing.
-abbrev pub Reports : {A : Type 0} → Result A Halt → Unreported → Unreported → Type 0
-Reports (Ok value) old new = new ≡ old
-Reports (Err (halt.Fault fault)) old new = IsMet fault old new
-Reports (Err halt.OutOfMemory) old new = ⊤
+-- Nothing is reported. No error is read or, if errors of dead text are passed, the first of those to be read may be. If
+-- an error was read and unreported before, this says nothing then.
+abbrev pub ReportsNone : Bool → Unreported → Unreported → Type 0
+ReportsNone false old new = new ≡ old
+ReportsNone true old new =
+    old.read ≡ None → (new.read ≡ None) × ((passed : List ErrorAt) × (old.later ≡ passed ++ new.later))
 
--- the same of a step that gives nothing: a pause or the end reads no error, and if memory runs out, this says nothing
-abbrev pub ExitReports : StepExit → Unreported → Unreported → Type 0
-ExitReports Continue old new = new ≡ old
-ExitReports Finished old new = new ≡ old
-ExitReports (Error fault) old new = is_out_of_memory fault.0 ≡ false → IsMet fault old new
+-- A value reports none. If memory runs out, this says nothing.
+abbrev pub Reports : {A : Type 0} → Bool → Result A Halt → Unreported → Unreported → Type 0
+Reports passes (Ok value) old new = ReportsNone passes old new
+Reports passes (Err (halt.Fault fault)) old new = IsMet fault old new
+Reports passes (Err halt.OutOfMemory) old new = ⊤
 
-abbrev pub StepReports : {A : Type 0} → Step A → Unreported → Unreported → Type 0
-StepReports (Ok value) old new = new ≡ old
-StepReports (Err exit) old new = ExitReports exit old new
+-- The same of a step that gives nothing: a pause or the end reports none, and if memory runs out, this says nothing.
+-- The end reads no error.
+abbrev pub ExitReports : Bool → StepExit → Unreported → Unreported → Type 0
+ExitReports passes Continue old new = ReportsNone passes old new
+ExitReports passes Finished old new = new ≡ old
+ExitReports passes (Error fault) old new = is_out_of_memory fault.0 ≡ false → IsMet fault old new
+
+abbrev pub StepReports : {A : Type 0} → Bool → Step A → Unreported → Unreported → Type 0
+StepReports passes (Ok value) old new = ReportsNone passes old new
+StepReports passes (Err exit) old new = ExitReports passes exit old new
 
 -- the errors that are still to be reported if this is held: a fault that is held may be an error that was read
 abbrev pub unreported_with : {T : Type 0} → Option (Step T) → Unreported → List ErrorAt

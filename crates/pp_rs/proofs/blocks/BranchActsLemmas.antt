@@ -1,11 +1,11 @@
 -- Each step of a source keeps what is known of the blocks that its reader has met.
-use Rattle.std.proofs.Common.{◌≡◌, ◌∙◌, Bool, true, false, refl, ap, Option, Some, None}
+use Rattle.std.proofs.Common.{◌≡◌, ◌∙◌, Bool, true, false, if◌then◌else◌, refl, ap, Option, Some, None}
 use Rattle.pp_lexer.specs.declared.token.Location.{Location}
 use Rattle.pp_model.specs.Calls.{Answers}
 use Rattle.pp_model.specs.Sights.{sight_of}
 use Rattle.pp_model.specs.Blocks.{part_of, Block, is_live}
 use Rattle.pp_model.specs.SourceReader.{SourceReader}
-use Rattle.pp_model.specs.Moves.{BlockFacts, directive_move, move_at}
+use Rattle.pp_model.specs.Moves.{BlockFacts, failing, passing, directive_move, error_length, move_at}
 use Rattle.pp_model.specs.Acts.{Acted, end_by, perform, facts_of, facts_here, act}
 use Rattle.pp_model.specs.inner.Acts.{items_left, after_word, after_line, after_condition, block_here, perform_line}
 use Rattle.pp_model.specs.Reads.{Steps}
@@ -17,7 +17,7 @@ use Rattle.pp_model.specs.declared.sight.Sight.TheVariants as sight
 use Rattle.pp_model.proofs.MovesLemmas.{skips, Passes, plain, unread, parting, skipping, closing, Decides, opening, choosing, directive_holds}
 use Rattle.pp_model.proofs.ReadsLemmas.{HoldsAfter, holds_after}
 use Rattle.pp_rs.proofs.blocks.BlockStackLemmas.{mapped_some}
-use Rattle.pp_rs.proofs.blocks.KnownAfterLemmas.{HasRead, one_keeps, bare_keeps, unknown_keeps, line_keeps, opening_keeps, unread_keeps, closing_keeps, parting_keeps, skipping_keeps, choosing_keeps}
+use Rattle.pp_rs.proofs.blocks.KnownAfterLemmas.{HasRead, one_keeps, error_keeps, bare_keeps, unknown_keeps, line_keeps, opening_keeps, unread_keeps, closing_keeps, parting_keeps, skipping_keeps, choosing_keeps}
 
 -- it is known after each step of this act
 abbrev Keeps : SourceReader → Acted → Type 0
@@ -64,9 +64,9 @@ module _ (r : SourceReader) (b : HasRead r) where
     deciding_keeps live alive (choosing its found is none reads) = choose_keeps its found is none reads
 
     directive_keeps : (live : Bool) → is_live r.items r.truths r.position ≡ live
-        → Keeps r (perform_line (directive_move live (facts_here r) directive word (after_word r)) r)
+        → Keeps r (perform_line (directive_move r.rules live (facts_here r) directive word (after_word r)) r)
     directive_keeps live alive =
-        directive_holds (λ move. Keeps r (perform_line move r)) (facts_here r) word (after_word r) live directive (record {
+        directive_holds (λ move. Keeps r (perform_line move r)) r.rules (facts_here r) word (after_word r) live directive (record {
           failing = λ fault. b;
           refusing = λ fault. b;
           unknown = λ now its. unknown_keeps r b directive word e its;
@@ -80,10 +80,15 @@ module _ (r : SourceReader) (b : HasRead r) where
         })
 
   sight_keeps : (live : Bool) (shown : Sight) → is_live r.items r.truths r.position ≡ live → sight_of (items_left r) ≡ shown
-      → Keeps r (perform (move_at live (facts_here r) shown (items_left r)) r)
+      → Keeps r (perform (move_at r.rules live (facts_here r) shown (items_left r)) r)
   sight_keeps live sight.End alive e = end_keeps _
   sight_keeps live sight.NewLine alive e = one_keeps r b sight.NewLine e refl
-  sight_keeps live (sight.Fault fault) alive e = b
+  sight_keeps true (sight.Fault fault) alive e = b
+  sight_keeps false (sight.Fault fault) alive e = go r.rules.passes_dead_errors
+    where
+      go : (passed : Bool) → Keeps r (perform (if passed then passing (error_length (items_left r)) else failing fault) r)
+      go true = error_keeps r b fault e
+      go false = b
   sight_keeps true (sight.Token token) alive e = one_keeps r b (sight.Token token) e refl
   sight_keeps false (sight.Token token) alive e = one_keeps r b (sight.Token token) e refl
   sight_keeps true (sight.Hash location) alive e = b

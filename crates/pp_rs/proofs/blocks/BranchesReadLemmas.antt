@@ -6,7 +6,7 @@ use Rattle.pp_lexer.specs.Lexed.{Seen}
 use Rattle.pp_model.specs.Blocks.{Truths, Block, block_lines, opens, open_blocks, blocks_at, is_live, are_surroundings_live, has_taken_branch, has_else}
 use Rattle.pp_model.specs.declared.block.BlockLine.{BlockLine}
 use Rattle.pp_model.specs.declared.block.Part.TheVariants as part
-use Rattle.pp_directives.specs.inner.Lined.{AreLined}
+use Rattle.pp_directives.specs.inner.Lined.{AreLined, AreEnded}
 use Rattle.pp_macros.specs.inner.OpenBlocks.{IsSettled, AreBefore}
 use Rattle.pp_rs.proofs.blocks.BlockPositionLemmas.{each_weaker, each_before, each_after, LiesBefore, lies_before_later, blocks_lie_before, last_lies_before}
 use Rattle.pp_rs.proofs.blocks.BranchLemmas.{skipped_dead, else_settled, skipped_settled, elif_settled}
@@ -21,6 +21,7 @@ use Rattle.pp_rs.proofs.blocks.TruthLemmas.{with_truth, IsUnread, before_unread,
 -- open up to it this is known.
 pub record BranchesRead (items : List Seen) (position : ℕ) (truths : Truths) : Type 0 where
   pub lined : AreLined items
+  pub ended : AreEnded items
   pub lines : AreLinesBefore items position (block_lines 0 (take position items))
   pub before : AreBefore position truths
   pub read : (place : ℕ) → place ≤ position → Each (IsBranched items truths) (blocks_at items place)
@@ -46,6 +47,7 @@ module _ (items : List Seen) (position : ℕ) (truths : Truths) (b : BranchesRea
         → AreBranched items new (blocks_at items (position + count)) → BranchesRead items (position + count) new
     read_further new before earlier now = record {
       lined = b.lined;
+      ended = b.ended;
       lines = subst (λ (lines : List BlockLine). AreLinesBefore items (position + count) lines) (sym lines_now) lines_then;
       before = before;
       read = λ place within. at_place place within (cases_lt position place);

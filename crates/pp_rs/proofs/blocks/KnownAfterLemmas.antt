@@ -3,7 +3,9 @@ use Rattle.std.proofs.Common.{◌≡◌, ◌∙◌, ℕ, ◌+◌, ◌-◌, Bool,
 use Rattle.std.specs.List.{cons_option}
 use Rattle.pp_lexer.specs.Lexed.{Seen}
 use Rattle.pp_lexer.specs.declared.token.Location.{Location}
+use Rattle.pp_model.specs.Calls.{Fault}
 use Rattle.pp_model.specs.Lines.{line_length}
+use Rattle.pp_model.specs.Moves.{error_length}
 use Rattle.pp_model.specs.Sights.{sight_of}
 use Rattle.pp_model.specs.Blocks.{part_of, line_at, block_lines, Block, blocks_at, is_live, are_surroundings_live, has_taken_branch, has_else}
 use Rattle.pp_model.specs.inner.Blocks.{line_with}
@@ -21,9 +23,11 @@ use Rattle.pp_rs.proofs.blocks.BranchLemmas.{read_untaken}
 use Rattle.pp_rs.proofs.blocks.BranchesReadLemmas.{BranchesRead, read_quiet, read_unread, read_opened, read_closed, read_else, read_skipped, read_elif}
 use Rattle.pp_macros.proofs.work.DirectiveLineLemmas.{begins_directive, quiet_word}
 use Rattle.pp_rs.proofs.blocks.LastLemmas.{last_split}
+use Rattle.pp_directives.proofs.EndedLemmas.{ended_further}
 use Rattle.pp_directives.proofs.LinedLemmas.{lined_after}
 use Rattle.pp_rs.proofs.blocks.LinesBeforeLemmas.{AddsLines, directive_adds}
-use Rattle.pp_macros.proofs.work.QuietLemmas.{is_one_item, quiet_one, begins_bare, is_bare}
+use Rattle.pp_macros.proofs.work.QuietLemmas.{is_one_item, quiet_one, quiet_item, begins_bare, is_bare}
+use Rattle.pp_rs.proofs.source.ErrorFrontLemmas.{ErrorInFront, alone, after_hash, error_in_front}
 use Rattle.pp_rs.proofs.source.SkippedLemmas.{bare_quiet, quiet_after_word}
 
 -- it is known at this reader
@@ -43,6 +47,18 @@ module _ (r : SourceReader) (b : HasRead r) where
 
   lined_here : AreLined (drop r.position r.items)
   lined_here = lined_after r.position r.items b.lined
+
+  -- an error of the lexer, with the number sign of a directive before it
+  pub error_keeps : (fault : Fault) → sight_of (drop r.position r.items) ≡ sight.Fault fault
+      → HasRead (advanced_by (error_length (drop r.position r.items)) r)
+  error_keeps fault e = go (error_in_front fault (drop r.position r.items) e (ended_further r.position r.items b.ended))
+    where
+      go : ErrorInFront fault (drop r.position r.items) → HasRead (advanced_by (error_length (drop r.position r.items)) r)
+      go (alone f one) =
+          rw one (read_quiet r.items r.position r.truths b 1
+          (λ after. ap (λ items. block_lines r.position (take 1 items ++ after)) f.front ∙ quiet_item r.position f.first after f.quiet))
+      go (after_hash begins hash two) =
+          rw two (two_keeps begins.hash begins.name begins.after begins.front (bare_quiet r.position begins (λ position. refl) lined_here))
 
   -- a number sign without a word
   pub bare_keeps : (shown : Sight) → is_bare shown ≡ true → ((position : ℕ) → line_at position shown ≡ None) → sight_of (drop r.position r.items) ≡ shown

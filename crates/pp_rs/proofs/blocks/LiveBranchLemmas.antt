@@ -3,11 +3,12 @@
 use Rattle.std.proofs.Common.{◌∙◌, ℕ, zero, suc, ◌≤◌, ◌||◌, List, [], ◌∷◌, ap, subst, arith}
 use Rattle.std.specs.List.{AllByRecursion as Each}
 use Rattle.std.proofs.Math.Bool.{or-true}
-use Rattle.pp_lexer.specs.Rules.{pp_rs}
+use Rattle.pp_lexer.specs.Spots.{spots_of}
+use Rattle.pp_lexer.specs.declared.rules.Rules.{Rules}
 use Rattle.pp_lexer.specs.Lexed.{Seen}
 use Rattle.pp_model.specs.Blocks.{Truths, Block, blocks_at, has_taken_branch}
 use Rattle.pp_model.specs.Calls.{Answers}
-use Rattle.pp_model.specs.Run.{items_of}
+use Rattle.pp_model.specs.Run.{items_by}
 use Rattle.pp_model.specs.SourceReader.{SourceReader, reader_at_start}
 use Rattle.pp_model.proofs.BlockLemmas.{one_branch}
 use Rattle.pp_rs.specs.LiveBranch.{AtMostOneIsChosen, HasLiveBranches, RunHasLiveBranches}
@@ -16,6 +17,7 @@ use Rattle.pp_rs.proofs.blocks.BranchActsLemmas.{step_keeps_branches}
 use Rattle.pp_rs.proofs.blocks.BranchedLemmas.{IsBranched}
 use Rattle.pp_rs.proofs.blocks.KnownAfterLemmas.{HasRead}
 use Rattle.pp_rs.proofs.blocks.LastLemmas.{last_split}
+use Rattle.pp_directives.proofs.EndedLemmas.{start_ended}
 use Rattle.pp_directives.proofs.LinedLemmas.{items_lined}
 use Rattle.pp_rs.proofs.blocks.LinesBeforeLemmas.{no_lines_before}
 use Rattle.pp_rs.proofs.source.ReaderInvariantLemmas.{reached_keeps}
@@ -37,21 +39,22 @@ live_branches r known = record {
       );
 }
 
-known_at_start : (text : List ℕ) → HasRead (reader_at_start (items_of text))
-known_at_start text = record {
-  lined = items_lined pp_rs text;
-  lines = no_lines_before (items_of text);
+known_at_start : (rules : Rules) (text : List ℕ) → HasRead (reader_at_start rules (items_by rules text))
+known_at_start rules text = record {
+  lined = items_lined rules text;
+  ended = start_ended rules (spots_of text);
+  lines = no_lines_before (items_by rules text);
   before = tt;
   read = none_open;
 }
   where
-    none_open : (place : ℕ) → place ≤ 0 → Each (IsBranched (items_of text) []) (blocks_at (items_of text) place)
+    none_open : (place : ℕ) → place ≤ 0 → Each (IsBranched (items_by rules text) []) (blocks_at (items_by rules text) place)
     none_open zero within = tt
     none_open (suc place) within = absurd (omega (arith, within))
 
 module _ (A : Answers) where
   -- in each state of a run of a text
   pub run_has_live_branches : RunHasLiveBranches A
-  run_has_live_branches text e reached =
+  run_has_live_branches rules text e reached =
       live_branches e.reader (reached_keeps A HasRead (record { by_step = step_keeps_branches A; by_definition = λ name tokens r known. known })
-      (items_of text) e reached (known_at_start text))
+      rules (items_by rules text) e reached (known_at_start rules text))

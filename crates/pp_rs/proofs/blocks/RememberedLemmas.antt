@@ -26,7 +26,7 @@ pub record IsRemembered (source : Source) (items : List Seen) (truths : Truths) 
   pub apart : IsApart items position
   pub off_line : is_live_in (last_block source.blocks) ≡ true → source.rest ≢ [] → is_on_directive_line items position ≡ false
 
-begins_no_text : (shown : Sight) → begins_with_hash shown ≡ true → is_text shown ≡ false
+pub begins_no_text : (shown : Sight) → begins_with_hash shown ≡ true → is_text shown ≡ false
 begins_no_text (sight.Token token) h = cc
 begins_no_text _ h = refl
 
@@ -83,7 +83,7 @@ module _ (old new : Source) (items : List Seen) (truths : Truths) (position : �
 
   -- the number sign of a directive, and what stands after it: in live text the line ends there
   module _ (off : is_live_in (last_block old.blocks) ≡ true → is_on_directive_line items (suc (suc position)) ≡ false) (shown : Sight) (e : sight_of old.rest ≡ shown)
-      (begins : begins_with_hash shown ≡ true) (a s : Seen) (rest : List Seen) (two : old.rest ≡ a ∷ s ∷ rest)
+      (a s : Seen) (rest : List Seen) (two : old.rest ≡ a ∷ s ∷ rest) (hash : is_directive_hash a.item ≡ true) (no_text : is_text shown ≡ false)
       (note : Note) (text : notes_text note ≡ false) (found : Bool) (noted : notes_directive note ≡ found) (adds : AddsDirective 2 old.rest found)
       (b : IsAfter 2 note old.blocks old new) where
     adds_here : AddsDirective 2 (drop position items) found
@@ -91,9 +91,8 @@ module _ (old new : Source) (items : List Seen) (truths : Truths) (position : �
 
     pub two_remembered : IsRemembered new items truths (position + 2)
     two_remembered =
-        let hash : is_directive_hash a.item ≡ true = hash_in_front a (s ∷ rest) shown (ap sight_of (sym two) ∙ e) begins in
         let none : is_text (sight_of (drop position items)) ≡ false = ap (λ there. is_text (sight_of there)) (sym front) ∙ ap is_text e
-        ∙ begins_no_text shown begins in
+        ∙ no_text in
         record {
           text = b.has_text ∙ both (notes_text note) false old.has_text (has_live_text_before items truths position) text before.text
               ∙ sym (text_two items truths position a s rest (sym front ∙ two) hash none);

@@ -3,6 +3,7 @@ use Rattle.std.proofs.Common.{◌≡◌, ◌∙◌, ℕ, ◌+◌, Bool, true, fa
 use Rattle.std.specs.Str.{chars}
 use Rattle.pp_lexer.specs.PreprocessorError.{out_of_memory}
 use Rattle.pp_lexer.specs.Rules.{pp_rs}
+use Rattle.pp_lexer.specs.declared.rules.Rules.{Rules}
 use Rattle.pp_lexer.specs.declared.token.Token.{Token}
 use Rattle.pp_model.specs.declared.read.Read.{Read}
 use Rattle.pp_model.specs.Names.{Name, is_same_name}
@@ -88,8 +89,8 @@ module _ (name : Name) (tokens : List Token) (old new : Source) (h : IsSetIn nam
     last = last_added m.held m.frames fit.last;
   }
 
-  pub reported_added : (m : kept.Expander) → IsReported m old → IsReported m new
-  reported_added m reported = subst (λ (source : Source). IsReported m source) (sym h.others) reported
+  pub reported_added : (rules : Rules) (m : kept.Expander) → IsReported rules m old → IsReported rules m new
+  reported_added rules m reported = subst (λ (source : Source). IsReported rules m source) (sym h.others) reported
 
   -- where nothing was left, nothing is
   pub none_left_added : (m : kept.Expander) (spent : Bool) → (if spent then 0 else work_of expansion_limit m (of_source old)) ≡ 0

@@ -8,11 +8,12 @@ use Rattle.pp_rs.specs.Collecting.{AreNextItems, nothing, one_more, AreItemsToEn
 use Rattle.pp_rs.specs.Comes.{State, IsRunFrom}
 use Rattle.pp_macros.specs.Held.{ItemHoldsOrdinary}
 use Rattle.pp_macros.specs.Item.{Fault, Item}
-use Rattle.pp_rs.specs.Kept.{Preprocessing, Stands, is_spent, errors_left, error_place}
-use Rattle.pp_rs.specs.Preprocessing.{is_refusal, IsErrorAt, ReportsError, IsRefusedItem, IsGivenItem, IsNextItem}
+use Rattle.pp_rs.specs.Kept.{Preprocessing, Stands, is_spent, errors_left, error_place, rules_of}
+use Rattle.pp_rs.specs.Preprocessing.{is_refusal, ReportsAnswer, ReportsError, IsRefusedItem, IsGivenItem, IsNextItem}
 use Rattle.pp_rs.specs.Preprocessing as error
 use Rattle.pp_rs.specs.Collecting as report
 use Rattle.pp_macros.specs.LexerErrors.{ErrorAt}
+use Rattle.pp_lexer.specs.declared.rules.Rules.{Rules}
 use Rattle.pp_lexer.specs.declared.token.Location.{Location}
 use Rattle.pp_rs.proofs.runs.ComesLemmas.{gives_nothing, gives_more}
 
@@ -64,27 +65,43 @@ module _ (state : State) (items : List Item) (now new : Preprocessing) where
       record { before = h.0; gives = h.1; after = next.after; ends = next.emits }
 
 -- what items report, and then what others do
-reports_then : (items others : List Item) (left after more : List ErrorAt) (place there last : Location)
-    → Reports items left place after there → Reports others after there more last → Reports (items ++ others) left place more last
-reports_then items others left after more place there last (report.none items1 left1 after1 place1 last1 e l p) h =
+reports_then : (passes : Bool) (items others : List Item) (left after more : List ErrorAt) (place there last : Location)
+    → Reports passes items left place after there → Reports passes others after there more last → Reports passes (items ++ others) left place more last
+reports_then passes items others left after more place there last (report.none items1 left1 after1 place1 last1 e l p) h =
     rw (e, ← l, ← p) h
-reports_then items others left after more place there last (report.token first rest items1 left1 after1 place1 last1 r e) h =
-    report.token first (rest ++ others) _ left more place last (reports_then rest others left after more place there last r h) (ap (λ i. i ++ others) e)
-reports_then items others left after more place there last (report.of_lexer first at rest items1 ones left1 after1 place1 last1 l r e) h =
-    report.of_lexer first at (rest ++ others) _ ones left more place last l (reports_then rest others ones after more at there last r h) (ap (λ i. i ++ others) e)
-reports_then items others left after more place there last (report.of_its_own first rest items1 left1 after1 place1 last1 r e) h =
-    report.of_its_own first (rest ++ others) _ left more place last (reports_then rest others left after more first.1 there last r h) (ap (λ i. i ++ others) e)
+reports_then passes items others left after more place there last (report.passed items1 left1 ones after1 place1 last1 l r) h =
+    report.passed (items ++ others) left ones more place last l (reports_then passes items others ones after more place there last r h)
+reports_then passes items others left after more place there last (report.token first rest items1 left1 after1 place1 last1 r e) h =
+    report.token first (rest ++ others) _ left more place last (reports_then passes rest others left after more place there last r h) (ap (λ i. i ++ others) e)
+reports_then passes items others left after more place there last (report.of_lexer first at rest items1 ones left1 after1 place1 last1 l r e) h =
+    report.of_lexer first at (rest ++ others) _ ones left more place last l (reports_then passes rest others ones after more at there last r h) (ap (λ i. i ++ others) e)
+reports_then passes items others left after more place there last (report.of_its_own first rest items1 left1 after1 place1 last1 r e) h =
+    report.of_its_own first (rest ++ others) _ left more place last (reports_then passes rest others left after more first.1 there last r h) (ap (λ i. i ++ others) e)
 
--- what one item reports
+-- what one item reports, and what the end does
 module _ (now new : Preprocessing) where
-  reports_error : (fault : Fault) → IsErrorAt fault now new → AreReported now (Err fault ∷ []) new
-  reports_error fault (error.of_lexer h) =
+  reports_answer : (passes : Bool) (left : List ErrorAt) (item : Item) → ReportsAnswer (Some item) left (error_place now) new
+      → Reports passes (item ∷ []) left (error_place now) (errors_left new) (error_place new)
+  reports_answer passes left (Ok first) h = report.token first [] _ _ _ _ _ (report.none [] _ _ _ _ refl h.0 h.1) refl
+  reports_answer passes left (Err fault) (error.of_lexer h) =
       report.of_lexer fault (error_place new) [] _ (errors_left new) _ _ _ _ h (report.none [] _ _ _ _ refl refl refl) refl
-  reports_error fault (error.of_its_own p l) = report.of_its_own fault [] _ _ _ _ _ (report.none [] _ _ _ _ refl l p) refl
+  reports_answer passes left (Err fault) (error.of_its_own p l) = report.of_its_own fault [] _ _ _ _ _ (report.none [] _ _ _ _ refl l p) refl
 
   reports_item : (item : Item) → ReportsError (Some item) now new → AreReported now (item ∷ []) new
-  reports_item (Ok first) h = report.token first [] _ _ _ _ _ (report.none [] _ _ _ _ refl h.0 h.1) refl
-  reports_item (Err fault) h = reports_error fault h
+  reports_item item h =
+      let passes = (rules_of now).passes_dead_errors in
+      report.passed _ _ h.left _ _ _ h.passes (reports_answer passes h.left item h.reports)
+
+  reports_end : ReportsError None now new → AreReported now [] new
+  reports_end h =
+      report.passed [] _ h.left _ _ _ h.passes (report.none [] _ _ _ _ refl (h.reports.1 ∙ sym h.reports.0) h.reports.2)
+
+-- what later items report is reported from the start
+reported_more : (old now new : Preprocessing) (items more : List Item) → rules_of now ≡ rules_of old → AreReported old items now
+    → AreReported now more new → AreReported old (items ++ more) new
+reported_more old now new items more same h k =
+    reports_then (rules_of old).passes_dead_errors items more _ _ _ _ _ _ h
+    (subst (λ (rules : Rules). Reports rules.passes_dead_errors more (errors_left now) (error_place now) (errors_left new) (error_place new)) same k)
 
 -- the items that were gathered, and the preprocessor after them
 pub record Gathered (old : Preprocessing) (items : List Item) (now : Preprocessing) : Type 0 where
@@ -93,6 +110,7 @@ pub record Gathered (old : Preprocessing) (items : List Item) (now : Preprocessi
   pub reported : AreReported old items now
   pub same : is_spent old ≡ true → now ≡ old
   pub by_next : AreNextItems old items now
+  pub rules : rules_of now ≡ rules_of old
 
 pub gathered_none : (old : Preprocessing) (items : List Item) → items ≡ [] → Gathered old items old
 gathered_none old items e = record {
@@ -107,6 +125,7 @@ gathered_none old items e = record {
   reported = report.none items _ _ _ _ e refl refl;
   same = λ spent. refl;
   by_next = nothing items old old e refl;
+  rules = refl;
 }
 
 -- an item comes only where memory was not refused before
@@ -127,7 +146,7 @@ module _ (now new : Preprocessing) (item : Item) (next : IsNextItem now (Some it
   gathered_more old items more g reported e =
       let given = given_by ready.1 reported in
       let fresh : is_spent old ≡ false = sym g.spent ∙ ready.0 in
-      let all : AreReported old more new = rw e (reports_then items (item ∷ []) _ _ _ _ _ _ g.reported (reports_item now new item given.reports)) in
+      let all : AreReported old more new = rw e (reported_more old now new items (item ∷ []) g.rules g.reported (reports_item now new item given.reports)) in
       let chain : AreNextItems old more new = one_more item items more old now new g.by_next next e in
       let unspent : is_spent new ≡ is_spent old = given.spent ∙ sym fresh in
       record {
@@ -142,6 +161,7 @@ module _ (now new : Preprocessing) (item : Item) (next : IsNextItem now (Some it
         reported = all;
         same = λ spent. let bad : true ≡ false = sym spent ∙ fresh in cc;
         by_next = chain;
+        rules = next.rules ∙ g.rules;
       }
 
   refused_by : IsRefusedItem (Some item) new ⊎ IsGivenItem now (Some item) new → is_refusal (Some item) ≡ true → IsRefusedItem (Some item) new
@@ -196,8 +216,9 @@ module _ (old : Preprocessing) (items : List Item) (now new : Preprocessing) (g 
     holds = g.come.holds;
     ended = next.less_left;
     spent = given.spent ∙ sym ready ∙ g.spent;
-    reports = rw (given.reports.1 ∙ sym given.reports.0, given.reports.2) g.reported;
-    reports_all = λ fresh. given.reports.1;
+    reports = subst (λ (all : List Item). AreReported old all new) (append-nil items)
+        (reported_more old now new items [] g.rules g.reported (reports_end now new given.reports));
+    reports_all = λ fresh. given.reports.reports.1;
     by_next = to_end;
   }
 

@@ -25,43 +25,44 @@ use Rattle.pp_macros.specs.inner.Source.{Source, unreported_of}
 use Rattle.pp_rs.specs.inner.SourceTurns.{TurnsSource, StepsOver}
 use Rattle.pp_rs.specs.inner.Stands.{StandsFor}
 use Rattle.pp_rs.specs.Kept.{Preprocessing, Stands, is_spent, most_items, errors_left, error_place, kept_line, call_line, rules_of}
-use Rattle.pp_rs.specs.Preprocessing.{IsLessLeft, IsErrorAt, of_lexer, of_its_own, IsRefusedItem, IsGivenItem, IsNextItem}
+use Rattle.pp_rs.specs.Preprocessing.{IsLessLeft, PassesErrors, IsErrorAt, of_lexer, of_its_own, IsRefusedItem, IsGivenItem, IsNextItem}
 use Rattle.pp_macros.specs.inner.Unreported.{with_read}
 use Rattle.pp_macros.specs.declared.step.StepExit.TheVariants.{Error, Continue, Finished}
+use Rattle.pp_rs.proofs.runs.PassedErrorsLemmas.{passes_none}
 use Rattle.pp_rs.proofs.runs.Leads.{GivesItem, LeadsFrom, Leads, leads_then}
 use Rattle.pp_rs.proofs.runs.LeftLemmas.{SomethingLeft, some_left, left_is_work, no_work}
-use Rattle.pp_rs.proofs.runs.UnreportedTurnLemmas.{errors_of, ErrorsLeft, turn_errors}
+use Rattle.pp_rs.proofs.runs.UnreportedTurnLemmas.{errors_of, ErrorsLeft, left_then, turn_errors}
 use Rattle.pp_rs.proofs.runs.SourceTurnLemmas.{turned_source, source_fits, source_lowers, source_ends, source_some, source_turn_leads}
 
 -- what is given next comes next
 abbrev comes : (e f : Expander SourceReader) (o : Outcome) → GivesItem (answers_at expansion_limit) e o f → Comes e o f
 comes e f o item = record { taken = item.taken; emits = item.emits; is = item.is }
 
--- a state from which the same comes next as from the first
-pub record Reached (expander : kept.Expander) (source : Source) (expander_now : kept.Expander) (source_now : Source) : Type 0 where
+-- a state from which the same comes next as from the first, by these rules
+pub record Reached (rules : Rules) (expander : kept.Expander) (source : Source) (expander_now : kept.Expander) (source_now : Source) : Type 0 where
   pub fit : IsFit expander_now source_now
   pub leads : Leads (answers_at expansion_limit) expander source (Err Continue) None expander_now source_now
   pub left : SomethingLeft expander_now source_now → SomethingLeft expander source
   pub less : work_of expansion_limit expander_now (of_source source_now) ≤ work_of expansion_limit expander (of_source source)
-  pub reported : IsReported expander_now source_now
-  pub errors : errors_of expander_now source_now ≡ errors_of expander source
+  pub reported : IsReported rules expander_now source_now
+  pub errors : PassesErrors rules.passes_dead_errors (errors_of expander source) (errors_of expander_now source_now)
 
 -- the state that it begins in
-pub reached_first : (expander now : kept.Expander) (source source_now : Source) → now ≡ expander → source_now ≡ source → IsFit now source_now
-    × IsReported now source_now → Reached expander source now source_now
-reached_first expander now source source_now e f fit = rw (e, f) (record {
+pub reached_first : {rules : Rules} (expander now : kept.Expander) (source source_now : Source) → now ≡ expander → source_now ≡ source → IsFit now source_now
+    × IsReported rules now source_now → Reached rules expander source now source_now
+reached_first {rules} expander now source source_now e f fit = rw (e, f) (record {
   fit = rw (e, f) at fit.0;
   leads = record { from = λ s stands. (s, stands, λ x g emits. (emits, refl)) };
   left = λ left. left;
   less = omega arith;
   reported = rw (e, f) at fit.1;
-  errors = refl;
+  errors = passes_none rules.passes_dead_errors _ _ refl;
 })
 
-module _ (expander now after : kept.Expander) (source source_now source_after : Source) (r : Reached expander source now source_now) where
+module _ {rules : Rules} (expander now after : kept.Expander) (source source_now source_after : Source) (r : Reached rules expander source now source_now) where
   -- what is kept after the turn
-  abbrev pub kept_with : Rules → Source → Bool → Location → Option ℕ → Preprocessing
-  kept_with rules source spent place line =
+  abbrev pub kept_with : Source → Bool → Location → Option ℕ → Preprocessing
+  kept_with source spent place line =
       record { expander = after; source = source; spent = spent; place = place; name_line = line; rules = rules }
 
   abbrev pub Over : Step Token → Type 0
@@ -89,13 +90,13 @@ module _ (expander now after : kept.Expander) (source source_now source_after : 
       (source_turn_leads expansion_limit now after source_now source_after step r.fit (turned step h reported) reported)
 
   -- what a turn leaves of the errors of the lexer
-  errors_last : (step : Step Token) → Over step → wants_memory step ≡ false → ErrorsLeft step (errors_of expander source) after source_after
+  errors_last : (step : Step Token) → Over step → wants_memory step ≡ false → ErrorsLeft rules step (errors_of expander source) after source_after
   errors_last step h reported =
-      subst (λ (es : List ErrorAt). ErrorsLeft step es after source_after) r.errors
-      (turn_errors expansion_limit now after source_now source_after step (turned step h reported) reported r.reported)
+      left_then rules step _ _ after source_after r.errors
+      (turn_errors rules expansion_limit now after source_now source_after step (turned step h reported) reported r.reported)
 
   -- a pause
-  pub reached_more : Over (Err Continue) → Reached expander source after source_after
+  pub reached_more : Over (Err Continue) → Reached rules expander source after source_after
   reached_more h =
       let less = falls (Err Continue) h refl (λ e. cc) in
       record {
@@ -111,25 +112,25 @@ module _ (expander now after : kept.Expander) (source source_now source_after : 
   falls_more h = falls (Err Continue) h refl (λ e. cc)
 
   -- what holds after a token, after the end and after a fault, whose place was taken
-  pub token_fits : (token : Token) → Over (Ok token) → IsFit after source_after × IsReported after source_after
+  pub token_fits : (token : Token) → Over (Ok token) → IsFit after source_after × IsReported rules after source_after
   token_fits token h = (fits (Ok token) h refl, (errors_last (Ok token) h refl).0)
 
-  pub end_fits : Over (Err Finished) → IsFit after source_after × IsReported after source_after
+  pub end_fits : Over (Err Finished) → IsFit after source_after × IsReported rules after source_after
   end_fits h = (fits (Err Finished) h refl, (errors_last (Err Finished) h refl).0)
 
   pub fault_fits : (fault : Fault) (reported_source : Source) → reported_source ≡ record source_after { error_place = None }
-      → Over (Err (Error fault)) → is_out_of_memory fault.0 ≡ false → IsFit after reported_source × IsReported after reported_source
+      → Over (Err (Error fault)) → is_out_of_memory fault.0 ≡ false → IsFit after reported_source × IsReported rules after reported_source
   fault_fits fault reported_source is h reported =
       let fit = fits (Err (Error fault)) h reported in
-      let free = (errors_last (Err (Error fault)) h reported).0 in
+      let left = errors_last (Err (Error fault)) h reported in
       rw is (
-        record { unspent = fit.unspent; sound = fit.sound; last = rw free tt },
-        rw free refl,
+        record { unspent = fit.unspent; sound = fit.sound; last = rw left.0 tt },
+        (rw left.0 refl, left.2),
       )
 
   -- the answers from a state that isn't spent
   module _ (old : Preprocessing) (fresh : old.spent ≡ false) (starts : old.expander ≡ expander) (begins : old.source ≡ source)
-      (rules : Rules) (ruled : rules ≡ old.rules) where
+      (ruled : rules ≡ old.rules) where
     stands_first : (e : Expander SourceReader) → Stands old e → StandsFor expander source e
     unfolding Stands
     stands_first e stands = subst (λ (s : Source). StandsFor expander s e) begins (subst (λ (m : kept.Expander). StandsFor m old.source e) starts stands)
@@ -149,7 +150,7 @@ module _ (expander now after : kept.Expander) (source source_now source_after : 
 
     -- less is left after a token or a fault
     less_last : (step : Step Token) (place : Location) (line : Option ℕ) → Over step → wants_memory step ≡ false → (step ≡ Err Finished → ⊥)
-        → most_items (kept_with rules source_after false place line) < most_items old
+        → most_items (kept_with source_after false place line) < most_items old
     unfolding most_items
     less_last step place line turn reported goes =
         let lower = falls step turn reported goes in
@@ -159,21 +160,33 @@ module _ (expander now after : kept.Expander) (source source_now source_after : 
     unfolding errors_left
     errors_first = rw (starts, begins) refl
 
+    -- what is left of them
+    passes_first : (left : List ErrorAt) → PassesErrors rules.passes_dead_errors (errors_of expander source) left
+        → PassesErrors (rules_of old).passes_dead_errors (errors_left old) left
+    unfolding rules_of
+    passes_first left h =
+        subst (λ (rs : Rules). PassesErrors rs.passes_dead_errors (errors_left old) left) ruled
+        (subst (λ (es : List ErrorAt). PassesErrors rules.passes_dead_errors es left) (sym errors_first) h)
+
     pub next_token : (token : Token) (spent : Bool) (place : Location) (line : Option ℕ) → spent ≡ false → place ≡ old.place
         → kept_line after.held line after.frames ≡ kept_line after.held (outermost_frame_line now.frames) after.frames → Over (Ok token)
         → HoldsOrdinary token.value
-        → IsNextItem old (Some (Ok token)) (kept_with rules source_after spent place line)
+        → IsNextItem old (Some (Ok token)) (kept_with source_after spent place line)
     unfolding Stands is_spent errors_left error_place call_line
     next_token token true place line fresh_now same kept turn holds = cc
     next_token token false place line fresh_now same kept turn holds =
-        as_next (Some (Ok token)) (kept_with rules source_after false place line) (inr (record {
+        as_next (Some (Ok token)) (kept_with source_after false place line) (inr (record {
           item = λ e stands.
               let leads : LeadsFrom (answers_at expansion_limit) e (Ok token) (outermost_frame_line now.frames) after source_after =
               (leads_last (Ok token) turn refl).from e (stands_first e stands) in
               record { after = leads.0; emits = comes e leads.0 _ leads.1; line = kept ∙ leads.3; goes_on = leads.2 };
           no_refusal = refl;
           holds = holds;
-          reports = ((errors_last (Ok token) turn refl).1 ∙ sym errors_first, same);
+          reports = record {
+            left = errors_of after source_after;
+            passes = passes_first (errors_of after source_after) (errors_last (Ok token) turn refl).1;
+            reports = (refl, same);
+          };
           spent = refl;
         })) (less_last (Ok token) place line turn refl (λ e. cc)) ruled
 
@@ -197,7 +210,7 @@ module _ (expander now after : kept.Expander) (source source_now source_after : 
     some_items turn = omega (arith, falls_more turn, r.less, most_first)
 
     end_last : (place : Location) (line : Option ℕ) → Over (Err Finished)
-        → most_items (kept_with rules source_after false place line) ≡ 0
+        → most_items (kept_with source_after false place line) ≡ 0
     unfolding most_items
     end_last place line turn =
         let e = source_ends expansion_limit now source_now source_after r.fit after (turned (Err Finished) turn refl) in
@@ -218,11 +231,11 @@ module _ (expander now after : kept.Expander) (source source_now source_after : 
     end_free turn = (source_ends expansion_limit now source_now source_after r.fit after (turned (Err Finished) turn refl)).0
 
     pub next_end : (spent : Bool) (place : Location) (line : Option ℕ) → spent ≡ false → place ≡ old.place → Over (Err Finished)
-        → IsNextItem old None (kept_with rules source_after spent place line)
+        → IsNextItem old None (kept_with source_after spent place line)
     unfolding Stands is_spent errors_left error_place call_line
     next_end true place line fresh_now same turn = cc
     next_end false place line fresh_now same turn =
-        as_next None (kept_with rules source_after false place line) (inr (record {
+        as_next None (kept_with source_after false place line) (inr (record {
           item = λ e stands.
               let leads : LeadsFrom (answers_at expansion_limit) e (Err Finished) (outermost_frame_line now.frames) after source_after =
               (leads_last (Err Finished) turn refl).from e (stands_first e stands) in
@@ -234,37 +247,40 @@ module _ (expander now after : kept.Expander) (source source_now source_after : 
               };
           no_refusal = refl;
           holds = tt;
-          reports = (errors_first ∙ sym (errors_last (Err Finished) turn refl).1 ∙ none_unreported turn, none_unreported turn, same);
+          reports = record {
+            left = errors_of after source_after;
+            passes = passes_first (errors_of after source_after) (errors_last (Err Finished) turn refl).1;
+            reports = (none_unreported turn, none_unreported turn, same);
+          };
           spent = refl;
         })) (end_last place line turn) ruled
 
     -- a fault is reported where it stands: the place that was taken is that of an error of the lexer
     module _ (fault : Fault) (reported_source : Source) (place : Location) (line : Option ℕ) (is : reported_source ≡ record source_after { error_place = None }) where
-      error_reported : (taken : Option Location) (left : List ErrorAt) → errors_of expander source ≡ with_read fault taken left
-          → place ≡ unwrap_or taken fault.1 → errors_left (kept_with rules reported_source false place line) ≡ left
-          → IsErrorAt fault old (kept_with rules reported_source false place line)
+      error_reported : (taken : Option Location) (left : List ErrorAt)
+          → place ≡ unwrap_or taken fault.1 → errors_left (kept_with reported_source false place line) ≡ left
+          → IsErrorAt fault (with_read fault taken left) (kept_with reported_source false place line)
       unfolding error_place
-      error_reported (Some there) left e at same = of_lexer (errors_first ∙ e
-          ∙ ap (λ (es : List ErrorAt). record { item = fault; place = there } ∷ es) (sym same)
+      error_reported (Some there) left at same = of_lexer (ap (λ (es : List ErrorAt). record { item = fault; place = there } ∷ es) (sym same)
           ∙ ap (λ (p : Location). record { item = fault; place = p } ∷ errors_left
-          (kept_with rules reported_source false place line)) (sym at))
-      error_reported None left e at same = of_its_own at (same ∙ sym e ∙ sym errors_first)
+          (kept_with reported_source false place line)) (sym at))
+      error_reported None left at same = of_its_own at same
 
       errors_now : Over (Err (Error fault)) → is_out_of_memory fault.0 ≡ false
-          → errors_left (kept_with rules reported_source false place line) ≡ (unreported_of source_after).later
+          → errors_left (kept_with reported_source false place line) ≡ (unreported_of source_after).later
       unfolding errors_left
       errors_now turn reported = rw (is, (errors_last (Err (Error fault)) turn reported).0) refl
 
       less_now : Over (Err (Error fault)) → is_out_of_memory fault.0 ≡ false
-          → most_items (kept_with rules reported_source false place line) < most_items old
+          → most_items (kept_with reported_source false place line) < most_items old
       unfolding most_items
       less_now turn reported = rw is (less_last (Err (Error fault)) place line turn reported (λ e. cc))
 
       next_fault : Over (Err (Error fault)) → is_out_of_memory fault.0 ≡ false → place ≡ unwrap_or source_after.error_place fault.1
-          → IsNextItem old (Some (Err fault)) (kept_with rules reported_source false place line)
+          → IsNextItem old (Some (Err fault)) (kept_with reported_source false place line)
       unfolding is_spent call_line
       next_fault turn reported at =
-          as_next (Some (Err fault)) (kept_with rules reported_source false place line) (inr (record {
+          as_next (Some (Err fault)) (kept_with reported_source false place line) (inr (record {
             item = λ e stands.
                 let leads : LeadsFrom (answers_at expansion_limit) e (Err (Error fault)) (outermost_frame_line now.frames) after source_after =
                 (leads_last (Err (Error fault)) turn reported).from e (stands_first e stands) in
@@ -276,23 +292,26 @@ module _ (expander now after : kept.Expander) (source source_now source_after : 
                 };
             no_refusal = reported;
             holds = tt;
-            reports = error_reported source_after.error_place (unreported_of source_after).later (errors_last (Err (Error fault)) turn reported).1 at
-                (errors_now turn reported);
+            reports = record {
+              left = with_read fault source_after.error_place (unreported_of source_after).later;
+              passes = passes_first _ (errors_last (Err (Error fault)) turn reported).1;
+              reports = error_reported source_after.error_place (unreported_of source_after).later at (errors_now turn reported);
+            };
             spent = refl;
           })) (less_now turn reported) ruled
 
       next_refusal : Over (Err (Error fault)) → IsNextItem old (Some (Err out_of_memory))
-          (kept_with rules reported_source true place line)
+          (kept_with reported_source true place line)
       unfolding is_spent most_items
       next_refusal turn =
           let left : SomethingLeft expander source = left_now (Err (Error fault)) turn (λ e. cc) in
-          as_next (Some (Err out_of_memory)) (kept_with rules reported_source true place line)
+          as_next (Some (Err out_of_memory)) (kept_with reported_source true place line)
           (inl (record { item = refl; spent = refl })) (omega (arith, left_is_work expansion_limit expander source left, most_first)) ruled
 
       pub next_error : (want : Bool) → is_out_of_memory fault.0 ≡ want → Over (Err (Error fault))
           → place ≡ unwrap_or source_after.error_place (if want then out_of_memory else fault).1
           → IsNextItem old (Some (Err (if want then out_of_memory else fault)))
-          (kept_with rules reported_source want place line)
+          (kept_with reported_source want place line)
       next_error true e turn at = next_refusal turn
       next_error false e turn at = next_fault turn e at
 

@@ -1,19 +1,29 @@
 -- A call of `next` that asks for a word of plain text first.
-use Rattle.std.proofs.Common.{◌≡◌, ◌∙◌, ◌⊎◌, inl, inr, ◌<◌, ◌≤◌, Bool, true, false, refl, sym, Option, Some, None, Ok, Err, IfOk, IfErr, arith}
+use Rattle.std.proofs.Common.{◌≡◌, ◌∙◌, ◌⊎◌, inl, inr, ◌<◌, ◌≤◌, Bool, true, false, List, refl, sym, subst, Option, Some, None, Ok, Err, IfOk, IfErr, arith}
 use Rattle.pp_lexer.specs.PreprocessorError.{out_of_memory}
+use Rattle.pp_lexer.specs.declared.rules.Rules.{Rules}
+use Rattle.pp_lexer.specs.declared.token.Location.{Location}
 use Rattle.pp_lexer.specs.declared.token.Token.{Token}
 use Rattle.pp_macros.specs.Item.{Item}
+use Rattle.pp_macros.specs.LexerErrors.{ErrorAt}
 use Rattle.pp_rs.specs.Kept.{Preprocessing, is_spent, most_items, errors_left, error_place, rules_of}
 use Rattle.pp_rs.specs.inner.NextWord.{IsPassed}
-use Rattle.pp_rs.specs.Preprocessing.{IsNextItem, IsRefusedItem, IsGivenItem, IsLessLeft, ReportsError, of_lexer, of_its_own}
+use Rattle.pp_rs.specs.Preprocessing.{IsNextItem, IsRefusedItem, IsGivenItem, IsLessLeft, PassesErrors, ReportsAnswer, ReportsError}
+use Rattle.pp_rs.proofs.runs.PassedErrorsLemmas.{passes_then}
+
+-- what is passed goes by the same rules
+passes_over : (old mid : Preprocessing) (before after : List ErrorAt) → rules_of mid ≡ rules_of old
+    → PassesErrors (rules_of mid).passes_dead_errors before after → PassesErrors (rules_of old).passes_dead_errors before after
+passes_over old mid before after same h = subst (λ (rules : Rules). PassesErrors rules.passes_dead_errors before after) same h
 
 -- what is reported once nothing was is reported from the start
-reports_over : (old mid new : Preprocessing) (answer : Option Item) → errors_left mid ≡ errors_left old → error_place mid ≡ error_place old
-    → ReportsError answer mid new → ReportsError answer old new
-reports_over old mid new (Some (Err fault)) left place (of_lexer e) = of_lexer (sym left ∙ e)
-reports_over old mid new (Some (Err fault)) left place (of_its_own e f) = of_its_own e (f ∙ left)
-reports_over old mid new (Some (Ok token)) left place reports = (reports.0 ∙ left, reports.1 ∙ place)
-reports_over old mid new None left place reports = (sym left ∙ reports.0, reports.1, reports.2 ∙ place)
+reports_over : (old mid new : Preprocessing) (answer : Option Item) → PassesErrors (rules_of old).passes_dead_errors (errors_left old) (errors_left mid)
+    → error_place mid ≡ error_place old → rules_of mid ≡ rules_of old → ReportsError answer mid new → ReportsError answer old new
+reports_over old mid new answer passed place same h = record {
+  left = h.left;
+  passes = passes_then (rules_of old).passes_dead_errors _ _ h.left passed (passes_over old mid _ h.left same h.passes);
+  reports = subst (λ (at : Location). ReportsAnswer answer h.left at new) place h.reports;
+}
 
 -- memory didn't both last and run out
 pub never_both : {Z : Type 0} (spent : Bool) → spent ≡ false → spent ≡ true → Z
@@ -47,7 +57,7 @@ passed_next old mid new answer fresh p next =
           };
       no_refusal = given.no_refusal;
       holds = given.holds;
-      reports = reports_over old mid new answer p.errors p.place given.reports;
+      reports = reports_over old mid new answer p.errors p.place p.rules given.reports;
       spent = given.spent;
     })
 
@@ -82,7 +92,7 @@ passed_again old mid new p q = record {
         lines = λ o f c. first.lines o f (second.comes o f c) ∙ second.lines o f c;
       };
   spent = q.spent ∙ p.spent;
-  errors = q.errors ∙ p.errors;
+  errors = passes_then (rules_of old).passes_dead_errors _ _ _ p.errors (passes_over old mid _ _ p.rules q.errors);
   place = q.place ∙ p.place;
   no_more_left = omega (arith, p.no_more_left, q.no_more_left);
   rules = q.rules ∙ p.rules;

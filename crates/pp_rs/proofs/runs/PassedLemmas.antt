@@ -15,12 +15,14 @@ use Rattle.pp_macros.specs.declared.step.StepExit.TheVariants.{Continue}
 use Rattle.pp_directives.specs.inner.PlainText.{IsStep}
 use Rattle.pp_rs.specs.Kept.{Preprocessing, Stands, IsAhead, is_spent, most_items, errors_left, error_place, kept_line, rules_of}
 use Rattle.pp_rs.specs.inner.NextWord.{IsPassed}
-use Rattle.pp_rs.specs.Preprocessing.{IsNextItem}
+use Rattle.pp_rs.specs.Preprocessing.{PassesErrors, IsNextItem}
 use Rattle.pp_rs.specs.inner.Fit.{IsFit, IsReported}
 use Rattle.pp_rs.specs.inner.SourceTurns.{StepsOver}
 use Rattle.pp_rs.proofs.runs.IdleLemmas.{idle_exit, idle_token}
 use Rattle.pp_macros.proofs.taking.ExpanderLemmas.{is_idle-idle}
 use Rattle.pp_rs.proofs.runs.Leads.{LeadsFrom}
+use Rattle.pp_rs.proofs.runs.UnreportedTurnLemmas.{errors_of}
+use Rattle.pp_rs.proofs.runs.PassedErrorsLemmas.{passes_none}
 use Rattle.pp_rs.proofs.runs.PausesLemmas.{given_over}
 use Rattle.pp_rs.proofs.runs.NextLemmas.{Reached, reached_first, token_fits, free_line, next_token}
 
@@ -60,26 +62,26 @@ pub fresh_ahead : (p : Preprocessing) (token : Token) → IsAhead p token → p.
 unfolding IsAhead
 fresh_ahead p token ahead = ahead.0
 
-module _ (p : Preprocessing) (now : Expander) (source_now : Source) (is : p.expander ≡ now) (same : p.source ≡ source_now)
-    (fit : IsFit now source_now × IsReported now source_now) (token : Token) (ahead : IsAhead p token) where
+module _ {rules : Rules} (p : Preprocessing) (now : Expander) (source_now : Source) (is : p.expander ≡ now) (same : p.source ≡ source_now)
+    (fit : IsFit now source_now × IsReported rules now source_now) (token : Token) (ahead : IsAhead p token) where
   over : StepsOver expansion_limit now source_now (Ok token) (passed now) source_now
   unfolding IsAhead
   over = subst (λ (m : Expander). StepsOver expansion_limit m source_now (Ok token) (passed m) source_now) is
       (subst (λ (r : Source). StepsOver expansion_limit p.expander r (Ok token) (passed p.expander) r) same
       (given_over p.expander (passed p.expander) p.source token ahead.2 ahead.3 refl))
 
-  reached : Reached p.expander p.source now source_now
+  reached : Reached rules p.expander p.source now source_now
   reached = reached_first p.expander now p.source source_now (sym is) (sym same) fit
 
-  pub pass_fits : IsFit (passed now) source_now × IsReported (passed now) source_now
+  pub pass_fits : IsFit (passed now) source_now × IsReported rules (passed now) source_now
   pass_fits = token_fits p.expander now (passed now) p.source source_now source_now reached token over
 
-  pub ahead_passes : (spent : Bool) (place : Location) (line : Option ℕ) (rules : Rules) → spent ≡ false → place ≡ p.place → rules ≡ p.rules
+  pub ahead_passes : (spent : Bool) (place : Location) (line : Option ℕ) → spent ≡ false → place ≡ p.place → rules ≡ p.rules
       → IsNextItem p (Some (Ok token)) (record { expander = passed now; source = source_now; spent = spent; place = place; name_line = line; rules = rules })
   unfolding IsAhead
-  ahead_passes spent place line rules fresh at ruled =
-      next_token p.expander now (passed now) p.source source_now source_now reached p ahead.0 refl refl rules ruled token spent place line fresh at
-      (free_line p.expander now (passed now) p.source source_now source_now reached p ahead.0 refl refl rules ruled now.held line
+  ahead_passes spent place line fresh at ruled =
+      next_token p.expander now (passed now) p.source source_now source_now reached p ahead.0 refl refl ruled token spent place line fresh at
+      (free_line p.expander now (passed now) p.source source_now source_now reached p ahead.0 refl refl ruled now.held line
       (ap (λ (m : Expander). m.held) (sym is) ∙ ahead.3.free)) over ahead.3.holds
 
 -- nothing was passed
@@ -87,7 +89,7 @@ pub passed_nothing : (p : Preprocessing) → IsPassed p p
 passed_nothing p = record {
   item = λ state stands. record { between = state; stands = stands; comes = λ o f c. c; lines = λ o f c. refl };
   spent = refl;
-  errors = refl;
+  errors = passes_none (rules_of p).passes_dead_errors _ _ refl;
   place = refl;
   no_more_left = omega arith;
   rules = refl;
@@ -95,7 +97,7 @@ passed_nothing p = record {
 
 -- only pauses were
 pub passed_pauses : (old : Preprocessing) (now : Expander) (source_now : Source) (spent : Bool) (place : Location) (line : Option ℕ) (rules : Rules)
-    → Reached old.expander old.source now source_now → old.spent ≡ false → spent ≡ false → place ≡ old.place → rules ≡ old.rules
+    → Reached rules old.expander old.source now source_now → old.spent ≡ false → spent ≡ false → place ≡ old.place → rules ≡ old.rules
     → IsPassed old (record { expander = now; source = source_now; spent = spent; place = place; name_line = line; rules = rules })
 unfolding Stands is_spent errors_left error_place most_items rules_of
 passed_pauses old now source_now spent place line rules r fresh same at ruled = record {
@@ -108,7 +110,7 @@ passed_pauses old now source_now spent place line rules r fresh same at ruled = 
         lines = λ o f c. (leads.2 c.taken f c.emits).1;
       };
   spent = same ∙ sym fresh;
-  errors = r.errors;
+  errors = subst (λ (by : Rules). PassesErrors by.passes_dead_errors (errors_of old.expander old.source) (errors_of now source_now)) ruled r.errors;
   place = at;
   no_more_left = rw (same, fresh) r.less;
   rules = ruled;

@@ -1,5 +1,6 @@
 -- The loop of `next` may pass any number of pauses of the open macros at once.
 use Rattle.std.proofs.Common.{◌≡◌, ◌≤◌, Bool, inl, refl, arith, Ok, Err}
+use Rattle.pp_lexer.specs.declared.rules.Rules.{Rules}
 use Rattle.pp_lexer.specs.declared.token.Token.{Token}
 use Rattle.pp_model.specs.Emitting.{expansion_limit}
 use Rattle.pp_macros.specs.inner.CallTurns.{TurnsTo}
@@ -14,8 +15,8 @@ use Rattle.pp_rs.specs.inner.SourceTurns.{StepsOver}
 use Rattle.pp_rs.proofs.runs.NextLemmas.{Reached, reached_more, falls_more}
 
 -- what the loop has reached from here on, and that no more work is left
-pub record ReachedOn (expander : Expander) (source : Source) (now : Expander) (source_now : Source) (then : Expander) : Type 0 where
-  pub reached : Reached expander source then source_now
+pub record ReachedOn (rules : Rules) (expander : Expander) (source : Source) (now : Expander) (source_now : Source) (then : Expander) : Type 0 where
+  pub reached : Reached rules expander source then source_now
   pub least : work_of expansion_limit then (of_source source_now) ≤ work_of expansion_limit now (of_source source_now)
 
 -- a turn of the frames is a turn of the source
@@ -23,8 +24,8 @@ turn_over : (now then : Expander) (source : Source) → TurnsTo now (of_source s
     → StepsOver expansion_limit now source (Err Continue) then source
 turn_over now then source turns = inl (record { taken = Err Continue; between = then; turns = turns; follows = (refl, refl) })
 
-pub reached_on : (expander now : Expander) (source source_now : Source) → Reached expander source now source_now → (then : Expander)
-    → PausesEach (of_source source_now) now then → ReachedOn expander source now source_now then
+pub reached_on : {rules : Rules} (expander now : Expander) (source source_now : Source) → Reached rules expander source now source_now → (then : Expander)
+    → PausesEach (of_source source_now) now then → ReachedOn rules expander source now source_now then
 reached_on expander now source source_now r then (at_once n is) = rw is (record { reached = r; least = omega arith })
 reached_on expander now source source_now r then (after between p pauses turns) =
     let h = reached_on expander now source source_now r between pauses in

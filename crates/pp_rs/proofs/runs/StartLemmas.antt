@@ -5,9 +5,10 @@ use Rattle.pp_lexer.specs.Location.{nowhere}
 use Rattle.pp_lexer.specs.Items.{places_by}
 use Rattle.pp_lexer.specs.Spots.{spots_of}
 use Rattle.pp_lexer.specs.declared.rules.Rules.{Rules}
-use Rattle.pp_model.specs.Run.{items_by, start}
+use Rattle.pp_model.specs.Run.{items_by, start_by as run_start}
 use Rattle.pp_rs.specs.Kept.{Preprocessing, Stands, errors_left}
 use Rattle.pp_macros.specs.LexerErrors.{lexer_errors_by}
+use Rattle.pp_directives.proofs.EndedLemmas.{start_ended}
 use Rattle.pp_directives.proofs.LinedLemmas.{items_lined}
 
 -- what it keeps
@@ -15,6 +16,7 @@ abbrev pub start_by : Rules → List ℕ → Preprocessing
 start_by rules text = record {
   expander = record { held = None; frames = [] };
   source = record {
+    rules = rules;
     rest = items_by rules text;
     places = places_by rules (spots_of text);
     error_place = None;
@@ -33,17 +35,19 @@ start_by rules text = record {
 }
 
 -- it stands for the state in which a run of its items begins
-pub start_stands : (rules : Rules) (text : List ℕ) → Stands (start_by rules text) (start (items_by rules text))
+pub start_stands : (rules : Rules) (text : List ℕ) → Stands (start_by rules text) (run_start rules (items_by rules text))
 unfolding Stands
 start_stands rules text = record {
   held = refl;
   list = refl;
   reader = record {
+    rules = refl;
     rest = refl;
     within = omega arith;
     definitions = refl;
     line_offset = refl;
     lined = items_lined rules text;
+    ended = start_ended rules (spots_of text);
     lines = λ after. refl;
     blocks = tt;
     truths = tt;

@@ -1,5 +1,7 @@
--- A turn over a source leaves its errors of the lexer unreported, except for the one that it gives.
-use Rattle.std.proofs.Common.{◌≡◌, ◌∙◌, ℕ, false, List, [], ◌∷◌, refl, ap, sym, subst, Option, Some, None, Result, Ok, Err}
+-- A turn over a source leaves its errors of the lexer unreported, except for the one that it gives, and for those that are
+-- passed. It keeps the rules.
+use Rattle.std.proofs.Common.{◌≡◌, ◌∙◌, ℕ, Bool, false, List, [], ◌∷◌, refl, ap, sym, subst, Option, Some, None, Result, Ok, Err}
+use Rattle.pp_lexer.specs.declared.rules.Rules.{Rules}
 use Rattle.pp_lexer.specs.declared.token.Location.{Location}
 use Rattle.pp_lexer.specs.declared.token.Token.{Token}
 use Rattle.pp_model.specs.declared.read.Read.{Read}
@@ -8,7 +10,7 @@ use Rattle.pp_model.specs.Names.{Name}
 use Rattle.pp_macros.specs.inner.Calling.{MacroCall}
 use Rattle.pp_macros.specs.inner.CallTurns.{Sought, no_call, sought_by, Seeks, alone, called, Finds, TurnsTo, passes, gives, object, seeks, paren_of, is_out_of_memory_step}
 use Rattle.pp_macros.specs.inner.Defined.{Macro, Defined}
-use Rattle.pp_rs.specs.inner.Fit.{IsReported}
+use Rattle.pp_rs.specs.inner.Fit.{GoesBy, IsReported}
 use Rattle.pp_macros.specs.inner.Frames.{Frame}
 use Rattle.pp_macros.specs.Item.{Step, is_out_of_memory, wants_memory}
 use Rattle.pp_macros.specs.LexerErrors.{ErrorAt}
@@ -24,37 +26,25 @@ use Rattle.pp_macros.specs.declared.calls.Taken.TheVariants as taken
 use Rattle.pp_macros.specs.declared.step.StepExit.{StepExit}
 use Rattle.pp_macros.specs.declared.step.StepExit.TheVariants.{Error, Continue, Finished}
 use Rattle.pp_rs.proofs.runs.ReadyLemmas.{step_free, next_free, gather_free}
+use Rattle.pp_rs.specs.Preprocessing.{PassesErrors}
+use Rattle.pp_rs.proofs.runs.PassedErrorsLemmas.{passes_none, passes_then, none_passes}
+use Rattle.pp_rs.proofs.source.RulesLemmas.{reads_by}
 use Rattle.pp_rs.proofs.source.UnpaintedLemmas.{unpainted_tells}
-use Rattle.pp_directives.proofs.UnreportedLemmas.{nothing_met}
+use Rattle.pp_directives.proofs.UnreportedLemmas.{nothing_met, same_none}
 
 -- a list of tokens has no errors of the lexer
 abbrev unreported_in : Reader → Unreported
 unreported_in (of_source source) = unreported_of source
 unreported_in (of_list list) = record { read = None; later = [] }
 
-exit_same : (exit : StepExit) (old new : Unreported) → new ≡ old → ExitReports exit old new
-exit_same (Error fault) old new same = λ reported. nothing_met fault old new same
-exit_same _ old new same = same
+exit_same : (passing : Bool) (exit : StepExit) (old new : Unreported) → new ≡ old → ExitReports passing exit old new
+exit_same passing (Error fault) old new same = λ reported. nothing_met fault old new same
+exit_same passing Continue old new same = same_none passing old new same
+exit_same passing Finished old new same = same
 
-step_same : (step : Step Read) (old new : Unreported) → new ≡ old → StepReports step old new
-step_same (Ok read) old new same = same
-step_same (Err exit) old new same = exit_same exit old new same
-
-reads_tell : (r s : Reader) (step : Step Read) → Reads r step s → StepReports step (unreported_in r) (unreported_in s)
-reads_tell (of_source old) (of_source new) step h =
-    rw h.is (unpainted_tells h.given (unreported_of old) (unreported_of new) h.reports)
-reads_tell (of_list old) (of_list new) step h = step_same step _ _ refl
-reads_tell (of_source old) (of_list new) step h = absurd h
-reads_tell (of_list old) (of_source new) step h = absurd h
-
-moves_tell : (fs gs : List Frame) (r s : Reader) (move : Step Read) → Moves fs r move gs s → StepReports move (unreported_in r) (unreported_in s)
-moves_tell [] gs r s move h = reads_tell r s move h.1
-moves_tell (f ∷ fs) gs r s move h = step_same move (unreported_in r) (unreported_in s) (ap unreported_in h.0)
-
--- these errors were unreported, and a fault may have reported the first of them
-abbrev Leaves : Option Fault → List ErrorAt → Unreported → Type 0
-Leaves None errors u = (u.later ≡ errors) × (u.read ≡ None)
-Leaves (Some fault) errors u = is_out_of_memory fault.0 ≡ false → errors ≡ with_read fault u.read u.later
+step_same : (passing : Bool) (step : Step Read) (old new : Unreported) → new ≡ old → StepReports passing step old new
+step_same passing (Ok read) old new same = same_none passing old new same
+step_same passing (Err exit) old new same = exit_same passing exit old new same
 
 abbrev fault_of_exit : StepExit → Option Fault
 fault_of_exit (Error fault) = Some fault
@@ -68,191 +58,247 @@ abbrev fault_in : {A : Type 0} → Result A Fault → Option Fault
 fault_in (Ok value) = None
 fault_in (Err fault) = Some fault
 
--- a fault that is no error of the lexer
-own_fault : (fault : Fault) (errors : List ErrorAt) (u : Unreported) → Leaves None errors u → Leaves (Some fault) errors u
-own_fault fault errors u h reported = rw h.1 (sym h.0)
-
-nothing_read : (old new : Unreported) → new ≡ old → old.read ≡ None → Leaves None old.later new
-nothing_read old new same none = (ap (λ (u : Unreported). u.later) same, ap (λ (u : Unreported). u.read) same ∙ none)
-
-quiet : (o : Option Fault) (old new : Unreported) → new ≡ old → old.read ≡ None → Leaves o old.later new
-quiet None old new same none = nothing_read old new same none
-quiet (Some fault) old new same none = own_fault fault old.later new (nothing_read old new same none)
-
-exit_leaves : (exit : StepExit) (old new : Unreported) → ExitReports exit old new → old.read ≡ None → Leaves (fault_of_exit exit) old.later new
-exit_leaves (Error fault) old new h none = λ reported. h reported none
-exit_leaves _ old new h none = quiet None old new h none
-
-taken_leaves : (move : Step Read) (fs : List Frame) (s : Reader) (old new : Unreported) → StepReports move old new → old.read ≡ None
-    → Leaves (fault_of (taken_as move fs s)) old.later new
-taken_leaves (Ok read) fs s old new h none = quiet (fault_of (taken_as (Ok read) fs s)) old new h none
-taken_leaves (Err exit) fs s old new h none = exit_leaves exit old new h none
-
--- what was held is reported
-held_leaves : (step : Step Read) (u : Unreported) → IsReportedBut (Some step) u → Leaves (fault_of step) (unreported_with (Some step) u) u
-held_leaves (Err (Error fault)) u h = λ reported. refl
-held_leaves _ u h = (refl, h)
-
-abbrev UnreportedFirst : Expander → Reader → List ErrorAt
-UnreportedFirst m r = unreported_with m.held (unreported_in r)
-
-abbrev IsReportedFirst : Expander → Reader → Type 0
-IsReportedFirst m r = IsReportedBut m.held (unreported_in r)
-
-fetch_leaves : (m n : Expander) (r s : Reader) (step : Step Read) → StepsFetching m r step n s → IsReportedFirst m r
-    → Leaves (fault_of step) (UnreportedFirst m r) (unreported_in s)
-fetch_leaves m n r s step (held step1 m1 n1 r1 s1 is at same) reported =
-    rw (is, same) (held_leaves step (unreported_in r) (subst (λ (o : Option (Step Read)). IsReportedBut o (unreported_in r)) is reported))
-fetch_leaves m n r s step (moved move step1 m1 n1 r1 s1 free moves is none) reported =
-    subst (λ (o : Option (Step Read)). Leaves (fault_of step) (unreported_with o (unreported_in r)) (unreported_in s)) (sym free)
-    (subst (λ (x : Step Read). Leaves (fault_of x) (unreported_in r).later (unreported_in s)) (sym is)
-    (taken_leaves move n.frames s (unreported_in r) (unreported_in s) (moves_tell m.frames n.frames r s move moves)
-    (subst (λ (o : Option (Step Read)). IsReportedBut o (unreported_in r)) free reported)))
-
 painted_fault : (names : List Name) (first : Step Read) → fault_of (painted_step names first) ≡ fault_of first
 painted_fault names (Ok read) = refl
 painted_fault names (Err exit) = refl
 
-step_leaves : (m n : Expander) (r s : Reader) (step : Step Read) → StepsTaking m r step n s → IsReportedFirst m r
-    → Leaves (fault_of step) (UnreportedFirst m r) (unreported_in s)
-step_leaves m n r s step steps reported =
-    rw (steps.paints, painted_fault (masks n.frames s) steps.first) (fetch_leaves m n r s steps.first steps.fetches reported)
-
--- where nothing is held, and no error was read
-pub record IsClear (errors : List ErrorAt) (n : Expander) (s : Reader) : Type 0 where
-  pub free : n.held ≡ None
-  pub leaves : Leaves None errors (unreported_in s)
-
-clear_reported : (errors : List ErrorAt) (n : Expander) (s : Reader) → IsClear errors n s → IsReportedFirst n s
-clear_reported errors n s c = subst (λ (o : Option (Step Read)). IsReportedBut o (unreported_in s)) (sym c.free) c.leaves.1
-
-clear_same : (errors : List ErrorAt) (n : Expander) (s : Reader) → IsClear errors n s → UnreportedFirst n s ≡ errors
-clear_same errors n s c = ap (λ (o : Option (Step Read)). unreported_with o (unreported_in s)) c.free ∙ c.leaves.0
-
--- what is left after something that left the same
-goes_on : (o : Option Fault) (errors : List ErrorAt) (n : Expander) (s t : Reader) → IsClear errors n s
-    → Leaves o (UnreportedFirst n s) (unreported_in t) → Leaves o errors (unreported_in t)
-goes_on o errors n s t c h = subst (λ (es : List ErrorAt). Leaves o es (unreported_in t)) (clear_same errors n s c) h
-
-next_leaves : (m n : Expander) (r s : Reader) (step : Step Read) → TakesNext m r step n s → IsReportedFirst m r
-    → Leaves (fault_of step) (UnreportedFirst m r) (unreported_in s)
-next_leaves m n r s step (now step1 m1 n1 r1 s1 steps goes) reported = step_leaves m n r s step steps reported
-next_leaves m n r s step (later step1 m1 between n1 r1 s1 t1 steps next) reported =
-    let c : IsClear (UnreportedFirst m r) between s1 = record {
-      free = step_free m between r s1 (Err Continue) steps;
-      leaves = step_leaves m between r s1 (Err Continue) steps reported;
-    } in
-    goes_on (fault_of step) (UnreportedFirst m r) between s1 s c (next_leaves between n s1 s step next (clear_reported (UnreportedFirst m r) between s1 c))
-
-before_leaves : (read : Read) (rest : Result Gathered Fault) (errors : List ErrorAt) (u : Unreported) → Leaves (fault_in rest) errors u
-    → Leaves (fault_in (before read rest)) errors u
-before_leaves read (Ok rest) errors u h = h
-before_leaves read (Err fault) errors u h = h
-
-gather_leaves : (k : ℕ) (last : Location) (m n : Expander) (r s : Reader) (g : Result Gathered Fault) → GathersNext k last m r g n s
-    → IsReportedFirst m r → Leaves (fault_in g) (UnreportedFirst m r) (unreported_in s)
-gather_leaves k last m n r s g (closed k1 last1 read m1 n1 r1 s1 g1 next out is) reported =
-    rw is (next_leaves m n r s (Ok read) next reported)
-gather_leaves k last m n r s g (inside k1 l last1 read m1 between n1 r1 s1 t1 rest g1 next in_call more is) reported =
-    let c : IsClear (UnreportedFirst m r) between s1 = record {
-      free = next_free m between r s1 (Ok read) next;
-      leaves = next_leaves m between r s1 (Ok read) next reported;
-    } in
-    let h = goes_on (fault_in rest) (UnreportedFirst m r) between s1 s c
-    (gather_leaves l read.token.location between n s1 s rest more (clear_reported (UnreportedFirst m r) between s1 c)) in
-    rw is (before_leaves read rest (UnreportedFirst m r) (unreported_in s) h)
-gather_leaves k last m n r s g (overfull k1 last1 read m1 n1 r1 s1 g1 next out is) reported =
-    rw is (own_fault _ (UnreportedFirst m r) (unreported_in s) (next_leaves m n r s (Ok read) next reported))
-gather_leaves k last m n r s g (ended k1 last1 m1 n1 r1 s1 g1 next is) reported =
-    rw is (own_fault _ (UnreportedFirst m r) (unreported_in s) (next_leaves m n r s (Err Finished) next reported))
-gather_leaves k last m n r s g (failed k1 last1 fault m1 n1 r1 s1 g1 next kept is) reported =
-    rw is (next_leaves m n r s (Err (Error fault)) next reported)
-
--- what a turn leaves: the same, though an error may be held now, or what a fault leaves
-abbrev TakenLeaves : Step Taken → List ErrorAt → Expander → Reader → Type 0
-TakenLeaves (Ok (taken.Token read)) errors n s = IsReportedFirst n s × (UnreportedFirst n s ≡ errors)
-TakenLeaves (Ok (taken.Call call)) errors n s = IsClear errors n s
-TakenLeaves (Err exit) errors n s = (n.held ≡ None) × Leaves (fault_of_exit exit) errors (unreported_in s)
-
-holds_next : (next : Step Read) (errors : List ErrorAt) (u : Unreported) → is_out_of_memory_step next ≡ false → Leaves (fault_of next) errors u
-    → IsReportedBut (Some next) u × (unreported_with (Some next) u ≡ errors)
-holds_next (Err (Error fault)) errors u reported h = (tt, sym (h reported))
-holds_next _ errors u reported h = (h.1, h.0)
-
-find_leaves : (read : Read) (macro : Macro) (c : Sought) (step : Step Taken) (errors : List ErrorAt)
-    (m p q : Expander) (r t : Reader) → Seeks m r c p t → Finds read macro c step p q → IsClear errors m r → TakenLeaves step errors q t
-find_leaves read macro c step errors m p q r t (alone next m1 n1 r1 s1 c1 takes apart reported is) finds clear =
-    let h : Leaves (fault_of next) errors (unreported_in t) =
-    goes_on (fault_of next) errors m r t clear (next_leaves m p r t next takes (clear_reported errors m r clear)) in
-    let f : Finds read macro (no_call next) step p q = subst (λ (x : Sought). Finds read macro x step p q) is finds in
-    rw (f.0, f.1) (holds_next next errors (unreported_in t) reported h)
-find_leaves read macro c step errors m p q r t (called next paren m1 between n1 r1 s1 t1 g c1 takes at gathers is) finds clear =
-    go g gathers (subst (λ (x : Sought). Finds read macro x step p q) is finds)
-  where
-    clear_paren : (next : Step Read) → paren_of next ≡ Some paren → TakesNext m r next between s1 → IsClear errors between s1
-    clear_paren (Ok other) e takes = record {
-      free = next_free m between r s1 (Ok other) takes;
-      leaves = goes_on None errors m r s1 clear (next_leaves m between r s1 (Ok other) takes (clear_reported errors m r clear));
-    }
-    clear_paren (Err exit) e takes = cc
-
-    go : (g : Result Gathered Fault) → GathersNext 0 paren between s1 g p t → Finds read macro (sought_by paren g) step p q
-        → TakenLeaves step errors q t
-    go (Ok found) gathers f =
-        let c = clear_paren next at takes in
-        let h = goes_on None errors between s1 t c (gather_leaves 0 paren between p s1 t (Ok found) gathers (clear_reported errors between s1 c)) in
-        rw (f.0, f.1) (record { free = gather_free 0 paren between p s1 t (Ok found) gathers; leaves = h })
-    go (Err fault) gathers f =
-        let c = clear_paren next at takes in
-        let h = goes_on (Some fault) errors between s1 t c (gather_leaves 0 paren between p s1 t (Err fault) gathers (clear_reported errors between s1 c)) in
-        rw (f.0, f.1) (gather_free 0 paren between p s1 t (Err fault) gathers, h)
-
-turn_leaves : (m n : Expander) (r s : Reader) (step : Step Taken) → TurnsTo m r step n s → IsReportedFirst m r → TakenLeaves step (UnreportedFirst m r) n s
-turn_leaves m n r s step (passes exit step1 m1 n1 r1 s1 takes is) reported =
-    rw is (step_free m n r s (Err exit) takes, step_leaves m n r s (Err exit) takes reported)
-turn_leaves m n r s step (gives read step1 m1 n1 r1 s1 takes apart is) reported =
-    let c : IsClear (UnreportedFirst m r) n s = record { free = step_free m n r s (Ok read) takes; leaves = step_leaves m n r s (Ok read) takes reported } in
-    rw is (clear_reported (UnreportedFirst m r) n s c, clear_same (UnreportedFirst m r) n s c)
-turn_leaves m p r s step (object read macro step1 m1 n p1 r1 s1 takes opens plain is at) reported =
-    rw (is, at) (step_free m n r s (Ok read) takes, step_leaves m n r s (Ok read) takes reported)
-turn_leaves m q r t step (seeks read macro c step1 m1 n p q1 r1 s t1 takes opens by_call sought finds) reported =
-    find_leaves read macro c step (UnreportedFirst m r) n p q s t sought finds
-    (record { free = step_free m n r s (Ok read) takes; leaves = step_leaves m n r s (Ok read) takes reported })
+abbrev UnreportedFirst : Expander → Reader → List ErrorAt
+UnreportedFirst m r = unreported_with m.held (unreported_in r)
 
 -- the errors that are unreported of a source
 abbrev pub errors_of : Expander → Source → List ErrorAt
 errors_of expander source = unreported_with expander.held (unreported_of source)
 
--- What a turn leaves of them: the same, but for the fault that it gives.
-abbrev pub ErrorsLeft : Step Token → List ErrorAt → Expander → Source → Type 0
-ErrorsLeft (Err (Error fault)) errors n new = (n.held ≡ None) × (errors ≡ with_read fault new.error_place (unreported_of new).later)
-ErrorsLeft _ errors n new = IsReported n new × (errors_of n new ≡ errors)
+module _ (rules : Rules) where
+  abbrev passes_dead : Bool
+  passes_dead = rules.passes_dead_errors
 
-clear_left : (step : Step Token) (errors : List ErrorAt) (n : Expander) (new : Source) → IsClear errors n (of_source new) → ErrorsLeft step errors n new
-clear_left (Err (Error fault)) errors n new c = (c.free, rw c.leaves.1 (sym c.leaves.0))
-clear_left _ errors n new c = (clear_reported errors n (of_source new) c, clear_same errors n (of_source new) c)
+  reads_tell : (r s : Reader) (step : Step Read) → Reads r step s → GoesBy rules r → StepReports passes_dead step (unreported_in r) (unreported_in s)
+  reads_tell (of_source old) (of_source new) step h by =
+      rw h.is (unpainted_tells passes_dead h.given (unreported_of old) (unreported_of new)
+      (subst (λ (rs : Rules). StepReports rs.passes_dead_errors h.given (unreported_of old) (unreported_of new)) by h.reports))
+  reads_tell (of_list old) (of_list new) step h by = step_same passes_dead step _ _ refl
+  reads_tell (of_source old) (of_list new) step h by = absurd h
+  reads_tell (of_list old) (of_source new) step h by = absurd h
 
-exit_left : (exit : StepExit) (errors : List ErrorAt) (n : Expander) (new : Source) → (n.held ≡ None)
-    × Leaves (fault_of_exit exit) errors (unreported_of new) → wants_memory {T = Token} (Err exit) ≡ false → ErrorsLeft (Err exit) errors n new
-exit_left (Error fault) errors n new h reported = (h.0, h.1 reported)
-exit_left exit errors n new h reported = clear_left (Err exit) errors n new (record { free = h.0; leaves = h.1 })
+  moves_tell : (fs gs : List Frame) (r s : Reader) (move : Step Read) → Moves fs r move gs s → GoesBy rules r
+      → StepReports passes_dead move (unreported_in r) (unreported_in s)
+  moves_tell [] gs r s move h by = reads_tell r s move h.1 by
+  moves_tell (f ∷ fs) gs r s move h by = step_same passes_dead move (unreported_in r) (unreported_in s) (ap unreported_in h.0)
 
-call_left : (levels : ℕ) (definitions : List Defined) (c : MacroCall) (errors : List ErrorAt) (k n : Expander) (new : Source) (step : Step Token)
-    → FollowsCall levels definitions c k step n → IsClear errors k (of_source new) → ErrorsLeft step errors n new
-call_left levels definitions c errors k n new step (opened is o) clear =
-    rw is (clear_left (Err Continue) errors n new (record { free = ap (λ (x : Expander). x.held) o.opens ∙ clear.free; leaves = clear.leaves }))
-call_left levels definitions c errors k n new step (call_refused fault is answers same) clear =
-    rw (is, same) (clear_left (Err (Error fault)) errors k new clear)
+  moves_by : (fs gs : List Frame) (r s : Reader) (move : Step Read) → Moves fs r move gs s → GoesBy rules r → wants_memory move ≡ false → GoesBy rules s
+  moves_by [] gs r s move h by reported = reads_by rules r s move h.1 by reported
+  moves_by (f ∷ fs) gs r s move h by reported = rw h.0 by
 
-follows_left : (levels : ℕ) (definitions : List Defined) (t : Step Taken) (errors : List ErrorAt) (k n : Expander) (new : Source) (step : Step Token)
-    → FollowsTurn levels definitions t k step n → TakenLeaves t errors k (of_source new) → wants_memory step ≡ false → ErrorsLeft step errors n new
-follows_left levels definitions (Ok (taken.Token read)) errors k n new step f h reported = rw (f.0, f.1) h
-follows_left levels definitions (Ok (taken.Call call)) errors k n new step f h reported = call_left levels definitions call errors k n new step f h
-follows_left levels definitions (Err exit) errors k n new step f h reported = rw (f.0, f.1) (exit_left exit errors k new h (rw f.0 at reported))
+  -- these errors were unreported; some may be passed, and a fault may have reported the first of those that are left
+  abbrev Leaves : Option Fault → List ErrorAt → Reader → Type 0
+  Leaves None errors s = PassesErrors passes_dead errors (unreported_in s).later × ((unreported_in s).read ≡ None) × GoesBy rules s
+  Leaves (Some fault) errors s = is_out_of_memory fault.0 ≡ false
+      → PassesErrors passes_dead errors (with_read fault (unreported_in s).read (unreported_in s).later) × GoesBy rules s
 
--- one turn over a source
-pub turn_errors : (levels : ℕ) (m n : Expander) (old new : Source) (step : Step Token) → TurnsSource levels m old step n new
-    → wants_memory step ≡ false → IsReported m old → ErrorsLeft step (errors_of m old) n new
-turn_errors levels m n old new step h wants reported =
-    follows_left levels new.definitions h.taken (errors_of m old) h.between n new step h.follows
-    (turn_leaves m h.between (of_source old) (of_source new) h.taken h.turns reported) wants
+  -- a fault that is no error of the lexer
+  own_fault : (fault : Fault) (errors : List ErrorAt) (s : Reader) → Leaves None errors s → Leaves (Some fault) errors s
+  own_fault fault errors s h reported = (rw h.1 h.0, h.2)
+
+  quiet : (o : Option Fault) (errors : List ErrorAt) (s : Reader) → Leaves None errors s → Leaves o errors s
+  quiet None errors s h = h
+  quiet (Some fault) errors s h = own_fault fault errors s h
+
+  nothing_read : (r s : Reader) → unreported_in s ≡ unreported_in r → (unreported_in r).read ≡ None → GoesBy rules s → Leaves None (unreported_in r).later s
+  nothing_read r s same none by = (
+    passes_none passes_dead _ _ (ap (λ (u : Unreported). u.later) same),
+    ap (λ (u : Unreported). u.read) same ∙ none,
+    by,
+  )
+
+  exit_leaves : (exit : StepExit) (r s : Reader) → ExitReports passes_dead exit (unreported_in r) (unreported_in s) → (unreported_in r).read ≡ None
+      → (wants_memory {T = Read} (Err exit) ≡ false → GoesBy rules s) → Leaves (fault_of_exit exit) (unreported_in r).later s
+  exit_leaves (Error fault) r s h none by = λ reported. (passes_none passes_dead _ _ (sym (h reported none)), by reported)
+  exit_leaves Continue r s h none by =
+      let passed = none_passes passes_dead (unreported_in r) (unreported_in s) h none in
+      (passed.0, passed.1, by refl)
+  exit_leaves Finished r s h none by = nothing_read r s h none (by refl)
+
+  taken_leaves : (move : Step Read) (fs : List Frame) (r s : Reader) → StepReports passes_dead move (unreported_in r) (unreported_in s)
+      → (unreported_in r).read ≡ None → (wants_memory move ≡ false → GoesBy rules s)
+      → Leaves (fault_of (taken_as move fs s)) (unreported_in r).later s
+  taken_leaves (Ok read) fs r s h none by =
+      let passed = none_passes passes_dead (unreported_in r) (unreported_in s) h none in
+      quiet (fault_of (taken_as (Ok read) fs s)) (unreported_in r).later s (passed.0, passed.1, by refl)
+  taken_leaves (Err exit) fs r s h none by = exit_leaves exit r s h none by
+
+  -- what was held is reported
+  held_leaves : (step : Step Read) (s : Reader) → IsReportedBut (Some step) (unreported_in s) → GoesBy rules s
+      → Leaves (fault_of step) (unreported_with (Some step) (unreported_in s)) s
+  held_leaves (Err (Error fault)) s h by = λ reported. (passes_none passes_dead _ _ refl, by)
+  held_leaves _ s h by = (passes_none passes_dead _ _ refl, h, by)
+
+  abbrev IsReportedFirst : Expander → Reader → Type 0
+  IsReportedFirst m r = IsReportedBut m.held (unreported_in r) × GoesBy rules r
+
+  fetch_leaves : (m n : Expander) (r s : Reader) (step : Step Read) → StepsFetching m r step n s → IsReportedFirst m r
+      → Leaves (fault_of step) (UnreportedFirst m r) s
+  fetch_leaves m n r s step (held step1 m1 n1 r1 s1 is at same) reported =
+      rw (is, same) (held_leaves step r (subst (λ (o : Option (Step Read)). IsReportedBut o (unreported_in r)) is reported.0) reported.1)
+  fetch_leaves m n r s step (moved move step1 m1 n1 r1 s1 free moves is none) reported =
+      subst (λ (o : Option (Step Read)). Leaves (fault_of step) (unreported_with o (unreported_in r)) s) (sym free)
+      (subst (λ (x : Step Read). Leaves (fault_of x) (unreported_in r).later s) (sym is)
+      (taken_leaves move n.frames r s (moves_tell m.frames n.frames r s move moves reported.1)
+      (subst (λ (o : Option (Step Read)). IsReportedBut o (unreported_in r)) free reported.0)
+      (moves_by m.frames n.frames r s move moves reported.1)))
+
+  step_leaves : (m n : Expander) (r s : Reader) (step : Step Read) → StepsTaking m r step n s → IsReportedFirst m r
+      → Leaves (fault_of step) (UnreportedFirst m r) s
+  step_leaves m n r s step steps reported =
+      rw (steps.paints, painted_fault (masks n.frames s) steps.first) (fetch_leaves m n r s steps.first steps.fetches reported)
+
+  -- where nothing is held, and no error was read
+  pub record IsClear (errors : List ErrorAt) (n : Expander) (s : Reader) : Type 0 where
+    pub free : n.held ≡ None
+    pub leaves : Leaves None errors s
+
+  clear_reported : (errors : List ErrorAt) (n : Expander) (s : Reader) → IsClear errors n s → IsReportedFirst n s
+  clear_reported errors n s c =
+      (subst (λ (o : Option (Step Read)). IsReportedBut o (unreported_in s)) (sym c.free) c.leaves.1, c.leaves.2)
+
+  clear_passes : (errors : List ErrorAt) (n : Expander) (s : Reader) → IsClear errors n s → PassesErrors passes_dead errors (UnreportedFirst n s)
+  clear_passes errors n s c =
+      subst (λ (o : Option (Step Read)). PassesErrors passes_dead errors (unreported_with o (unreported_in s))) (sym c.free) c.leaves.0
+
+  -- what is left after something that left these
+  goes_on : (o : Option Fault) (errors : List ErrorAt) (n : Expander) (s t : Reader) → IsClear errors n s
+      → Leaves o (UnreportedFirst n s) t → Leaves o errors t
+  goes_on None errors n s t c h = (passes_then passes_dead errors _ _ (clear_passes errors n s c) h.0, h.1, h.2)
+  goes_on (Some fault) errors n s t c h = λ reported.
+      let left = h reported in
+      (passes_then passes_dead errors _ _ (clear_passes errors n s c) left.0, left.1)
+
+  next_leaves : (m n : Expander) (r s : Reader) (step : Step Read) → TakesNext m r step n s → IsReportedFirst m r
+      → Leaves (fault_of step) (UnreportedFirst m r) s
+  next_leaves m n r s step (now step1 m1 n1 r1 s1 steps goes) reported = step_leaves m n r s step steps reported
+  next_leaves m n r s step (later step1 m1 between n1 r1 s1 t1 steps next) reported =
+      let c : IsClear (UnreportedFirst m r) between s1 = record {
+        free = step_free m between r s1 (Err Continue) steps;
+        leaves = step_leaves m between r s1 (Err Continue) steps reported;
+      } in
+      goes_on (fault_of step) (UnreportedFirst m r) between s1 s c (next_leaves between n s1 s step next (clear_reported (UnreportedFirst m r) between s1 c))
+
+  before_leaves : (read : Read) (rest : Result Gathered Fault) (errors : List ErrorAt) (s : Reader) → Leaves (fault_in rest) errors s
+      → Leaves (fault_in (before read rest)) errors s
+  before_leaves read (Ok rest) errors s h = h
+  before_leaves read (Err fault) errors s h = h
+
+  gather_leaves : (k : ℕ) (last : Location) (m n : Expander) (r s : Reader) (g : Result Gathered Fault) → GathersNext k last m r g n s
+      → IsReportedFirst m r → Leaves (fault_in g) (UnreportedFirst m r) s
+  gather_leaves k last m n r s g (closed k1 last1 read m1 n1 r1 s1 g1 next out is) reported =
+      rw is (next_leaves m n r s (Ok read) next reported)
+  gather_leaves k last m n r s g (inside k1 l last1 read m1 between n1 r1 s1 t1 rest g1 next in_call more is) reported =
+      let c : IsClear (UnreportedFirst m r) between s1 = record {
+        free = next_free m between r s1 (Ok read) next;
+        leaves = next_leaves m between r s1 (Ok read) next reported;
+      } in
+      let h = goes_on (fault_in rest) (UnreportedFirst m r) between s1 s c
+      (gather_leaves l read.token.location between n s1 s rest more (clear_reported (UnreportedFirst m r) between s1 c)) in
+      rw is (before_leaves read rest (UnreportedFirst m r) s h)
+  gather_leaves k last m n r s g (overfull k1 last1 read m1 n1 r1 s1 g1 next out is) reported =
+      rw is (own_fault _ (UnreportedFirst m r) s (next_leaves m n r s (Ok read) next reported))
+  gather_leaves k last m n r s g (ended k1 last1 m1 n1 r1 s1 g1 next is) reported =
+      rw is (own_fault _ (UnreportedFirst m r) s (next_leaves m n r s (Err Finished) next reported))
+  gather_leaves k last m n r s g (failed k1 last1 fault m1 n1 r1 s1 g1 next kept is) reported =
+      rw is (next_leaves m n r s (Err (Error fault)) next reported)
+
+  -- what a turn leaves: what is left, though an error may be held now, or what a fault leaves
+  abbrev TakenLeaves : Step Taken → List ErrorAt → Expander → Reader → Type 0
+  TakenLeaves (Ok (taken.Token read)) errors n s = IsReportedFirst n s × PassesErrors passes_dead errors (UnreportedFirst n s)
+  TakenLeaves (Ok (taken.Call call)) errors n s = IsClear errors n s
+  TakenLeaves (Err exit) errors n s = (n.held ≡ None) × Leaves (fault_of_exit exit) errors s
+
+  holds_next : (next : Step Read) (errors : List ErrorAt) (s : Reader) → is_out_of_memory_step next ≡ false → Leaves (fault_of next) errors s
+      → (IsReportedBut (Some next) (unreported_in s) × GoesBy rules s) × PassesErrors passes_dead errors (unreported_with (Some next) (unreported_in s))
+  holds_next (Err (Error fault)) errors s reported h =
+      let left = h reported in
+      ((tt, left.1), left.0)
+  holds_next _ errors s reported h = ((h.1, h.2), h.0)
+
+  find_leaves : (read : Read) (macro : Macro) (c : Sought) (step : Step Taken) (errors : List ErrorAt)
+      (m p q : Expander) (r t : Reader) → Seeks m r c p t → Finds read macro c step p q → IsClear errors m r → TakenLeaves step errors q t
+  find_leaves read macro c step errors m p q r t (alone next m1 n1 r1 s1 c1 takes apart reported is) finds clear =
+      let h : Leaves (fault_of next) errors t =
+      goes_on (fault_of next) errors m r t clear (next_leaves m p r t next takes (clear_reported errors m r clear)) in
+      let f : Finds read macro (no_call next) step p q = subst (λ (x : Sought). Finds read macro x step p q) is finds in
+      rw (f.0, f.1) (holds_next next errors t reported h)
+  find_leaves read macro c step errors m p q r t (called next paren m1 between n1 r1 s1 t1 g c1 takes at gathers is) finds clear =
+      go g gathers (subst (λ (x : Sought). Finds read macro x step p q) is finds)
+    where
+      clear_paren : (next : Step Read) → paren_of next ≡ Some paren → TakesNext m r next between s1 → IsClear errors between s1
+      clear_paren (Ok other) e takes = record {
+        free = next_free m between r s1 (Ok other) takes;
+        leaves = goes_on None errors m r s1 clear (next_leaves m between r s1 (Ok other) takes (clear_reported errors m r clear));
+      }
+      clear_paren (Err exit) e takes = cc
+
+      go : (g : Result Gathered Fault) → GathersNext 0 paren between s1 g p t → Finds read macro (sought_by paren g) step p q
+          → TakenLeaves step errors q t
+      go (Ok found) gathers f =
+          let c = clear_paren next at takes in
+          let h = goes_on None errors between s1 t c (gather_leaves 0 paren between p s1 t (Ok found) gathers (clear_reported errors between s1 c)) in
+          rw (f.0, f.1) (record { free = gather_free 0 paren between p s1 t (Ok found) gathers; leaves = h })
+      go (Err fault) gathers f =
+          let c = clear_paren next at takes in
+          let h = goes_on (Some fault) errors between s1 t c (gather_leaves 0 paren between p s1 t (Err fault) gathers (clear_reported errors between s1 c)) in
+          rw (f.0, f.1) (gather_free 0 paren between p s1 t (Err fault) gathers, h)
+
+  turn_leaves : (m n : Expander) (r s : Reader) (step : Step Taken) → TurnsTo m r step n s → IsReportedFirst m r → TakenLeaves step (UnreportedFirst m r) n s
+  turn_leaves m n r s step (passes exit step1 m1 n1 r1 s1 takes is) reported =
+      rw is (step_free m n r s (Err exit) takes, step_leaves m n r s (Err exit) takes reported)
+  turn_leaves m n r s step (gives read step1 m1 n1 r1 s1 takes apart is) reported =
+      let c : IsClear (UnreportedFirst m r) n s = record { free = step_free m n r s (Ok read) takes; leaves = step_leaves m n r s (Ok read) takes reported } in
+      rw is (clear_reported (UnreportedFirst m r) n s c, clear_passes (UnreportedFirst m r) n s c)
+  turn_leaves m p r s step (object read macro step1 m1 n p1 r1 s1 takes opens plain is at) reported =
+      rw (is, at) (step_free m n r s (Ok read) takes, step_leaves m n r s (Ok read) takes reported)
+  turn_leaves m q r t step (seeks read macro c step1 m1 n p q1 r1 s t1 takes opens by_call sought finds) reported =
+      find_leaves read macro c step (UnreportedFirst m r) n p q s t sought finds
+      (record { free = step_free m n r s (Ok read) takes; leaves = step_leaves m n r s (Ok read) takes reported })
+
+  -- What a turn leaves of the errors: those that are not passed, but for the fault that it gives.
+  abbrev pub ErrorsLeft : Step Token → List ErrorAt → Expander → Source → Type 0
+  ErrorsLeft (Err (Error fault)) errors n new =
+      (n.held ≡ None) × PassesErrors passes_dead errors (with_read fault new.error_place (unreported_of new).later) × (new.rules ≡ rules)
+  ErrorsLeft _ errors n new = IsReported rules n new × PassesErrors passes_dead errors (errors_of n new)
+
+  -- the same of errors before those
+  pub left_then : (step : Step Token) (errors between : List ErrorAt) (n : Expander) (new : Source) → PassesErrors passes_dead errors between
+      → ErrorsLeft step between n new → ErrorsLeft step errors n new
+  left_then (Err (Error fault)) errors between n new h k = (k.0, passes_then passes_dead errors between _ h k.1, k.2)
+  left_then _ errors between n new h k = (k.0, passes_then passes_dead errors between _ h k.1)
+
+  clear_left : (step : Step Token) (errors : List ErrorAt) (n : Expander) (new : Source) → IsClear errors n (of_source new) → ErrorsLeft step errors n new
+  clear_left (Err (Error fault)) errors n new c = (c.free, rw c.leaves.1 c.leaves.0, c.leaves.2)
+  clear_left _ errors n new c = (clear_reported errors n (of_source new) c, clear_passes errors n (of_source new) c)
+
+  exit_left : (exit : StepExit) (errors : List ErrorAt) (n : Expander) (new : Source) → (n.held ≡ None)
+      × Leaves (fault_of_exit exit) errors (of_source new) → wants_memory {T = Token} (Err exit) ≡ false → ErrorsLeft (Err exit) errors n new
+  exit_left (Error fault) errors n new h reported =
+      let left = h.1 reported in
+      (h.0, left.0, left.1)
+  exit_left exit errors n new h reported = clear_left (Err exit) errors n new (record { free = h.0; leaves = h.1 })
+
+  call_left : (levels : ℕ) (definitions : List Defined) (c : MacroCall) (errors : List ErrorAt) (k n : Expander) (new : Source) (step : Step Token)
+      → FollowsCall levels definitions c k step n → IsClear errors k (of_source new) → ErrorsLeft step errors n new
+  call_left levels definitions c errors k n new step (opened is o) clear =
+      rw is (clear_left (Err Continue) errors n new (record { free = ap (λ (x : Expander). x.held) o.opens ∙ clear.free; leaves = clear.leaves }))
+  call_left levels definitions c errors k n new step (call_refused fault is answers same) clear =
+      rw (is, same) (clear_left (Err (Error fault)) errors k new clear)
+
+  follows_left : (levels : ℕ) (definitions : List Defined) (t : Step Taken) (errors : List ErrorAt) (k n : Expander) (new : Source) (step : Step Token)
+      → FollowsTurn levels definitions t k step n → TakenLeaves t errors k (of_source new) → wants_memory step ≡ false → ErrorsLeft step errors n new
+  follows_left levels definitions (Ok (taken.Token read)) errors k n new step f h reported = rw (f.0, f.1) h
+  follows_left levels definitions (Ok (taken.Call call)) errors k n new step f h reported = call_left levels definitions call errors k n new step f h
+  follows_left levels definitions (Err exit) errors k n new step f h reported = rw (f.0, f.1) (exit_left exit errors k new h (rw f.0 at reported))
+
+  -- one turn over a source
+  pub turn_errors : (levels : ℕ) (m n : Expander) (old new : Source) (step : Step Token) → TurnsSource levels m old step n new
+      → wants_memory step ≡ false → IsReported rules m old → ErrorsLeft step (errors_of m old) n new
+  turn_errors levels m n old new step h wants reported =
+      follows_left levels new.definitions h.taken (errors_of m old) h.between n new step h.follows
+      (turn_leaves m h.between (of_source old) (of_source new) h.taken h.turns reported) wants

@@ -50,5 +50,5 @@ module _ (old new : Source) (step : Step Token) (unspent : old.spent ≡ false) 
       let bad : true ≡ false = rw h.fault at reported in
       cc
   steps_unspent false e reported (inr h) =
-      let move = move_of old.dead_for_good old.blocks old.rest in
+      let move = move_of old.rules old.dead_for_good old.blocks old.rest in
       effect_unspent move.effect move.taken (note_of old.dead_for_good old.blocks old.rest) (block_change_at (sight_of old.rest)) h

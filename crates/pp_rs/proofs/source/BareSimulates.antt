@@ -13,7 +13,8 @@ use Rattle.pp_macros.specs.inner.OpenBlocks.{last_block, is_live_in}
 use Rattle.pp_macros.specs.inner.SourceMoves.{Note, unnoted, directive_line, notes_text, notes_directive}
 use Rattle.pp_macros.specs.inner.Source.{Source, Pauses}
 use Rattle.pp_rs.specs.inner.Stands.{StandsForReader}
-use Rattle.pp_rs.proofs.source.DirectiveBeforeLemmas.{begins_with_hash, AddsDirective, lone_adds, no_word_adds}
+use Rattle.pp_rs.proofs.source.DirectiveBeforeLemmas.{begins_with_hash, hash_in_front, AddsDirective, lone_adds, no_word_adds}
+use Rattle.pp_rs.proofs.blocks.RememberedLemmas.{begins_no_text}
 use Rattle.pp_rs.proofs.source.DirectivePlaceLemmas.{one_after, off_line_after_end}
 use Rattle.pp_macros.proofs.work.QuietLemmas.{is_bare, begins_bare, lone_ends}
 use Rattle.pp_rs.proofs.source.Simulates.{Simulates}
@@ -37,7 +38,8 @@ module _ {old : Source} {r : SourceReader} (s : StandsForReader old r) (move : S
       let b = begins_bare old.rest shown bare e in
       pauses_here s move new acts (
         h.0,
-        stands_two s off e b.hash b.name b.after (bare_begins shown bare) text adds b.front
+        stands_two s off e b.hash b.name b.after (hash_in_front b.hash (b.name ∷ b.after) shown (b.seen b.after) (bare_begins shown bare))
+            (begins_no_text shown (bare_begins shown bare)) text adds b.front
             (bare_quiet r.position b none (lined_here old r s)) h.1 h.2,
       )
 

@@ -1,7 +1,8 @@
 -- After the end nothing is left.
-use Rattle.std.proofs.Common.{◌≡◌, ◌∙◌, ◌⊎◌, inl, inr, Bool, true, false, List, [], ◌∷◌, drop, refl, ap, sym, Option, Some, None}
+use Rattle.std.proofs.Common.{◌≡◌, ◌∙◌, ◌⊎◌, inl, inr, Bool, true, false, if◌then◌else◌, List, [], ◌∷◌, drop, refl, ap, sym, Option, Some, None}
 use Rattle.std.specs.Prelude.{Err, MatchBool}
 use Rattle.pp_lexer.specs.Lexed.{Seen}
+use Rattle.pp_lexer.specs.declared.rules.Rules.{Rules}
 use Rattle.pp_lexer.specs.declared.token.Location.{Location}
 use Rattle.pp_lexer.specs.declared.token.Token.{Token}
 use Rattle.pp_model.specs.Sights.{sight_of}
@@ -11,7 +12,7 @@ use Rattle.pp_model.specs.declared.sight.Sight.TheVariants as sight
 use Rattle.pp_macros.specs.Item.{Step}
 use Rattle.pp_macros.specs.inner.OpenBlocks.{last_block, facts_among, is_live_among, block_change_at}
 use Rattle.pp_macros.specs.declared.blocks.OpenBlock.{OpenBlock}
-use Rattle.pp_model.specs.Moves.{BlockFacts, directive_move, move_at}
+use Rattle.pp_model.specs.Moves.{BlockFacts, failing, passing, directive_move, error_length, move_at}
 use Rattle.pp_model.proofs.MovesLemmas.{directive_holds}
 use Rattle.pp_macros.specs.inner.SourceMoves.{note_of, move_of}
 use Rattle.pp_macros.specs.inner.Source.{Source, Ends, IsRefusedStep, Makes, MakesMove}
@@ -21,10 +22,10 @@ use Rattle.pp_rs.proofs.source.StandsAfterLemmas.{no_blocks_kept}
 use Rattle.pp_macros.proofs.work.FinishedLemmas.{is_end_effect, finished_ends}
 
 -- no directive comes to the end
-directive_goes_on : (live : Bool) (block : Option BlockFacts) (directive : Directive) (word : Location) (after : List Seen)
-    → is_end_effect (directive_move live block directive word after).effect ≡ false
-directive_goes_on live block directive word after =
-    directive_holds (λ move. is_end_effect move.effect ≡ false) block word after live directive (record {
+directive_goes_on : (rules : Rules) (live : Bool) (block : Option BlockFacts) (directive : Directive) (word : Location) (after : List Seen)
+    → is_end_effect (directive_move rules live block directive word after).effect ≡ false
+directive_goes_on rules live block directive word after =
+    directive_holds (λ move. is_end_effect move.effect ≡ false) rules block word after live directive (record {
       failing = λ fault. refl;
       refusing = λ fault. refl;
       unknown = λ live its. refl;
@@ -38,12 +39,17 @@ directive_goes_on live block directive word after =
     })
 
 -- what stands there is the end only after all items
-sight_goes_on : (live : Bool) (block : Option BlockFacts) (shown : Sight) (rest : List Seen) → (shown ≡ sight.End → ⊥)
-    → is_end_effect (move_at live block shown rest).effect ≡ false
-sight_goes_on live block sight.End rest h = absurd (h refl)
-sight_goes_on live block (sight.Directive directive word) rest h = directive_goes_on live block directive word (drop 2 rest)
-sight_goes_on true block _ rest h = refl
-sight_goes_on false block _ rest h = refl
+sight_goes_on : (rules : Rules) (live : Bool) (block : Option BlockFacts) (shown : Sight) (rest : List Seen) → (shown ≡ sight.End → ⊥)
+    → is_end_effect (move_at rules live block shown rest).effect ≡ false
+sight_goes_on rules live block sight.End rest h = absurd (h refl)
+sight_goes_on rules live block (sight.Directive directive word) rest h = directive_goes_on rules live block directive word (drop 2 rest)
+sight_goes_on rules false block (sight.Fault fault) rest h = go rules.passes_dead_errors
+  where
+    go : (passed : Bool) → is_end_effect (if passed then passing (error_length rest) else failing fault).effect ≡ false
+    go true = refl
+    go false = refl
+sight_goes_on rules true block _ rest h = refl
+sight_goes_on rules false block _ rest h = refl
 
 -- after the end of a source no item is left, and no open block
 abbrev HasNothing : Source → Type 0
@@ -55,13 +61,13 @@ end_nothing None old new none e h = (ap (λ (s : Source). s.rest) h.1 ∙ e, ap 
 end_nothing (Some kept) old new some e h = let bad = h.0 in cc
 
 makes_end : (rest : List Seen) (old new : Source) → old.rest ≡ rest
-    → Makes (note_of old.dead_for_good old.blocks rest) (block_change_at (sight_of rest)) (move_of old.dead_for_good old.blocks rest) old (Err Finished) new
+    → Makes (note_of old.dead_for_good old.blocks rest) (block_change_at (sight_of rest)) (move_of old.rules old.dead_for_good old.blocks rest) old (Err Finished) new
     → HasNothing new
 makes_end [] old new e h = end_nothing (last_block old.blocks) old new refl e h
 makes_end (s ∷ rest) old new e h =
-    let move = move_of old.dead_for_good old.blocks (s ∷ rest) in
+    let move = move_of old.rules old.dead_for_good old.blocks (s ∷ rest) in
     let on : is_end_effect move.effect ≡ false =
-    sight_goes_on (is_live_among old.dead_for_good old.blocks) (facts_among old.blocks) (sight_of (s ∷ rest)) (s ∷ rest) (λ is. item_there s.item rest is) in
+    sight_goes_on old.rules (is_live_among old.dead_for_good old.blocks) (facts_among old.blocks) (sight_of (s ∷ rest)) (s ∷ rest) (λ is. item_there s.item rest is) in
     let off : is_end_effect move.effect ≡ true =
     finished_ends move.effect move.taken (note_of old.dead_for_good old.blocks (s ∷ rest)) (block_change_at (sight_of (s ∷ rest))) old new h in
     absurd (let bad : false ≡ true = sym on ∙ off in cc)

@@ -1,6 +1,7 @@
 -- Each effect of a directive's line is a step of the source's reader.
 use Rattle.std.proofs.Common.{◌≡◌, ◌∙◌, inl, inr, Bool, true, false, ◌||◌, not, ℕ, List, [], ◌∷◌, ◌++◌, drop, refl, ap, sym, subst, Option, Some, None, is_some}
 use Rattle.std.specs.Prelude.{pos, ◌-ℤ◌, Ok, Err}
+use Rattle.pp_lexer.specs.declared.rules.Rules.{Rules}
 use Rattle.pp_lexer.specs.declared.token.Location.{Location}
 use Rattle.pp_lexer.specs.declared.token.Token.{Token}
 use Rattle.pp_lexer.specs.declared.token.TokenValue.{TokenValue}
@@ -14,7 +15,7 @@ use Rattle.pp_model.specs.Moves.{BlockFacts, Effect, gives_item, passes, defines
 use Rattle.pp_model.specs.inner.Moves.{taking_more}
 use Rattle.pp_model.specs.Acts.{pause_at, outcome_at, advanced_by, decided, effect_on, perform, act}
 use Rattle.pp_model.specs.inner.Acts.{after_line, after_condition}
-use Rattle.pp_model.specs.Reads.{Does, Steps}
+use Rattle.pp_model.specs.Reads.{numbered_line, Does, Steps}
 use Rattle.pp_model.specs.inner.Reads.{after_line_number}
 use Rattle.pp_model.specs.declared.block.Part.{Part}
 use Rattle.pp_model.specs.declared.block.Part.TheVariants as part
@@ -36,7 +37,7 @@ use Rattle.pp_macros.specs.inner.SourceMoves.{directive_line}
 use Rattle.pp_rs.specs.inner.Stands.{StandsForReader}
 use Rattle.pp_macros.proofs.work.DirectiveLineLemmas.{begins_directive, quiet_word}
 use Rattle.pp_directives.proofs.ConditionActsLemmas.{with_last_is}
-use Rattle.pp_rs.proofs.source.DirectiveBeforeLemmas.{word_adds}
+use Rattle.pp_rs.proofs.source.DirectiveBeforeLemmas.{hash_in_front, word_adds}
 use Rattle.pp_rs.proofs.blocks.BlockStackLemmas.{mapped_some}
 use Rattle.pp_rs.proofs.blocks.BranchLemmas.{skipped_dead, read_untaken}
 use Rattle.pp_rs.proofs.source.Simulates.{Simulates}
@@ -135,11 +136,11 @@ module _ {old : Source} {r : SourceReader} (s : StandsForReader old r) (move : S
       → Simulates move r new
   number_simulates its tokens a (numbers n number pauses) =
       let there = line_here s (λ n. record { step = step.LineNumber word tokens; after = advanced_by n r }) a in
-      let offset = pos n -ℤ pos word.line in
+      let offset = λ (rules : Rules). pos n -ℤ pos (numbered_line rules word.line) in
       rw pauses.0 (record {
         after = after_line_number r word n;
         steps = steps_by (step.LineNumber word tokens) None (after_line_number r word n) there (Ok n, rw s.definitions number, (refl, refl));
-        stands = line_stays (stands_with old r s old.definitions r.definitions offset offset s.definitions refl) e its pauses.1 pauses.2;
+        stands = line_stays (stands_with old r s old.definitions r.definitions (offset old.rules) (offset r.rules) s.definitions (ap offset s.rules)) e its pauses.1 pauses.2;
       })
   number_simulates its tokens a (faulty_number fault number failed left) =
       let there = line_here s (λ n. record { step = step.LineNumber word tokens; after = advanced_by n r }) a in
@@ -233,20 +234,21 @@ module _ {old : Source} {r : SourceReader} (s : StandsForReader old r) (move : S
       let there = changed None its 2 None h in
       pauses_here s move new a (
         there.0,
-        stands_two s (λ alive. let bad : true ≡ false = sym alive ∙ dead in cc) e b.hash b.name b.after refl refl (word_adds old.rest directive word e) b.front
+        stands_two s (λ alive. let bad : true ≡ false = sym alive ∙ dead in cc) e b.hash b.name b.after
+            (hash_in_front b.hash (b.name ∷ b.after) (sight.Directive directive word) (b.seen b.after) refl) refl refl (word_adds old.rest directive word e) b.front
             (λ later. quiet_word r.position old.rest later directive word b its) there.1 there.2,
       )
 
   -- the line of a directive is the reader's step, in live and in dead text
   pub directive_simulates : (live : Bool) → is_live_in (last_block old.blocks) ≡ live
-      → act r ≡ perform (taking_more 2 (directive_move live (facts_among old.blocks) directive word (drop 2 old.rest))) r
+      → act r ≡ perform (taking_more 2 (directive_move old.rules live (facts_among old.blocks) directive word (drop 2 old.rest))) r
       → Makes directive_line (block_change (part_of directive) word)
-      (taking_more 2 (directive_move live (facts_among old.blocks) directive word (drop 2 old.rest))) old move new
+      (taking_more 2 (directive_move old.rules live (facts_among old.blocks) directive word (drop 2 old.rest))) old move new
       → Simulates move r new
   directive_simulates live alive =
       directive_holds (λ m. act r ≡ perform (taking_more 2 m) r → Makes directive_line (block_change (part_of directive) word) (taking_more 2 m) old move new
       → Simulates move r new)
-      (facts_among old.blocks) word (drop 2 old.rest) live directive (record {
+      old.rules (facts_among old.blocks) word (drop 2 old.rest) live directive (record {
         failing = λ fault a h. fails_here s move new a h.0;
         refusing = λ fault a h. fails_here s move new a h.0;
         unknown = λ now its a h. unknown_simulates (alive ∙ now) its a h;

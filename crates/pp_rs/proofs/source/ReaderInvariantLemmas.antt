@@ -2,6 +2,7 @@
 -- of a run.
 use Rattle.std.proofs.Common.{List, [], sym, ap, subst, Option, Some, None}
 use Rattle.pp_lexer.specs.Lexed.{Seen}
+use Rattle.pp_lexer.specs.declared.rules.Rules.{Rules}
 use Rattle.pp_lexer.specs.declared.token.Token.{Token}
 use Rattle.pp_model.specs.Names.{Name}
 use Rattle.pp_model.specs.Definitions.{Definition}
@@ -11,7 +12,7 @@ use Rattle.pp_model.specs.Calls.{Answers, Called, Calls}
 use Rattle.pp_model.specs.Emitting.{with_macro, Emits, itself, object, name_alone, call_refused, call}
 use Rattle.pp_model.specs.SourceReader.{SourceReader, reader_at_start}
 use Rattle.pp_model.specs.Reads.{Steps, Reads, here, later, source_reading}
-use Rattle.pp_model.specs.Run.{start}
+use Rattle.pp_model.specs.Run.{start_by}
 use Rattle.pp_model.specs.inner.Run.{after_addition as with_definition}
 use Rattle.pp_model.specs.RunStates.{IsReached}
 use Rattle.pp_model.specs.declared.outcome.Outcome.{Outcome}
@@ -50,6 +51,7 @@ module _ (A : Answers) (P : SourceReader → Type 0) (kept : IsKept A P) where
       item_keeps o (with_macro m line arguments g1) f i (call_keeps m.definition _ g g1 c (taking_keeps x e g t h))
 
   -- what holds of the reader at a source's start holds of it in each state of a run
-  pub reached_keeps : (source : List Seen) (e : Expander SourceReader) → IsReached A source e → P (reader_at_start source) → P e.reader
-  reached_keeps source e reached h =
-      each_state A (λ f. P f.reader) (λ name tokens f. kept.by_definition name tokens f.reader) item_keeps (start source) e reached h
+  pub reached_keeps : (rules : Rules) (source : List Seen) (e : Expander SourceReader) → IsReached A rules source e → P (reader_at_start rules source)
+      → P e.reader
+  reached_keeps rules source e reached h =
+      each_state A (λ f. P f.reader) (λ name tokens f. kept.by_definition name tokens f.reader) item_keeps (start_by rules source) e reached h

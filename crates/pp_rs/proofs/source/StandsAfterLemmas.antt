@@ -10,13 +10,14 @@ use Rattle.pp_model.specs.SourceReader.{SourceReader}
 use Rattle.pp_model.specs.inner.Acts.{after_word}
 use Rattle.pp_model.specs.declared.block.BlockLine.{BlockLine}
 use Rattle.pp_macros.specs.inner.Defined.{Defined, meaning_of}
-use Rattle.pp_directives.specs.inner.Lined.{AreLined}
+use Rattle.pp_directives.specs.inner.Lined.{AreLined, AreEnded}
 use Rattle.pp_macros.specs.inner.OpenBlocks.{last_block, outer_blocks, is_live_in, StandForBlocks, AreBefore}
 use Rattle.pp_macros.specs.declared.blocks.OpenBlock.{OpenBlock}
 use Rattle.pp_macros.specs.inner.Source.{Source}
 use Rattle.pp_rs.specs.inner.Stands.{StandsForReader}
 use Rattle.pp_rs.proofs.blocks.BlockStackLemmas.{Innermost, innermost_last, stands_innermost, none_stand, live_outside, live_inside}
 use Rattle.pp_rs.proofs.blocks.LastLemmas.{last_split}
+use Rattle.pp_directives.proofs.EndedLemmas.{ended_further}
 use Rattle.pp_directives.proofs.LinedLemmas.{lined_after}
 use Rattle.pp_rs.proofs.blocks.LinesBeforeLemmas.{AreLinesBefore, AddsLines, lines_here, lines_further}
 use Rattle.pp_rs.proofs.blocks.RememberedLemmas.{IsRemembered}
@@ -67,6 +68,9 @@ module _ (old : Source) (r : SourceReader) (s : StandsForReader old r) where
   pub lined_here : AreLined old.rest
   lined_here = subst AreLined (sym s.rest) (lined_after r.position r.items s.lined)
 
+  pub ended_here : AreEnded old.rest
+  ended_here = subst AreEnded (sym s.rest) (ended_further r.position r.items s.ended)
+
   pub after_here : after_word r ≡ drop 2 old.rest
   after_here = ap (λ items. drop 2 items) (sym s.rest)
 
@@ -77,11 +81,13 @@ module _ (old : Source) (r : SourceReader) (s : StandsForReader old r) where
   pub stands_with : (definitions : List Defined) (meaning : Definitions) (offset other : ℤ) → meaning ≡ meaning_of definitions → other ≡ offset
       → StandsForReader (record old { definitions = definitions; line_offset = offset }) (record r { definitions = meaning; line_offset = other })
   stands_with definitions meaning offset other means same = record {
+    rules = s.rules;
     rest = s.rest;
     within = s.within;
     definitions = means;
     line_offset = same;
     lined = s.lined;
+    ended = s.ended;
     lines = s.lines;
     blocks = s.blocks;
     truths = s.truths;
@@ -96,21 +102,23 @@ module _ (old : Source) (r : SourceReader) (s : StandsForReader old r) where
 
   -- some items further on
   pub stands_further : (n : ℕ) (definitions : Definitions) (truths : Truths) (more : List BlockLine) (new : Source) → n ≤ length old.rest
-      → new.rest ≡ drop n old.rest → new.spent ≡ false → new.dead_for_good ≡ old.dead_for_good → new.line_offset ≡ old.line_offset
+      → new.rules ≡ old.rules → new.rest ≡ drop n old.rest → new.spent ≡ false → new.dead_for_good ≡ old.dead_for_good → new.line_offset ≡ old.line_offset
       → definitions ≡ meaning_of new.definitions → AddsLines r.position n old.rest more
       → StandForBlocks r.items truths new.blocks (blocks_at r.items (r.position + n)) → AreBefore (r.position + n) truths
       → IsRemembered new r.items truths (r.position + n) → StandsForReader new (record r
       { position = r.position + n; definitions = definitions; truths = truths })
-  stands_further n definitions truths more new within after unspent dead offset means adds blocks before remembered =
+  stands_further n definitions truths more new within ruled after unspent dead offset means adds blocks before remembered =
       let further : AreLinesBefore r.items (r.position + n) (block_lines 0 (take r.position r.items) ++ more) =
       lines_further r.items r.position n (block_lines 0 (take r.position r.items)) more s.lines
       (subst (λ (items : List Seen). AddsLines r.position n items more) s.rest adds) in
       record {
+        rules = s.rules ∙ sym ruled;
         rest = after ∙ ap (λ items. drop n items) s.rest ∙ drop-drop n r.position r.items;
         within = omega (arith, s.within, within, ap length s.rest, length-drop r.position r.items);
         definitions = means;
         line_offset = s.line_offset ∙ sym offset;
         lined = s.lined;
+        ended = s.ended;
         lines = subst (λ (lines : List BlockLine). AreLinesBefore r.items (r.position + n) lines)
             (sym (lines_here r.items (r.position + n) (block_lines 0 (take r.position r.items) ++ more) further)) further;
         blocks = blocks;

@@ -2,7 +2,7 @@
 use Rattle.std.proofs.Common.{◌≡◌, ◌∙◌, ℕ, suc, ◌+◌, ◌≤◌, Bool, true, false, ◌&&◌, List, [], ◌∷◌, ◌++◌, length, take, refl, ap, sym, subst, arith}
 use Rattle.pp_lexer.specs.Lexed.{Seen}
 use Rattle.pp_model.specs.Definitions.{Definitions}
-use Rattle.pp_model.specs.Sights.{sight_of, is_text}
+use Rattle.pp_model.specs.Sights.{sight_of, is_text, is_directive_hash}
 use Rattle.pp_model.specs.Blocks.{block_lines, Block, blocks_at}
 use Rattle.pp_model.specs.SourceReader.{SourceReader, is_on_directive_line}
 use Rattle.pp_model.specs.Acts.{advanced_by}
@@ -13,9 +13,9 @@ use Rattle.pp_macros.specs.declared.blocks.OpenBlock.{OpenBlock}
 use Rattle.pp_macros.specs.inner.SourceMoves.{Note, notes_text, notes_directive}
 use Rattle.pp_macros.specs.inner.Source.{Source, IsAfter}
 use Rattle.pp_rs.specs.inner.Stands.{StandsForReader}
-use Rattle.pp_rs.proofs.source.DirectiveBeforeLemmas.{begins_with_hash, AddsDirective}
+use Rattle.pp_rs.proofs.source.DirectiveBeforeLemmas.{AddsDirective}
 use Rattle.pp_rs.proofs.blocks.LinesBeforeLemmas.{AddsLines}
-use Rattle.pp_macros.proofs.work.QuietLemmas.{is_one_item, quiet_one, one_there, one_in_front}
+use Rattle.pp_macros.proofs.work.QuietLemmas.{is_one_item, quiet_item, OneInFront, one_in_front}
 use Rattle.pp_rs.proofs.blocks.RememberedLemmas.{IsRemembered, one_remembered, two_remembered}
 use Rattle.pp_rs.proofs.source.StandsAfterLemmas.{live_now, remembered_here, stands_further, blocks_stay}
 use Rattle.pp_rs.proofs.blocks.TruthLemmas.{before_later}
@@ -31,7 +31,7 @@ module _ {old : Source} {r : SourceReader} (s : StandsForReader old r) {new : So
       → definitions ≡ meaning_of new.definitions → AddsLines r.position n old.rest [] → IsRemembered new r.items r.truths (r.position + n)
       → StandsForReader new (record r { position = r.position + n; definitions = definitions })
   stands_quiet n definitions within b means adds remembered =
-      stands_further old r s n definitions r.truths [] new within b.rest b.spent b.dead_for_good b.line_offset means adds
+      stands_further old r s n definitions r.truths [] new within b.rules b.rest b.spent b.dead_for_good b.line_offset means adds
       (subst (λ (kept : List OpenBlock). StandForBlocks r.items r.truths kept (blocks_at r.items (r.position + n))) (sym b.blocks)
       (subst (λ (blocks : List Block). StandForBlocks r.items r.truths old.blocks blocks) (sym (blocks_stay old r s n adds)) s.blocks))
       (before_later r.position (r.position + n) r.truths (omega arith) s.truths) remembered
@@ -42,27 +42,33 @@ module _ {old : Source} {r : SourceReader} (s : StandsForReader old r) {new : So
       → IsRemembered new r.items r.truths (r.position + n) → StandsForReader new (advanced_by n r)
   stands_same n within b same adds remembered = stands_quiet n r.definitions within b (same_meaning s new same) adds remembered
 
-  -- after one item, a newline, a token of the text or a number sign that begins no line
+  -- after one item that is no number sign of a directive
+  pub stands_first : {live : Bool} (alive : is_live_in (last_block old.blocks) ≡ live) (f : OneInFront old.rest) {note : Note}
+      → notes_text note ≡ (live && is_text (sight_of old.rest)) → notes_directive note ≡ false → IsAfter 1 note old.blocks old new
+      → new.definitions ≡ old.definitions
+      → StandsForReader new (advanced_by 1 r)
+  stands_first {live} alive f {note} noted none b same =
+      stands_same 1 (omega (arith, ap length f.front)) b same
+      (λ after. ap (λ items. block_lines r.position (take 1 items ++ after)) f.front ∙ quiet_item r.position f.first after f.quiet)
+      (one_remembered old new r.items r.truths r.position s.rest (remembered_here old r s) live alive
+      (live_now old r s ∙ alive) f.first f.later f.front f.quiet note noted none b)
+
+  -- so it is after a newline, a token of the text or a number sign that begins no line
   pub stands_one : {live : Bool} (alive : is_live_in (last_block old.blocks) ≡ live) {shown : Sight} (e : sight_of old.rest ≡ shown) {note : Note}
       → is_one_item shown ≡ true → notes_text note ≡ (live && is_text shown) → notes_directive note ≡ false → IsAfter 1 note old.blocks old new
       → new.definitions ≡ old.definitions
       → StandsForReader new (advanced_by 1 r)
-  stands_one {live} alive e {note} one text none b same =
-      let h : is_one_item (sight_of old.rest) ≡ true = ap is_one_item e ∙ one in
-      let f = one_in_front old.rest h in
-      let noted : notes_text note ≡ (live && is_text (sight_of old.rest)) = text ∙ ap (λ x. live && is_text x) (sym e) in
-      stands_same 1 (one_there old.rest h) b same (λ after. quiet_one r.position old.rest after h)
-      (one_remembered old new r.items r.truths r.position s.rest (remembered_here old r s) live alive
-      (live_now old r s ∙ alive) f.first f.later f.front f.quiet note noted none b)
+  stands_one {live} alive e one text none b same =
+      stands_first alive (one_in_front old.rest (ap is_one_item e ∙ one)) (text ∙ ap (λ x. live && is_text x) (sym e)) none b same
 
   -- after the number sign of a directive and what stands after it, where they add no line of a block
   pub stands_two : (off : is_live_in (last_block old.blocks) ≡ true → is_on_directive_line r.items (suc (suc r.position)) ≡ false) {shown : Sight} (e : sight_of old.rest ≡ shown)
       {note : Note} (a b : Seen) (rest : List Seen)
-      → begins_with_hash shown ≡ true → notes_text note ≡ false → AddsDirective 2 old.rest (notes_directive note) → old.rest ≡ a ∷ b ∷ rest
+      → is_directive_hash a.item ≡ true → is_text shown ≡ false → notes_text note ≡ false → AddsDirective 2 old.rest (notes_directive note) → old.rest ≡ a ∷ b ∷ rest
       → ((later : List Seen) → block_lines r.position (a ∷ b ∷ later) ≡ block_lines (r.position + 2) later) → IsAfter 2 note old.blocks old new
       → new.definitions ≡ old.definitions
       → StandsForReader new (advanced_by 2 r)
-  stands_two off {shown} e {note} a b rest begins text adds front quiet after same =
+  stands_two off {shown} e {note} a b rest hash none text adds front quiet after same =
       stands_same 2 (omega (arith, ap length front)) after same (λ later. ap (λ items. block_lines r.position (take 2 items ++ later)) front ∙ quiet later)
-      (two_remembered old new r.items r.truths r.position s.rest (remembered_here old r s) off shown e begins a b rest front note text
+      (two_remembered old new r.items r.truths r.position s.rest (remembered_here old r s) off shown e a b rest front hash none note text
       (notes_directive note) refl adds after)

@@ -45,14 +45,15 @@ module _ {old : Source} {r : SourceReader} (s : StandsForReader old r) where
 
   -- the table is asked the same of the source and of its reader, so the move is the same
   pub act_here : {live : Bool} → is_live_in (last_block old.blocks) ≡ live → {shown : Sight} → sight_of old.rest ≡ shown
-      → act r ≡ perform (move_at live (facts_among old.blocks) shown old.rest) r
+      → act r ≡ perform (move_at old.rules live (facts_among old.blocks) shown old.rest) r
   act_here {live} alive {shown} e =
       let live_here : is_live r.items r.truths r.position ≡ live = live_now old r s ∙ alive in
       let same_facts : facts_here r ≡ facts_among old.blocks = facts_with (last_block old.blocks) refl in
-      ap (λ now. perform (move_at now (facts_here r) (sight_of (items_left r)) (items_left r)) r) live_here
-      ∙ ap (λ facts. perform (move_at live facts (sight_of (items_left r)) (items_left r)) r) same_facts
-      ∙ ap (λ rest. perform (move_at live (facts_among old.blocks) (sight_of rest) rest) r) (sym s.rest)
-      ∙ ap (λ sight. perform (move_at live (facts_among old.blocks) sight old.rest) r) e
+      ap (λ now. perform (move_at r.rules now (facts_here r) (sight_of (items_left r)) (items_left r)) r) live_here
+      ∙ ap (λ facts. perform (move_at r.rules live facts (sight_of (items_left r)) (items_left r)) r) same_facts
+      ∙ ap (λ rest. perform (move_at r.rules live (facts_among old.blocks) (sight_of rest) rest) r) (sym s.rest)
+      ∙ ap (λ sight. perform (move_at r.rules live (facts_among old.blocks) sight old.rest) r) e
+      ∙ ap (λ rules. perform (move_at rules live (facts_among old.blocks) shown old.rest) r) s.rules
 
   -- the reader's step gives what is given there
   pub gives_here : {o : Outcome} {t : SourceReader} → act r ≡ outcome_at o t → Steps (answers_at expansion_limit) r (Some o) t

@@ -1,5 +1,5 @@
 -- A source gives its tokens unpainted: what holds of its steps holds of what is taken of them.
-use Rattle.std.proofs.Common.{◌≡◌, false, refl}
+use Rattle.std.proofs.Common.{◌≡◌, Bool, false, refl}
 use Rattle.std.specs.Prelude.{Ok, Err}
 use Rattle.pp_lexer.specs.declared.token.Token.{Token}
 use Rattle.pp_macros.specs.Item.{Step, wants_memory}
@@ -17,13 +17,14 @@ pub unpainted_end : (given : Step Token) → unpainted_step given ≡ Err Finish
 unpainted_end (Err Finished) e = refl
 unpainted_end _ e = cc
 
-pub unpainted_tells : (given : Step Token) (old new : Unreported) → StepReports given old new → StepReports (unpainted_step given) old new
-unpainted_tells (Ok token) old new h = h
-unpainted_tells (Err exit) old new h = h
+pub unpainted_tells : (passes : Bool) (given : Step Token) (old new : Unreported) → StepReports passes given old new
+    → StepReports passes (unpainted_step given) old new
+unpainted_tells passes (Ok token) old new h = h
+unpainted_tells passes (Err exit) old new h = h
 
 -- a step of a source, and the errors of the lexer that it reports
 abbrev pub StepsReporting : Source → Step Token → Source → Type 0
-StepsReporting old step new = StepsSource old step new × StepReports step (unreported_of old) (unreported_of new)
+StepsReporting old step new = StepsSource old step new × StepReports old.rules.passes_dead_errors step (unreported_of old) (unreported_of new)
 
 -- it is what the source gives as a reader
 pub reads_step : (old new : Source) (step : Step Token) → StepsReporting old step new → Reads (of_source old) (unpainted_step step) (of_source new)

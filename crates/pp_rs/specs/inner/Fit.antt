@@ -1,5 +1,6 @@
 -- What holds of an expander over a source between any two calls, unless memory ran out.
 use Rattle.std.specs.Prelude.{◌≡◌, true, false, Bool, List, [], Option, Some, Err, ⊤}
+use Rattle.pp_lexer.specs.declared.rules.Rules.{Rules}
 use Rattle.pp_model.specs.declared.read.Read.{Read}
 use Rattle.pp_macros.specs.inner.Frames.{Frame}
 use Rattle.pp_macros.specs.Item.{Step}
@@ -32,9 +33,15 @@ pub record IsFit (expander : Expander) (source : Source) : Type 0 where
   pub sound : IsSound expander (of_source source)
   pub last : EndIsLast expander.held expander.frames (of_source source)
 
--- each error of the lexer that was read was reported, except for one that is held
-abbrev pub IsReported : Expander → Source → Type 0
-IsReported expander source = IsReportedBut expander.held (unreported_of source)
+-- the reader goes by these rules
+abbrev pub GoesBy : Rules → Reader → Type 0
+GoesBy rules (of_source source) = source.rules ≡ rules
+GoesBy rules (of_list list) = ⊤
+
+-- The source is read by these rules. Each error of the lexer that was read was reported, except for one that is held.
+abbrev pub IsReported : Rules → Expander → Source → Type 0
+IsReported rules expander source =
+    IsReportedBut expander.held (unreported_of source) × (source.rules ≡ rules)
 
 -- the next token is read from live text: no macro is open and nothing is held, and memory didn't run out
 pub record IsInLiveText (expander : Expander) (source : Source) (spent : Bool) : Type 0 where

@@ -16,7 +16,7 @@ use Rattle.pp_model.specs.CallLine.{item_line}
 use Rattle.pp_rs.specs.Comes.{State, Comes}
 use Rattle.pp_rs.specs.Kept.{Preprocessing, Stands, IsAhead, is_spent, most_items, errors_left, error_place, call_line}
 use Rattle.pp_rs.specs.Kept.{rules_of}
-use Rattle.pp_rs.specs.Preprocessing.{IsNextItem}
+use Rattle.pp_rs.specs.Preprocessing.{PassesErrors, IsNextItem}
 use Rattle.pp_rs.specs.inner.Fit.{IsInLiveText}
 
 -- the preprocessor stands for a state, and what comes next in that state also comes next in this one, from the same
@@ -32,7 +32,7 @@ pub record StandsBetween (new : Preprocessing) (state : State) : Type 0 where
 pub record IsPassed (old new : Preprocessing) : Type 0 where
   pub item : (state : State) → Stands old state → StandsBetween new state
   pub spent : is_spent new ≡ is_spent old
-  pub errors : errors_left new ≡ errors_left old
+  pub errors : PassesErrors (rules_of old).passes_dead_errors (errors_left old) (errors_left new)
   pub place : error_place new ≡ error_place old
   pub no_more_left : most_items new ≤ most_items old
   pub rules : rules_of new ≡ rules_of old

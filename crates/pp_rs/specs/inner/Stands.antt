@@ -10,23 +10,26 @@ use Rattle.pp_model.specs.SourceReader.{SourceReader, has_directive, is_on_direc
 use Rattle.pp_macros.specs.inner.Defined.{meaning_of}
 use Rattle.pp_macros.specs.inner.Frames.{flat}
 use Rattle.pp_macros.specs.Item.{Step}
-use Rattle.pp_directives.specs.inner.Lined.{AreLined}
+use Rattle.pp_directives.specs.inner.Lined.{AreLined, AreEnded}
 use Rattle.pp_macros.specs.inner.Expander as kept
 use Rattle.pp_macros.specs.inner.Expander.{outcome_of_step}
 use Rattle.pp_macros.specs.inner.OpenBlocks.{last_block, is_live_in, StandForBlocks, AreBefore}
 use Rattle.pp_macros.specs.inner.Source.{Source}
 use Rattle.pp_macros.specs.declared.step.StepExit.TheVariants.{Error, Continue}
 
--- The source and the reader of the definitions. What is left to read is what follows the reader's position; the lines
--- of blocks are those before it and those after it; the kept blocks stand for those that are open there. The source
--- remembers whether a live token of the text was read, and whether a directive was. No directive's number sign is
--- directly before the position. In live text, unless the end is reached, the position isn't on a directive's line.
+-- The source and the reader of the definitions. Both go by the same rules. What is left to read is what follows the
+-- reader's position; the lines of blocks are those before it and those after it; the kept blocks stand for those that
+-- are open there. The source remembers whether a live token of the text was read, and whether a directive was. No
+-- directive's number sign is directly before the position. In live text, unless the end is reached, the position isn't
+-- on a directive's line.
 pub record StandsForReader (source : Source) (reader : SourceReader) : Type 0 where
+  pub rules : reader.rules ≡ source.rules
   pub rest : source.rest ≡ drop reader.position reader.items
   pub within : reader.position ≤ length reader.items
   pub definitions : reader.definitions ≡ meaning_of source.definitions
   pub line_offset : reader.line_offset ≡ source.line_offset
   pub lined : AreLined reader.items
+  pub ended : AreEnded reader.items
   pub lines : (after : List Seen) → block_lines 0 (take reader.position reader.items ++ after)
       ≡ block_lines 0 (take reader.position reader.items) ++ block_lines reader.position after
   pub blocks : StandForBlocks reader.items reader.truths source.blocks (blocks_at reader.items reader.position)

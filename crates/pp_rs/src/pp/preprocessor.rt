@@ -8,7 +8,7 @@ ghost use Rattle.pp_lexer.specs.Location.{nowhere};
 ghost use Rattle.pp_lexer.specs.Rules.{pp_rs};
 ghost use Rattle.pp_lexer.specs.PreprocessorError.{out_of_memory};
 ghost use Rattle.pp_model.specs.Names.{Name};
-ghost use Rattle.pp_model.specs.Run.{items_by, items_of, start};
+ghost use Rattle.pp_model.specs.Run.{items_by, items_of, start, start_by};
 ghost use Rattle.pp_rs.specs.Adding.{IsAdded};
 ghost use Rattle.pp_rs.specs.inner.GivingOn.{IsFrontLine};
 ghost use Rattle.pp_rs.specs.TokenRefs.{token_of};
@@ -72,7 +72,8 @@ impl<'a> Model for Preprocessor<'a> {
       rules = p.rules;
     } };
 
-    ghost invariant = { λ p. (p.spent ≡ false → IsFit p.expander.here p.source × IsReported p.expander.here p.source)
+    ghost invariant = { λ p. (p.spent ≡ false → IsFit p.expander.here p.source
+        × IsReported p.rules p.expander.here p.source)
         × (p.expander.below ≡ [])
         × (p.in_text ≡ true → IsInLiveText p.expander.here p.source p.spent) };
 }
@@ -149,7 +150,7 @@ impl<'a> Preprocessor<'a> {
     pub fn with_rules(alloc: Global, input: &'a str, rules: Rules) -> Preprocessor<'a>
         requires { length input.now < 2 ^ 32 - 1 }
         ensures unspent { is_spent result ≡ false }
-        ensures stands { Stands result (start (items_by rules input.now)) }
+        ensures stands { Stands result (start_by rules (items_by rules input.now)) }
         ensures errors { errors_left result ≡ lexer_errors_by rules input.now }
         ensures place { error_place result ≡ nowhere }
         ensures line { call_line result ≡ None }

@@ -4,7 +4,7 @@ ghost use Rattle.std.specs.Prelude.{◌≡◌, ◌-◌, ◌^◌, ◌<◌, ◌↔
 ghost use Rattle.std.specs.IoError.{error_kind};
 ghost use Rattle.pp_lexer.specs.Location.{nowhere};
 ghost use Rattle.pp_lexer.specs.Rules.{pp_rs};
-ghost use Rattle.pp_model.specs.Run.{items_by, items_of, start};
+ghost use Rattle.pp_model.specs.Run.{items_by, items_of, start, start_by};
 ghost use Rattle.pp_macros.specs.LexerErrors.{lexer_errors, lexer_errors_by};
 ghost use Rattle.pp_rs.specs.Kept.{Stands, is_spent, errors_left, error_place, call_line, rules_of};
 ghost use Rattle.pp_rs.specs.Trying.{IsTried, add_sentence};
@@ -73,7 +73,7 @@ impl<'a> Preprocessor<'a> {
     pub fn try_with_rules(alloc: Global, input: &'a str, rules: Rules) -> Option<Preprocessor<'a>>
         ensures short { IsSome result ↔ (length input.now < 2 ^ 32 - 1) }
         ensures unspent { IfSome result (λ pp. is_spent pp ≡ false) }
-        ensures stands { IfSome result (λ pp. Stands pp (start (items_by rules input.now))) }
+        ensures stands { IfSome result (λ pp. Stands pp (start_by rules (items_by rules input.now))) }
         ensures errors { IfSome result (λ pp. errors_left pp ≡ lexer_errors_by rules input.now) }
         ensures place { IfSome result (λ pp. error_place pp ≡ nowhere) }
         ensures line { IfSome result (λ pp. call_line pp ≡ None) }

@@ -10,7 +10,7 @@ pub returns-in_err-line : goal.returns-in_err-line
 returns-in_err-line c =
     let p = c.self.inside in
     rw (← c.self.view_is, err_result c.from_residual.result c.in_err-line.field-0.0 c.from_residual.ensures.1)
-    (acts_failed as_named c.in_err-line.field-0.0 unchanged (defined_on c.args.word) defines p.definitions p.blocks
+    (acts_failed as_named c.in_err-line.field-0.0 unchanged (defined_on p.rules c.args.word) defines p.rules p.definitions p.blocks
     p.blocks (omega arith) p.line_offset p.has_text p.has_directive p.dead_for_good p.lexer c.define_line.new.lexer
     c.in_err-line.ensures)
 
@@ -18,5 +18,5 @@ pub returns : goal.returns
 returns c =
     let p = c.self.inside in
     rw (← c.self.view_is)
-    (define_acts p.definitions p.blocks p.line_offset p.has_text p.has_directive p.dead_for_good p.lexer c.define_line.new.lexer c.args.word
+    (define_acts p.rules p.definitions p.blocks p.line_offset p.has_text p.has_directive p.dead_for_good p.lexer c.define_line.new.lexer c.args.word
     as_named c.in_ok-line.line c.add.result c.add.new.self c.in_ok-line.ensures c.add.ensures)

@@ -1,5 +1,5 @@
 use Rattle.std.proofs.Common.{◌∷◌, ◌++◌, [], ◌∙◌, ap, sym, subst}
-use Rattle.pp_rs.proofs.runs.CollectingLemmas.{Appended, appended_none, appended_more, appended_before}
+use Rattle.pp_rs.proofs.runs.CollectingLemmas.{Appended, appended_none, appended_more, appended_before, appended_all}
 use Rattle.pp_rs.proofs.pp.all_items.gather.Goals as goal
 
 pub items-init : goal.items-init
@@ -17,3 +17,9 @@ returns-then-is_refusal-clause-appended c =
     let came = subst (λ items. Appended c.args.pp.now old items c.items.pp) (sym (c.in_ok-reserve.ensures {u = tt}).items) c.items.invariant in
     appended_before c.args.pp.now old c.reserve.new.self.items c.items.pp c.next.new.self c.in-Some.item c.in-Some.ensures.steps came
     (sym c.is_refusal.ensures ∙ c.if-is_refusal.true)
+
+pub returns-in_default-clause-all : goal.returns-in_default-clause-all
+returns-in_default-clause-all c =
+    let old = c.args.items.now.items in
+    let came = subst (λ items. Appended c.args.pp.now old items c.items.pp) (sym (c.in_ok-reserve.ensures {u = tt}).items) c.items.invariant in
+    appended_all c.args.pp.now old c.reserve.new.self.items c.items.pp c.next.new.self c.in_default.ensures.steps came

@@ -1,12 +1,12 @@
 use Rattle.std.proofs.Common.{map, subst}
 use Rattle.std.proofs.lemmas.Result.{IfOk-weaker}
 use Rattle.pp_lexer.specs.declared.rules.Rules.{Rules}
-use Rattle.pp_model.specs.Run.{Runs, items_by, start, call_of}
+use Rattle.pp_model.specs.Run.{Runs, items_by, start_by, call_of}
 use Rattle.pp_rs.specs.Comes.{Comes}
 use Rattle.pp_rs.proofs.pp.call_list.replies_by.Goals as goal
 
 pub returns : goal.returns
 returns c =
     IfOk-weaker c.replies_to-replies.result _ _
-    (λ replies h. subst (λ (rules : Rules). Runs Comes rules (start (items_by c.args.rules c.args.source.now)) (map call_of c.args.calls.now) replies.items)
+    (λ replies h. subst (λ (rules : Rules). Runs Comes rules (start_by c.args.rules (items_by c.args.rules c.args.source.now)) (map call_of c.args.calls.now) replies.items)
     c.with_rules-pp.ensures.rules (h _ c.with_rules-pp.ensures.stands)) c.replies_to-replies.ensures

@@ -31,17 +31,17 @@ invariant_of-self c =
     let p = c.self.inside in
     let new = c.set_content.new.self in (
       λ unspent.
-          let fit : IsFit p.expander.here p.source × IsReported p.expander.here p.source = c.self.invariant.0 unspent in
+          let fit : IsFit p.expander.here p.source × IsReported p.rules p.expander.here p.source = c.self.invariant.0 unspent in
           elim c.match-set_content.branch [
             | in-Ok w ↦
                 (let h = w.in-Ok.ensures {u = tt} in
-                (fit_added (chars c.args.name.now) h.0 p.source new h.2 p.expander.here fit.0, reported_added (chars c.args.name.now) h.0 p.source new h.2 p.expander.here fit.1))
+                (fit_added (chars c.args.name.now) h.0 p.source new h.2 p.expander.here fit.0, reported_added (chars c.args.name.now) h.0 p.source new h.2 p.rules p.expander.here fit.1))
             | in-Err-Fault w ↦
                 (let h = rw w.in-Err-Fault.field-0-is at (w.in-Err-Fault.ensures {u = tt}) in
-                subst (λ (s : Source). IsFit p.expander.here s × IsReported p.expander.here s) (sym h.1) fit)
+                subst (λ (s : Source). IsFit p.expander.here s × IsReported p.rules p.expander.here s) (sym h.1) fit)
             | in-Err-OutOfMemory w ↦
                 (let h = rw w.in-Err-OutOfMemory.field-0-is at (w.in-Err-OutOfMemory.ensures {u = tt}) in
-                subst (λ (s : Source). IsFit p.expander.here s × IsReported p.expander.here s) (sym h) fit)
+                subst (λ (s : Source). IsFit p.expander.here s × IsReported p.rules p.expander.here s) (sym h) fit)
           ],
       c.self.invariant.1,
       λ e. cc,

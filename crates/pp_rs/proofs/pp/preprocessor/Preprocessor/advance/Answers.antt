@@ -59,7 +59,7 @@ returns-in-Err-clause-some_left c =
     let refused = c.in-Err.ensures.refused in
     let on = reached_on _ _ _ _ first _ refused.pauses in
     let fresh : c.args.self.now.spent ≡ false = ap (λ p. p.spent) (sym c.self.view_is) ∙ c.if-self.false in
-    let next = next_refused _ _ c.advance.new.self.here _ _ c.self.inside.source on.reached c.args.self.now fresh refl refl _ (ap (λ p. p.rules) c.self.view_is)
+    let next = next_refused _ _ c.advance.new.self.here _ _ c.self.inside.source on.reached c.args.self.now fresh refl refl (ap (λ p. p.rules) c.self.view_is)
     refused.some (record c.args.self.now { spent = true }) refl refl in
     omega (arith, next.less_left)
 

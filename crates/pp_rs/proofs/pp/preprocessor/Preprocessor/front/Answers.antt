@@ -34,6 +34,6 @@ returns-clause-some_left c =
     let fresh = ap (λ p. p.spent) c.self.view_is ∙ fresh_ahead c.args.self.now c.requires.0 c.requires.1 in
     let next = ahead_passes c.args.self.now c.self.inside.expander.here c.self.inside.source (ap (λ p. p.expander) (sym c.self.view_is))
     (ap (λ p. p.source) (sym c.self.view_is)) (c.self.invariant.0 fresh) c.requires.0 c.requires.1 c.self.inside.spent c.self.inside.place
-    c.self.inside.name_line _ fresh
+    c.self.inside.name_line fresh
     (ap (λ p. p.place) c.self.view_is) (ap (λ p. p.rules) c.self.view_is) in
     omega (arith, next.less_left)

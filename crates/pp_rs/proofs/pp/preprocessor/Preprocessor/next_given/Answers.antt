@@ -51,7 +51,7 @@ returns-in-Ok-Some c =
     let first = reached_first _ _ _ _ (ap (λ p. p.expander) c.self.view_is) (ap (λ p. p.source) c.self.view_is) (c.self.invariant.0 now_fresh) in
     let given = rw c.in-Ok-Some.field-0-is at (c.in-Ok-Some.ensures {u = tt}).gives in
     let on = reached_on _ _ _ _ first _ given.pauses in
-    next_token _ _ _ _ _ _ on.reached c.args.self.now fresh refl refl _ (ap (λ p. p.rules) c.self.view_is) c.in-Ok-Some.token c.self.inside.spent
+    next_token _ _ _ _ _ _ on.reached c.args.self.now fresh refl refl (ap (λ p. p.rules) c.self.view_is) c.in-Ok-Some.token c.self.inside.spent
     c.self.inside.place c.self.inside.name_line now_fresh (ap (λ p. p.place) c.self.view_is)
     (free_kept c.give_next.new.self.here.held c.self.inside.name_line (outermost_frame_line given.between.frames)
     c.give_next.new.self.here.frames (ap (λ (m : Expander). m.held) given.passes ∙ given.gives.free))
@@ -75,5 +75,5 @@ returns-in-Err c =
     let refused = (c.in-Err.ensures {u = tt}).refused in
     let on = reached_on _ _ _ _ first _ refused.pauses in
     rw c.out_of_memory.ensures
-    (next_refused _ _ c.give_next.new.self.here _ _ c.self.inside.source on.reached c.args.self.now fresh refl refl _ (ap (λ p. p.rules) c.self.view_is) refused.some _ refl
+    (next_refused _ _ c.give_next.new.self.here _ _ c.self.inside.source on.reached c.args.self.now fresh refl refl (ap (λ p. p.rules) c.self.view_is) refused.some _ refl
     (ap (λ p. p.rules) c.self.view_is))

@@ -66,7 +66,7 @@ pub returns-in-Some-default-None-clause-gives : goal.returns-in-Some-default-Non
 returns-in-Some-default-None-clause-gives c =
     let takes = rw c.in-Some-default-None.field-0-1-is at c.in-Some-default-None.ensures.gives in
     record {
-      next = next_token _ _ _ _ _ _ c.words.invariant.reached c.args.self.now c.requires.unspent refl refl _ c.words.invariant.ruled (word_token c.in-Some-default-None.word)
+      next = next_token _ _ _ _ _ _ c.words.invariant.reached c.args.self.now c.requires.unspent refl refl c.words.invariant.ruled (word_token c.in-Some-default-None.word)
           c.words.self-inside.spent c.words.self-inside.place c.words.self-inside.name_line c.words.invariant.unspent c.words.invariant.placed
           (idle_line c.words.self-inside.expander.here _ _ c.words.invariant.idle)
           (word_over _ _ _ (word_token c.in-Some-default-None.word) c.words.invariant.idle takes.step takes.does) takes.holds;
@@ -100,7 +100,7 @@ returns-in-Ok-clause-gives c =
     record {
       passed = passed_pauses c.args.self.now _ _ _ _ _ _ (reached_more _ _ _ _ _ _ c.words.invariant.reached turns) c.requires.unspent
           c.words.invariant.unspent c.words.invariant.placed c.words.invariant.ruled;
-      less_left = λ _. less_more _ _ _ _ _ _ c.words.invariant.reached c.args.self.now c.requires.unspent refl refl _ c.words.invariant.ruled _ _ _ c.words.invariant.unspent turns;
+      less_left = λ _. less_more _ _ _ _ _ _ c.words.invariant.reached c.args.self.now c.requires.unspent refl refl c.words.invariant.ruled _ _ _ c.words.invariant.unspent turns;
     }
 
 -- no memory to open it
@@ -114,7 +114,7 @@ returns-in-Err-clause-spent c = refl
 pub returns-in-Err-clause-some_left : goal.returns-in-Err-clause-some_left
 returns-in-Err-clause-some_left c =
     let takes = rw c.in-Some-default-Some.field-0-1-is at c.in-Some-default-Some.ensures.gives in
-    some_items _ _ _ _ _ _ c.words.invariant.reached c.args.self.now c.requires.unspent refl refl _ c.words.invariant.ruled
+    some_items _ _ _ _ _ _ c.words.invariant.reached c.args.self.now c.requires.unspent refl refl c.words.invariant.ruled
     (bare_would _ _ _ _ _ c.words.invariant.idle takes).1
 
 -- nothing else is a word

@@ -16,7 +16,7 @@ invariant-words l = record {
   alone : l.self-inside.expander.below ≡ [];
   idle : is_idle l.self-inside.expander.here ≡ true;
   text : IsInText l.self-inside.source;
-  reached : Reached l.fn.self.expander l.fn.self.source l.self-inside.expander.here l.self-inside.source;
+  reached : Reached l.self-inside.rules l.fn.self.expander l.fn.self.source l.self-inside.expander.here l.self-inside.source;
 }
 
 abbrev pub decreases-words : goal.decreases-words

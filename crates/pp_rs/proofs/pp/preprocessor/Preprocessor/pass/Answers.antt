@@ -33,7 +33,7 @@ returns-clause-gives c = λ token ahead.
     let fresh = ap (λ p. p.spent) c.self.view_is ∙ fresh_ahead c.args.self.now token ahead in
     rw c.pass_token.ensures
     (ahead_passes c.args.self.now c.self.inside.expander.here c.self.inside.source (ap (λ p. p.expander) (sym c.self.view_is))
-    (ap (λ p. p.source) (sym c.self.view_is)) (c.self.invariant.0 fresh) token ahead c.self.inside.spent c.self.inside.place c.self.inside.name_line _ fresh
+    (ap (λ p. p.source) (sym c.self.view_is)) (c.self.invariant.0 fresh) token ahead c.self.inside.spent c.self.inside.place c.self.inside.name_line fresh
     (ap (λ p. p.place) c.self.view_is) (ap (λ p. p.rules) c.self.view_is))
 
 pub returns-clause-line : goal.returns-clause-line

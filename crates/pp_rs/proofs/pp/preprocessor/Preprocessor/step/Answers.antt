@@ -58,7 +58,7 @@ returns-in-Ok c =
     let fresh : c.args.self.now.spent ≡ false = c.requires in
     let now_fresh = ap (λ p. p.spent) c.self.view_is ∙ fresh in
     let first = reached_first _ _ _ _ (ap (λ p. p.expander) c.self.view_is) (ap (λ p. p.source) c.self.view_is) (c.self.invariant.0 now_fresh) in
-    next_token _ _ _ _ _ _ first c.args.self.now fresh refl refl _ (ap (λ p. p.rules) c.self.view_is) c.in-Ok.token c.self.inside.spent c.self.inside.place
+    next_token _ _ _ _ _ _ first c.args.self.now fresh refl refl (ap (λ p. p.rules) c.self.view_is) c.in-Ok.token c.self.inside.spent c.self.inside.place
     c.outermost_line-self-inside.result now_fresh (ap (λ p. p.place) c.self.view_is)
     (ap (λ line. kept_line c.turn_source.new.expander.here.held line c.turn_source.new.expander.here.frames) c.outermost_line-self-inside.ensures)
     c.in-Ok.ensures.turns c.in-Ok.ensures.holds
@@ -71,7 +71,7 @@ returns-in-Err-Error c =
     let first = reached_first _ _ _ _ (ap (λ p. p.expander) c.self.view_is) (ap (λ p. p.source) c.self.view_is) (c.self.invariant.0 now_fresh) in
     let error = c.in-Err-Error.error in
     rw (c.refused_item.ensures.item, c.refused_item.ensures.spent)
-    (next_error _ _ _ _ _ _ first c.args.self.now fresh refl refl _ (ap (λ p. p.rules) c.self.view_is) error c.refused_item.new.source c.refused_item.new.place
+    (next_error _ _ _ _ _ _ first c.args.self.now fresh refl refl (ap (λ p. p.rules) c.self.view_is) error c.refused_item.new.source c.refused_item.new.place
     c.outermost_line-self-inside.result c.refused_item.ensures.source (is_out_of_memory error.0) refl
     (rw c.in-Err-Error.field-0-is at c.in-Err-Error.ensures.turns) c.refused_item.ensures.place)
 
@@ -81,7 +81,7 @@ returns-in-Err-Finished c =
     let fresh : c.args.self.now.spent ≡ false = c.requires in
     let now_fresh = ap (λ p. p.spent) c.self.view_is ∙ fresh in
     let first = reached_first _ _ _ _ (ap (λ p. p.expander) c.self.view_is) (ap (λ p. p.source) c.self.view_is) (c.self.invariant.0 now_fresh) in
-    next_end _ _ _ _ _ _ first c.args.self.now fresh refl refl _ (ap (λ p. p.rules) c.self.view_is) c.self.inside.spent c.self.inside.place c.outermost_line-self-inside.result now_fresh
+    next_end _ _ _ _ _ _ first c.args.self.now fresh refl refl (ap (λ p. p.rules) c.self.view_is) c.self.inside.spent c.self.inside.place c.outermost_line-self-inside.result now_fresh
     (ap (λ p. p.place) c.self.view_is) (rw c.in-Err-Finished.field-0-is at c.in-Err-Finished.ensures.turns)
 
 pub returns-in-Err-Continue : goal.returns-in-Err-Continue
@@ -93,5 +93,5 @@ returns-in-Err-Continue c =
     let turns = rw c.in-Err-Continue.field-0-is at c.in-Err-Continue.ensures.turns in
     record {
       passed = passed_pauses c.args.self.now _ _ _ _ _ _ (reached_more _ _ _ _ _ _ first turns) fresh now_fresh (ap (λ p. p.place) c.self.view_is) (ap (λ p. p.rules) c.self.view_is);
-      less_left = less_more _ _ _ _ _ _ first c.args.self.now fresh refl refl _ (ap (λ p. p.rules) c.self.view_is) _ _ _ now_fresh turns;
+      less_left = less_more _ _ _ _ _ _ first c.args.self.now fresh refl refl (ap (λ p. p.rules) c.self.view_is) _ _ _ now_fresh turns;
     }

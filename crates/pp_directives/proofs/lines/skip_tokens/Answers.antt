@@ -1,6 +1,6 @@
 use Rattle.std.proofs.Common.{ap, ◌∙◌, arith, Ok}
 use Rattle.pp_directives.proofs.LineReadingLemmas.{drop_fewer, skipped_more, skipped_place}
-use Rattle.pp_directives.proofs.lines.skip_line.Goals as goal
+use Rattle.pp_directives.proofs.lines.skip_tokens.Goals as goal
 
 pub line-preserved : goal.line-preserved
 line-preserved c =
