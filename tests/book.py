@@ -78,7 +78,7 @@ def unescaped(text):
 
 
 # What a binding can't do, or what changes what comes after it.
-OTHERS = ("all", "drain")
+OTHERS = ("glsl", "all", "drain")
 
 
 def calls_of(case, answers):

@@ -1,4 +1,4 @@
-//! The definition on a `#define` line.
+//! What the line of a `#define` or an `#undef` says.
 
 ghost use Rattle.std.specs.Prelude.{◌≡◌, true, false, if◌then◌else◌, Ok, Err};
 ghost use Rattle.pp_expression.specs.Answers.{◌>>=◌ as ◌and_then◌};
@@ -6,20 +6,22 @@ ghost use Rattle.pp_model.specs.Conversions as conversions;
 ghost use Rattle.pp_model.specs.Conversions.{closes_parameters, parts_parameters};
 ghost use Rattle.pp_model.specs.DefineLines as spec;
 ghost use Rattle.pp_model.specs.inner.DefineLines as parts;
-ghost use Rattle.pp_model.specs.Lines.{first_token};
+ghost use Rattle.pp_model.specs.Lines.{first_token, first_name};
 ghost use Rattle.pp_reference.specs.inner.Halting.{Meets};
 
 use crate::conversion::{
     closes_parameters, identifier_of, opens_parameters, parts_parameters, refused_token,
 };
 use crate::item::SourceItem;
-use crate::line::{after_first_token, first_name, first_token, line_tokens};
+use crate::line::{after_first_token, ended_line, first_name, first_token, line_tokens};
 use crate::lists::NameList;
 use crate::names::is_among;
 use crate::stop::Halt;
 use pp_lexer::lexer::{self, LexerItem};
-use pp_lexer::token::{Location, PreprocessorError};
-use pp_model::definition::{Definition, Named};
+use pp_lexer::rules::Rules;
+use pp_lexer::token::{Location, PreprocessorError, Text, TokenValue};
+use pp_model::definition::{Definition, Named, Placed};
+use pp_model::names::is_own_name;
 use std::alloc::Global;
 use std::marker::Model;
 
@@ -163,15 +165,58 @@ fn definition_at(alloc: Global, word: Location, items: &[SourceItem]) -> Result<
     })
 }
 
-/// The name and definition on the line, or its first fault.
-pub fn defined_on(alloc: Global, word: Location, items: &[SourceItem]) -> Result<Named, Halt>
-    ensures { Meets result (spec.defined_on word items.now) }
+// The name, unless the rules keep it for the language.
+fn free_name(rules: Rules, first: Placed) -> Result<Placed, Halt>
+    ensures { Meets result (spec.free_name rules first) }
+{
+    if rules.keeps_own_names && is_own_name(&first.name) {
+        let value = TokenValue::Ident(first.name);
+        return Err(Halt::Fault((PreprocessorError::UnexpectedToken(value), first.location)));
+    }
+    Ok(first)
+}
+
+// The name that comes first and is defined, or whose definition is taken away.
+fn changed_name(
+    alloc: Global,
+    rules: Rules,
+    word: Location,
+    items: &[SourceItem],
+) -> Result<Placed, Halt>
+    ensures { Meets result (first_name word items.now and_then spec.free_name rules) }
 {
     let first = first_name(alloc, word, items)?;
+    free_name(rules, first)
+}
+
+/// The name and definition on the line of a `#define`, or its first fault.
+pub fn defined_on(
+    alloc: Global,
+    rules: Rules,
+    word: Location,
+    items: &[SourceItem],
+) -> Result<Named, Halt>
+    ensures { Meets result (spec.defined_on rules word items.now) }
+{
+    let first = changed_name(alloc, rules, word, items)?;
     let definition = definition_at(alloc, word, after_first_token(items))?;
     Ok(Named {
         name: first.name,
         location: first.location,
         definition,
     })
+}
+
+/// The name on the line of an `#undef`, or its first fault.
+pub fn undefined_on(
+    alloc: Global,
+    rules: Rules,
+    word: Location,
+    items: &[SourceItem],
+) -> Result<Text, Halt>
+    ensures { Meets result (spec.undefined_on rules word items.now) }
+{
+    let first = changed_name(alloc, rules, word, items)?;
+    ended_line(alloc, word, after_first_token(items))?;
+    Ok(first.name)
 }

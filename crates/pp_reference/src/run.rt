@@ -94,12 +94,13 @@ fn content_tokens(alloc: Global, items: &[SourceItem]) -> Result<TokenList, Halt
     }
 }
 
-// An expander at the start of a source.
-fn start(alloc: Global, items: &[SourceItem]) -> Result<Expander<Source<'_>>, Stop>
-    ensures { IfOk result (λ expander. seen source_state expander ≡ spec.start items.now) }
+// An expander at the start of a source that is read by these rules.
+fn start(alloc: Global, rules: Rules, items: &[SourceItem]) -> Result<Expander<Source<'_>>, Stop>
+    ensures { IfOk result (λ expander. seen source_state expander ≡ spec.start_by rules items.now) }
 {
     let unfinished = blocks_at(alloc, items, items.len())?.len();
     let reader = SourceReader {
+        rules,
         items,
         position: 0,
         definitions: Definitions::new(alloc),
@@ -246,9 +247,9 @@ fn replies_over(
 ) -> Result<Vec<Reply>, Stop>
     requires { All HasRoom calls.now }
     ensures { IfOk result (λ replies. spec.Runs (spec.by_rules (answers_at expansion_limit)) rules
-        (spec.start items.now) (map call_of calls.now) replies.items) }
+        (spec.start_by rules items.now) (map call_of calls.now) replies.items) }
 {
-    let mut expander = start(alloc, items)?;
+    let mut expander = start(alloc, rules, items)?;
     let replies = replies(alloc, rules, &mut expander, calls, budget);
     drop(expander);
     replies

@@ -1,8 +1,8 @@
 //! A reader of a source: what each token or line does.
 
-ghost use Rattle.std.specs.Prelude.{◌≡◌, ◌≤◌, ◌+◌, Some, None, length, IfOk, OnOk, option_map, not, true, false};
+ghost use Rattle.std.specs.Prelude.{◌≡◌, ◌≤◌, ◌+◌, pos, Some, None, length, IfOk, OnOk, option_map, not, true, false};
 ghost use Rattle.pp_model.specs.Lines.{only_name, line_tokens, comments_before_end};
-ghost use Rattle.pp_model.specs.DefineLines.{defined_on};
+ghost use Rattle.pp_model.specs.DefineLines.{defined_on, undefined_on};
 ghost use Rattle.std.specs.Option.{option_copied};
 ghost use Rattle.pp_reference.specs.inner.Acting.{ActsAs, HasLine, HasLineIfOk, arrived};
 ghost use Rattle.pp_model.specs.Acts as spec;
@@ -10,22 +10,23 @@ ghost use Rattle.pp_model.specs.inner.Acts as parts;
 ghost use Rattle.pp_model.specs.Moves as moves;
 ghost use Rattle.pp_model.specs.Blocks.{are_surroundings_live};
 ghost use Rattle.pp_reference.specs.inner.ReaderState.{reader_of};
-ghost use Rattle.pp_model.specs.Reads.{shown_line};
+ghost use Rattle.pp_model.specs.Reads.{numbered_line, shown_line};
 ghost use Rattle.pp_model.specs.inner.Reads.{after_line_number};
 ghost use Rattle.pp_model.specs.inner.Run.{after_addition};
 ghost use Rattle.pp_model.specs.Sights.{least_items};
 ghost use Rattle.pp_reference.specs.declared.stop.Halt.TheVariants as halt;
 
 use crate::block::{Block, blocks_at, has_else, has_taken_branch, is_live};
-use crate::define_line::defined_on;
+use crate::define_line::{defined_on, undefined_on};
 use crate::definitions::Definitions;
 use crate::item::SourceItem;
 use crate::line::{
     comments_before_end, ended_line, line_fault, line_length, line_tokens, only_name,
 };
 use crate::sight::sight_of;
-use crate::source_text::{has_live_text_before, is_first_directive};
+use crate::source_text::{error_length, has_live_text_before, is_first_directive};
 use crate::stop::{Halt, Stop};
+use pp_lexer::rules::Rules;
 use pp_lexer::token::{
     Extension, Location, Pragma, PreprocessorError, Text, Token, TokenValue, Tokens, Version,
 };
@@ -41,6 +42,8 @@ use std::marker::Model;
 /// A reader of a source.
 #[derive(Drop)]
 pub struct SourceReader<'a> {
+    /// The rules by which it reads.
+    pub rules: Rules,
     /// The items of the source.
     pub items: &'a [SourceItem],
     /// The position of the item that comes next.
@@ -62,6 +65,7 @@ impl<'a> Model for SourceReader<'a> {
     ghost Value = { spec.ReaderState };
 
     ghost view = { λ r. record {
+      rules = r.rules;
       items = r.items.now;
       position = r.position;
       changes = r.definitions;
@@ -77,6 +81,17 @@ fn refuse(error: PreprocessorError, location: Location) -> Halt
     ensures { result ≡ halt.Fault (error, location) }
 {
     Halt::Fault((error, location))
+}
+
+// The line to which a `#line` on this line gives its number.
+fn numbered_line(rules: Rules, line: u32) -> i64
+    ensures { result ≡ pos (numbered_line rules line) }
+{
+    if rules.numbers_next_line {
+        i64::from(line) + 1
+    } else {
+        i64::from(line)
+    }
 }
 
 impl<'a> SourceReader<'a> {
@@ -97,14 +112,18 @@ impl<'a> SourceReader<'a> {
         self.position += 2 + length;
     }
 
-    // Skips the directive's line. An error of the lexer on it is returned.
+    // Skips the directive's line. An error of the lexer on it is returned, unless the rules pass it.
     fn skip_line(&mut self, alloc: Global) -> Result<Step, Halt>
         requires { self.old.position + 2 ≤ length self.old.items }
         ensures acts { ActsAs result (parts.perform_line
-            (moves.skip_move (parts.after_word (reader_of self.old)))
+            (moves.skip_move self.old.rules (parts.after_word (reader_of self.old)))
             (reader_of self.old)) (reader_of self.new) }
         ensures line { HasLineIfOk result self.old self.new }
     {
+        if self.rules.passes_dead_errors {
+            self.pass_line();
+            return Ok(Step::Passed);
+        }
         match line_fault(alloc, self.after_word())? {
             Some(fault) => Err(Halt::Fault(fault)),
             None => {
@@ -130,7 +149,7 @@ impl<'a> SourceReader<'a> {
         requires { self.old.position + 2 ≤ length self.old.items }
         ensures { reader_of self.new ≡ after_line_number (reader_of self.old) word number }
     {
-        self.line_offset = i64::from(number) - i64::from(word.line);
+        self.line_offset = i64::from(number) - numbered_line(self.rules, word.line);
         self.pass_line();
     }
 
@@ -184,12 +203,12 @@ impl<'a> SourceReader<'a> {
     fn define(&mut self, alloc: Global, word: Location) -> Result<Step, Halt>
         requires { self.old.position + 2 ≤ length self.old.items }
         ensures acts { ActsAs result (parts.perform_line
-            (moves.line_move (defined_on word (parts.after_word (reader_of self.old)))
+            (moves.line_move (defined_on self.old.rules word (parts.after_word (reader_of self.old)))
             moves.defines (parts.after_word (reader_of self.old)))
             (reader_of self.old)) (reader_of self.new) }
         ensures line { HasLineIfOk result self.old self.new }
     {
-        let named = defined_on(alloc, word, self.after_word())?;
+        let named = defined_on(alloc, self.rules, word, self.after_word())?;
         self.pass_line();
         Ok(Step::Defines(named))
     }
@@ -198,12 +217,12 @@ impl<'a> SourceReader<'a> {
     fn undef(&mut self, alloc: Global, word: Location) -> Result<Step, Halt>
         requires { self.old.position + 2 ≤ length self.old.items }
         ensures acts { ActsAs result (parts.perform_line
-            (moves.line_move (only_name word (parts.after_word (reader_of self.old)))
+            (moves.line_move (undefined_on self.old.rules word (parts.after_word (reader_of self.old)))
             moves.undefines (parts.after_word (reader_of self.old)))
             (reader_of self.old)) (reader_of self.new) }
         ensures line { HasLineIfOk result self.old self.new }
     {
-        let name = only_name(alloc, word, self.after_word())?;
+        let name = undefined_on(alloc, self.rules, word, self.after_word())?;
         self.definitions.change(name, None)?;
         self.pass_line();
         Ok(Step::Passed)
@@ -255,7 +274,7 @@ impl<'a> SourceReader<'a> {
     ) -> Result<Step, Halt>
         requires { self.old.position + 2 ≤ length self.old.items }
         ensures acts { ActsAs result (parts.perform_line
-            (moves.elif_move
+            (moves.elif_move self.old.rules
             (option_map (spec.facts_of (reader_of self.old)) (option_copied block.entry))
             word (parts.after_word (reader_of self.old))) (reader_of self.old))
             (reader_of self.new) }
@@ -308,7 +327,7 @@ impl<'a> SourceReader<'a> {
     ) -> Result<Step, Halt>
         requires { self.old.position + 2 ≤ length self.old.items }
         ensures acts { ActsAs result (parts.perform_line
-            (moves.endif_move
+            (moves.endif_move self.old.rules
             (option_map (spec.facts_of (reader_of self.old)) (option_copied block.entry))
             word (parts.after_word (reader_of self.old))) (reader_of self.old))
             (reader_of self.new) }
@@ -329,7 +348,7 @@ impl<'a> SourceReader<'a> {
     fn elif_line(&mut self, alloc: Global, word: Location) -> Result<Step, Halt>
         requires { self.old.position + 2 ≤ length self.old.items }
         ensures acts { ActsAs result (parts.perform_line
-            (moves.elif_move (spec.facts_here (reader_of self.old)) word
+            (moves.elif_move self.old.rules (spec.facts_here (reader_of self.old)) word
             (parts.after_word (reader_of self.old))) (reader_of self.old))
             (reader_of self.new) }
         ensures line { HasLineIfOk result self.old self.new }
@@ -353,7 +372,7 @@ impl<'a> SourceReader<'a> {
     fn endif_line(&mut self, alloc: Global, word: Location) -> Result<Step, Halt>
         requires { self.old.position + 2 ≤ length self.old.items }
         ensures acts { ActsAs result (parts.perform_line
-            (moves.endif_move (spec.facts_here (reader_of self.old)) word
+            (moves.endif_move self.old.rules (spec.facts_here (reader_of self.old)) word
             (parts.after_word (reader_of self.old))) (reader_of self.old))
             (reader_of self.new) }
         ensures line { HasLineIfOk result self.old self.new }
@@ -438,7 +457,7 @@ impl<'a> SourceReader<'a> {
     ) -> Result<Step, Halt>
         requires { self.old.position + 2 ≤ length self.old.items }
         ensures acts { ActsAs result (parts.perform_line
-            (moves.directive_move true (spec.facts_here (reader_of self.old)) directive word
+            (moves.directive_move self.old.rules true (spec.facts_here (reader_of self.old)) directive word
             (parts.after_word (reader_of self.old))) (reader_of self.old))
             (reader_of self.new) }
         ensures line { HasLineIfOk result self.old self.new }
@@ -470,7 +489,7 @@ impl<'a> SourceReader<'a> {
     ) -> Result<Step, Halt>
         requires { self.old.position + 2 ≤ length self.old.items }
         ensures acts { ActsAs result (parts.perform_line
-            (moves.directive_move false (spec.facts_here (reader_of self.old)) directive word
+            (moves.directive_move self.old.rules false (spec.facts_here (reader_of self.old)) directive word
             (parts.after_word (reader_of self.old))) (reader_of self.old))
             (reader_of self.new) }
         ensures line { HasLineIfOk result self.old self.new }
@@ -528,7 +547,7 @@ impl<'a> SourceReader<'a> {
     fn act_live(&mut self, alloc: Global, sight: Sight) -> Result<Step, Halt>
         requires { self.old.position + least_items sight ≤ length self.old.items }
         ensures acts { ActsAs result (spec.perform
-            (moves.move_at true (spec.facts_here (reader_of self.old)) sight
+            (moves.move_at self.old.rules true (spec.facts_here (reader_of self.old)) sight
             (parts.items_left (reader_of self.old))) (reader_of self.old))
             (reader_of self.new) }
         ensures line { HasLineIfOk result self.old self.new }
@@ -551,13 +570,16 @@ impl<'a> SourceReader<'a> {
     fn act_dead(&mut self, alloc: Global, sight: Sight) -> Result<Step, Halt>
         requires { self.old.position + least_items sight ≤ length self.old.items }
         ensures acts { ActsAs result (spec.perform
-            (moves.move_at false (spec.facts_here (reader_of self.old)) sight
+            (moves.move_at self.old.rules false (spec.facts_here (reader_of self.old)) sight
             (parts.items_left (reader_of self.old))) (reader_of self.old))
             (reader_of self.new) }
         ensures line { HasLineIfOk result self.old self.new }
     {
         match sight {
             Sight::End => self.tell_end(alloc),
+            Sight::Fault(_) if self.rules.passes_dead_errors => {
+                Ok(self.pass(error_length(&self.items[self.position..])))
+            }
             Sight::Fault(fault) => Err(Halt::Fault(fault)),
             Sight::NewLine | Sight::Token(_) | Sight::Hash(_) => Ok(self.pass(1)),
             Sight::Lone | Sight::NoWord(_) => Ok(self.pass(2)),

@@ -1,6 +1,7 @@
 //! What comes before a position of a source.
 
 ghost use Rattle.std.specs.Prelude.{◌≡◌, ◌≤◌, length, IfOk};
+ghost use Rattle.pp_model.specs.Moves as moves;
 ghost use Rattle.pp_model.specs.Sights as sights;
 ghost use Rattle.pp_model.specs.SourceReader as spec;
 
@@ -63,6 +64,20 @@ fn is_directive_hash(item: &LexerItem) -> bool
     match item {
         Ok(token) => is_hash(&token.value) && token.start_of_line,
         Err(_) => false,
+    }
+}
+
+/// The items of an error in front, with the `#` of a directive before it.
+pub fn error_length(items: &[SourceItem]) -> usize
+    requires { 1 ≤ length items.now }
+    ensures is { result ≡ moves.error_length items.now }
+    ensures within { result ≤ length items.now }
+{
+    let first = &items[0];
+    if items.len() > 1 && is_directive_hash(&first.item) {
+        2
+    } else {
+        1
     }
 }
 

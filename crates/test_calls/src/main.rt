@@ -40,7 +40,7 @@ mod session;
 mod sheet;
 mod shown;
 
-use pp_rs::rules::Rules;
+use pp_rs::rules::{Profile, Rules};
 use session::Session;
 use std::alloc::Global;
 use std::{env, io};
@@ -96,7 +96,7 @@ fn act<'a>(
     }
     match word {
         "glsl" => {
-            session.begin_anew(Rules::GLSL);
+            session.begin_anew(Rules::glsl(460, Profile::Core));
             Ok(())
         }
         "next" => {
