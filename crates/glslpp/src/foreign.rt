@@ -1,10 +1,13 @@
-//! Options of other preprocessors that `glslpp` doesn't have.
+//! Options as other preprocessors have them: some are refused, and `-std=` is spelled as `clap` asks for it.
+
+use std::alloc::{AllocError, Global};
 
 const NO_INCLUDE: &str = "glslpp has no #include";
 
 const NO_DEPENDENCIES: &str = "glslpp writes no dependencies, since it has no #include";
 
-const NO_VERSION: &str = "the version is that of the source's #version";
+const NO_VERSION: &str =
+    "the version is that of the source's #version, and without one that of -std=VERSION";
 
 const NO_COMMENTS: &str = "glslpp keeps no comments";
 
@@ -21,7 +24,7 @@ const REFUSALS: [(&str, &str); 18] = [
     ("-isystem", NO_INCLUDE),
     ("-idirafter", NO_INCLUDE),
     ("-M", NO_DEPENDENCIES),
-    ("-std=", NO_VERSION),
+    ("-std", NO_VERSION),
     ("--glsl-version", NO_VERSION),
     ("-C", NO_COMMENTS),
     ("-d", NO_LIST),
@@ -33,6 +36,19 @@ const REFUSALS: [(&str, &str); 18] = [
     ("--target-env", NO_COMPILER),
     ("--target-spv", NO_COMPILER),
 ];
+
+/// Gives each word `-std=VERSION` that is an option the second dash of a long one.
+pub fn lengthen_standards(alloc: Global, words: &mut [String]) -> Result<(), AllocError> {
+    for word in words.iter_mut() {
+        if word.as_str() == "--" {
+            return Ok(());
+        }
+        if word.starts_with("-std=") {
+            *word = format!(in alloc; "-{word}")?;
+        }
+    }
+    Ok(())
+}
 
 /// Returns why a word of the command line is refused, if it is an option of another preprocessor.
 pub fn refusal_of(word: &str) -> Option<&'static str> {

@@ -6,12 +6,15 @@ mod foreign;
 mod preprocess;
 
 use clap::ArgMatches;
-use foreign::refusal_of;
+use foreign::{lengthen_standards, refusal_of};
 use glslpp_parts::arguments::{Arguments, Colours, Form, STANDARD_INPUT, command};
 use glslpp_parts::definitions::check_changes;
+use glslpp_parts::extensions::check_extensions;
 use glslpp_parts::failure::{Failure, failure_of};
 use glslpp_parts::report::{Reporter, Style};
 use glslpp_parts::source::Source;
+use glslpp_parts::standard::version_without_line;
+use glslpp_parts::version::Version;
 use glslpp_parts::warning::check_warnings;
 use preprocess::{Found, preprocess};
 use std::io::IsTerminal;
@@ -45,10 +48,11 @@ fn report(rt: &HostRuntime, failure: &Failure) {
 // Reads the command line, and does what it asks for. Returns the exit status.
 fn work(rt: &HostRuntime) -> Result<u8, Failure> {
     let alloc = rt.alloc();
-    let words: Vec<String> = match env::args(rt) {
+    let mut words: Vec<String> = match env::args(rt) {
         Ok(words) => words.collect(alloc)?,
         Err(error) => return Err(files::unread_words(rt, error)),
     };
+    lengthen_standards(alloc, words.as_mut_slice())?;
     refuse_foreign(rt, words.as_slice())?;
     let Ok(command) = command(alloc) else {
         return Err(Failure::OutOfMemory);
@@ -78,12 +82,14 @@ fn refuse_foreign(rt: &HostRuntime, words: &[String]) -> Result<(), Failure> {
 // Preprocesses the files, and writes the output unless one has an error.
 fn preprocess_files(rt: &HostRuntime, matches: &ArgMatches<'_>) -> Result<u8, Failure> {
     let arguments = Arguments::from_matches(rt.alloc(), matches)?;
+    check_extensions(rt.alloc(), arguments.extensions.as_slice())?;
     check_changes(rt.alloc(), arguments.changes.as_slice())?;
     check_warnings(rt.alloc(), arguments.warning_words.as_slice())?;
+    let version = version_without_line(rt.alloc(), arguments.standard)?;
     check_output(rt, &arguments)?;
     let mut found = Found::new(rt.alloc());
     for file in arguments.files.as_slice() {
-        preprocess_file(rt, &arguments, file, &mut found)?;
+        preprocess_file(rt, &arguments, version, file, &mut found)?;
     }
     if found.errors == 0 || arguments.form == Form::Tokens {
         write_output(rt, arguments.output, found.output.as_str())?;
@@ -104,10 +110,11 @@ fn check_output(rt: &HostRuntime, arguments: &Arguments<'_>) -> Result<(), Failu
     Ok(())
 }
 
-// Preprocesses one file, and reports its errors.
+// Preprocesses one file, which is of this version if it has no `#version`, and reports its errors.
 fn preprocess_file(
     rt: &HostRuntime,
     arguments: &Arguments<'_>,
+    version: Version,
     file: &str,
     found: &mut Found,
 ) -> Result<(), Failure> {
@@ -126,7 +133,15 @@ fn preprocess_file(
         file: name,
     };
     let replaced = source.replaced.as_slice();
-    let reports = preprocess(rt.alloc(), reporter, arguments, text, replaced, found)?;
+    let reports = preprocess(
+        rt.alloc(),
+        reporter,
+        arguments,
+        version,
+        text,
+        replaced,
+        found,
+    )?;
     let _ = rt.eprint(reports.as_str());
     Ok(())
 }

@@ -9,13 +9,16 @@ use glslpp_parts::comment_check::open_comment;
 use glslpp_parts::definitions::add_definitions;
 use glslpp_parts::diagnostic::{Diagnostic, Severity, Site};
 use glslpp_parts::explainer::Explainer;
+use glslpp_parts::extension_names::EXTENSION_NAMES;
+use glslpp_parts::extensions::{EXTENSION_CONTENT, define_extension, push_extensions};
 use glslpp_parts::failure::Failure;
 use glslpp_parts::fault::{Fault, FaultFinder};
 use glslpp_parts::inspection::inspect;
 use glslpp_parts::output::Output;
 use glslpp_parts::report::Reporter;
+use glslpp_parts::rule_set::Setting;
 use glslpp_parts::texts::Texts;
-use glslpp_parts::version::declared_version;
+use glslpp_parts::version::{Version, declared_version};
 use glslpp_parts::warning::Warnings;
 use pp_rs::pp::Preprocessor;
 use pp_rs::token::{Location, PreprocessorError, Token};
@@ -44,11 +47,12 @@ impl Found {
 }
 
 /// Preprocesses a source, in which the characters at some byte offsets stand for bytes that aren't UTF-8, and returns
-/// the messages on it.
+/// the messages on it. If the source has no `#version`, it is of this version.
 pub fn preprocess(
     alloc: Global,
     reporter: Reporter<'_>,
     arguments: &Arguments<'_>,
+    version: Version,
     source: &str,
     replaced: &[usize],
     found: &mut Found,
@@ -58,7 +62,7 @@ pub fn preprocess(
         × (string_bytes found.new.output ≡ string_bytes found.old.output ++ more)) }
     ensures errors { OnOk result (found.old.errors ≤ found.new.errors) }
 {
-    let ended = run_over(alloc, reporter, arguments, source, replaced)?;
+    let ended = run_over(alloc, reporter, arguments, version, source, replaced)?;
     found.output.push_str(ended.output.as_str())?;
     found.errors = found.errors.saturating_add(ended.errors);
     Ok(ended.reports)
@@ -77,50 +81,60 @@ fn run_over(
     alloc: Global,
     reporter: Reporter<'_>,
     arguments: &Arguments<'_>,
+    version: Version,
     source: &str,
     replaced: &[usize],
 ) -> Result<Ended, Failure>
     requires { length source.now < 2 ^ 32 - 1 }
 {
-    let version = declared_version(alloc, source)?;
+    let version = declared_version(alloc, source, version)?;
     let number = format!(in alloc; "{}", version.number)?;
     let mut changes = Vec::new(alloc);
     if arguments.is_predefining {
         version.push_predefined(number.as_str(), &mut changes)?;
     }
+    push_extensions(arguments.extensions.as_slice(), &mut changes)?;
     changes.extend_from_slice(arguments.changes.as_slice())?;
     let definitions = kept_definitions(alloc, changes.as_slice())?;
-    run_with(
-        alloc,
-        reporter,
-        arguments,
-        source,
-        replaced,
-        definitions.as_slice(),
-    )
+    let setting = Setting {
+        rules: arguments.rule_set.rules_for(version),
+        definitions: definitions.as_slice(),
+        extensions: known_extensions(arguments.is_predefining),
+    };
+    run_with(alloc, reporter, arguments, source, replaced, setting)
 }
 
-// Runs over a source with these definitions before it.
+// The extensions whose macros `#extension` lines define: all that are known, if names are predefined at all.
+fn known_extensions(is_predefining: bool) -> &'static [&'static str] {
+    if is_predefining {
+        &EXTENSION_NAMES
+    } else {
+        &[]
+    }
+}
+
+// Runs over a source with this setting.
 fn run_with(
     alloc: Global,
     reporter: Reporter<'_>,
     arguments: &Arguments<'_>,
     source: &str,
     replaced: &[usize],
-    definitions: &[Definition<'_>],
+    setting: Setting<'_>,
 ) -> Result<Ended, Failure>
     requires { length source.now < 2 ^ 32 - 1 }
 {
     let mut texts = Texts::new(alloc, source);
-    let mut items = Preprocessor::new(alloc, source);
-    let ended = match add_definitions(alloc, &mut items, &mut texts, definitions) {
-        Ok(()) => run_over_items(
+    let mut items = Preprocessor::with_rules(alloc, source, setting.rules);
+    let ended = match add_contents(alloc, &mut items, &mut texts, setting.definitions) {
+        Ok(extension_content) => run_over_items(
             alloc,
             reporter,
             arguments,
             source,
             replaced,
-            definitions,
+            setting,
+            extension_content,
             &mut items,
             &texts,
         ),
@@ -130,6 +144,18 @@ fn run_with(
     ended
 }
 
+// Adds the definitions before the source, and returns the content for the macros that its `#extension` lines define.
+fn add_contents(
+    alloc: Global,
+    items: &mut Preprocessor<'_>,
+    texts: &mut Texts<'_>,
+    definitions: &[Definition<'_>],
+) -> Result<String, Failure> {
+    add_definitions(alloc, items, texts, definitions)?;
+    let content = texts.pad(alloc, EXTENSION_CONTENT)?;
+    Ok(content)
+}
+
 // Runs over the items of a source.
 fn run_over_items<'x>(
     alloc: Global,
@@ -137,15 +163,25 @@ fn run_over_items<'x>(
     arguments: &Arguments<'_>,
     source: &'x str,
     replaced: &'x [usize],
-    definitions: &'x [Definition<'x>],
+    setting: Setting<'x>,
+    extension_content: String,
     items: &mut Preprocessor<'_>,
     texts: &'x Texts<'x>,
 ) -> Result<Ended, Failure>
     requires { length source.now < 2 ^ 32 - 1 }
 {
-    let findings = findings_backwards(alloc, source, arguments.warnings, definitions)?;
-    let explainer = Explainer::new(alloc, source, texts, replaced, definitions);
-    let mut run = Run::new(alloc, reporter, arguments, texts, explainer, findings);
+    let findings = findings_backwards(alloc, source, arguments.warnings, setting)?;
+    let explainer = Explainer::new(alloc, source, texts, replaced, setting);
+    let mut run = Run::new(
+        alloc,
+        reporter,
+        arguments,
+        setting,
+        extension_content,
+        texts,
+        explainer,
+        findings,
+    );
     run.read_to_end(items)?;
     let output = run.output.finish()?;
     Ok(Ended {
@@ -160,11 +196,11 @@ fn findings_backwards<'a>(
     alloc: Global,
     source: &'a str,
     warnings: Warnings,
-    definitions: &[Definition<'_>],
+    setting: Setting<'_>,
 ) -> Result<Vec<Diagnostic<'a>>, AllocError>
     requires { length source.now < 2 ^ 32 - 1 }
 {
-    let mut findings = inspect(alloc, source, warnings, definitions)?;
+    let mut findings = inspect(alloc, source, warnings, setting)?;
     findings.reverse();
     Ok(findings)
 }
@@ -174,6 +210,9 @@ fn findings_backwards<'a>(
 struct Run<'a> {
     alloc: Global,
     texts: &'a Texts<'a>,
+    // The extensions whose macros `#extension` lines define, and the content of these macros.
+    extensions: &'a [&'a str],
+    extension_content: String,
     explainer: Explainer<'a>,
     reporter: Reporter<'a>,
     is_first_error_alone: bool,
@@ -195,6 +234,8 @@ impl<'a> Run<'a> {
         alloc: Global,
         reporter: Reporter<'a>,
         arguments: &Arguments<'_>,
+        setting: Setting<'a>,
+        extension_content: String,
         texts: &'a Texts<'a>,
         explainer: Explainer<'a>,
         findings: Vec<Diagnostic<'a>>,
@@ -202,11 +243,13 @@ impl<'a> Run<'a> {
         Run {
             alloc,
             texts,
+            extensions: setting.extensions,
+            extension_content,
             explainer,
             reporter,
             is_first_error_alone: arguments.is_first_error_alone,
             most_reports: arguments.most_errors,
-            output: Output::new(alloc, arguments.form, texts),
+            output: Output::new(alloc, arguments.form, setting.rules, texts),
             reports: String::new(alloc),
             errors: 0,
             fault_start: None,
@@ -224,18 +267,24 @@ impl<'a> Run<'a> {
 
     // Takes all items, or those up to the first error.
     fn read(&mut self, items: &mut Preprocessor<'_>) -> Result<(), Failure> {
-        'items: while let Some(item) = items.give_tokens(&mut self.output) {
+        // A macro that an `#extension` line defines adds to what is left, so the calls are counted.
+        for _ in 0..u64::MAX {
+            let Some(item) = items.give_tokens(&mut self.output) else {
+                return Ok(());
+            };
             match item {
                 Ok(token) => {
                     let line = items.call_line().unwrap_or(token.location.line);
                     self.take_directive(&token, line)?;
+                    let content = self.extension_content.as_str();
+                    define_extension(items, &token.value, self.extensions, content)?;
                 }
                 Err((PreprocessorError::OutOfMemory, _)) => return Err(Failure::OutOfMemory),
                 Err((error, _)) => {
                     let (place, call_line) = (items.place(), items.call_line());
                     self.take_error(error, place, call_line)?;
                     if self.is_over() {
-                        break 'items;
+                        return Ok(());
                     }
                 }
             }

@@ -1,6 +1,7 @@
 pub mod ColumnsLemmas
 pub mod DecimalLemmas
 pub mod DefinitionsLemmas
+pub mod ExtensionsLemmas
 pub mod OptionsLemmas
 pub mod PredefinedLemmas
 pub mod ReportsLemmas

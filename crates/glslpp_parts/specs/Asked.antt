@@ -7,6 +7,8 @@ use Rattle.clap.specs.Words.{first_value}
 use Rattle.glslpp_parts.specs.declared.arguments.Colours.{Colours}
 use Rattle.glslpp_parts.specs.declared.arguments.Colours.TheVariants.{Auto, Always, Never}
 use Rattle.glslpp_parts.specs.declared.arguments.Form.{Form}
+use Rattle.glslpp_parts.specs.declared.rule_set.RuleSet.{RuleSet}
+use Rattle.glslpp_parts.specs.declared.rule_set.RuleSet.TheVariants.{PpRs}
 use Rattle.glslpp_parts.specs.declared.warning.Warnings.{Warnings}
 use Rattle.glslpp_parts.specs.Warnings.{warnings_of}
 use Rattle.glslpp_parts.specs.declared.arguments.Form.TheVariants.{Lines, Compact, Tokens, Directives}
@@ -44,6 +46,11 @@ pub record IsAsked (found : Found) (id value : List ℕ) (is : Bool) : Type 0 wh
 -- the most errors that are reported: 20, if no number is given
 pub record IsLimit (found : Found) (most : ℕ) : Type 0 where
   pub none : one_text found (codes "max-errors") ≡ None → most ≡ 20
+
+-- whose rules sources are read by, as the value of `--rules` says: GLSL's, unless pp-rs's are asked for
+pub record IsRuleSet (found : Found) (rule_set : RuleSet) : Type 0 where
+  pub pp_rs : first_value found (codes "rules") ≡ Some (codes "pp-rs") → rule_set ≡ PpRs
+  pub other : rule_set ≡ PpRs → first_value found (codes "rules") ≡ Some (codes "pp-rs")
 
 -- whether messages have colours, as the value of `--color` says
 pub record AreColours (found : Found) (colours : Colours) : Type 0 where

@@ -4,6 +4,7 @@ use Rattle.std.specs.Cmp.Lexicographic.{pointwise}
 use Rattle.std.specs.List.{list_any}
 use Rattle.std.specs.Str.{chars}
 use Rattle.pp_lexer.specs.Lines.{is_line_break}
+use Rattle.pp_lexer.specs.declared.rules.Rules.{Rules}
 use Rattle.pp_lexer.specs.declared.token.TokenValue.TheVariants.{Ident}
 use Rattle.pp_rs.specs.Adding.{IsAdded}
 use Rattle.pp_rs.specs.Kept.{Preprocessing}
@@ -15,10 +16,10 @@ use Rattle.glslpp_parts.specs.Changes.{Definition}
 use Rattle.glslpp_parts.specs.Reading.{IsReadAs}
 use Rattle.glslpp_parts.specs.Texts.{Texts, padded, with_content}
 
--- a text that the lexer reads as one name, which is the text itself
+-- a text that the lexer reads as one name, which is the text itself; names are the same by all rules
 pub record IsName (text : List ℕ) : Type 0 where
   pub short : length text < 2 ^ 32 - 1
-  pub read : IsReadAs (Ident (chars text)) text
+  pub read : (rules : Rules) → IsReadAs rules (Ident (chars text)) text
 
 -- a name whose meaning no definition may change: GLSL ES 3.20, section 3.4
 abbrev pub is_builtin : List ℕ → Bool

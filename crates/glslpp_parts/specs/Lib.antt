@@ -3,6 +3,7 @@ pub mod Changes
 pub mod Columns
 pub mod Definitions
 pub mod Editions
+pub mod Extensions
 pub mod Failures
 pub mod Faults
 pub mod Layout
@@ -10,7 +11,9 @@ pub mod Options
 pub mod Output
 pub mod Reading
 pub mod Reports
+pub mod RuleSets
 pub mod Spots
+pub mod Standards
 pub mod Texts
 pub mod Version
 pub mod Warnings

@@ -31,6 +31,10 @@ named id = record { id = id; letter = None; long = Some id; action = Some SetTru
 abbrev pub long_valued : List ℕ → Known
 long_valued id = record { id = id; letter = None; long = Some id; action = Some Set }
 
+-- an option that may be repeated
+abbrev pub long_listed : List ℕ → Known
+long_listed id = record { id = id; letter = None; long = Some id; action = Some Append }
+
 abbrev pub nameless : List ℕ → ArgAction → Known
 nameless id action = record { id = id; letter = None; long = None; action = Some action }
 
@@ -38,6 +42,10 @@ nameless id action = record { id = id; letter = None; long = None; action = Some
 abbrev pub value_options : List Known
 value_options = lettered (codes "define") 68 Append ∷ lettered (codes "undefine") 85 Append
     ∷ lettered (codes "output") 111 Set ∷ []
+
+-- `--rules`, `--std` and `--extension`
+abbrev pub language_options : List Known
+language_options = long_valued (codes "rules") ∷ long_valued (codes "std") ∷ long_listed (codes "extension") ∷ []
 
 -- `-P`, `--tokens` and `--directives`
 abbrev pub forms : List Known
@@ -62,5 +70,5 @@ foreign = lettered (codes "only") 69 SetTrue ∷ lettered (codes "stage") 83 App
 
 -- all of them, and the files
 abbrev pub options : List Known
-options = value_options ++ forms ++ flags ++ message_options ++ warning_options ++ foreign
+options = language_options ++ value_options ++ forms ++ flags ++ message_options ++ warning_options ++ foreign
     ++ nameless (codes "files") Append ∷ []

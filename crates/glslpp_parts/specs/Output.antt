@@ -1,6 +1,7 @@
 -- What each item of a source adds to the output.
 use Rattle.std.specs.Prelude.{◌≡◌, ◌⊎◌, ℕ, Bool, true, false, IsTrue, List, ◌++◌, codes, Option, Some, None}
 use Rattle.std.specs.Prelude.{◌==◌, unwrap_or, MatchBool}
+use Rattle.pp_lexer.specs.declared.rules.Rules.{Rules}
 use Rattle.pp_lexer.specs.declared.token.Location.{Location}
 use Rattle.pp_lexer.specs.declared.token.Token.{Token}
 use Rattle.pp_lexer.specs.declared.token.TokenValue.{TokenValue}
@@ -15,10 +16,11 @@ use Rattle.glslpp_parts.specs.declared.layout.Gap.TheVariants.{Nothing}
 use Rattle.glslpp_parts.specs.Layout.{Laid, on_line, with_directive}
 use Rattle.glslpp_parts.specs.Reading.{IsTextOf, IsDirectiveText}
 
--- the form of the output, the words on their lines, the end in the source of the last word, if its text is from there,
--- the lines of JSON, and the line whose tokens are left out
+-- the form of the output, the rules by which the source is read, the words on their lines, the end in the source of the
+-- last word, if its text is from there, the lines of JSON, and the line whose tokens are left out
 pub record Printed : Type 0 where
   pub form : Form
+  pub rules : Rules
   pub laid : Laid
   pub end : Option ℕ
   pub items : List ℕ
@@ -45,13 +47,13 @@ pub record PutsText (old : Printed) (place : Location) (closes : Bool) (line : �
 -- a token's word is put on the line: a text that is read again as the token's value
 pub record PutsWord (old : Printed) (token : Token) (line : ℕ) (new : Printed) : Type 0 where
   pub word : List ℕ
-  pub is_text : IsTextOf token.value word
+  pub is_text : IsTextOf old.rules token.value word
   pub puts : PutsText old token.location (is_closing token.value) line word new
 
 -- a directive is put on a line by itself
 pub record PutsDirective (old : Printed) (token : Token) (line : ℕ) (new : Printed) : Type 0 where
   pub word : List ℕ
-  pub is_text : IsDirectiveText token.value word
+  pub is_text : IsDirectiveText old.rules token.value word
   pub laid : new.laid ≡ with_directive old.laid line word
   pub end : new.end ≡ None
   pub items : new.items ≡ old.items
@@ -94,6 +96,7 @@ is_left_out (Some other) line = other == line
 -- A token is put, unless it is on the line whose tokens are left out.
 pub record Takes (old : Printed) (token : TokenRef) (new : Printed) : Type 0 where
   pub form : new.form ≡ old.form
+  pub rules : new.rules ≡ old.rules
   pub left_out : new.left_out ≡ old.left_out
   pub puts :
       MatchBool (is_left_out old.left_out (line_of token))

@@ -61,9 +61,13 @@ abbrev pub version_line : List Read → Option Version
 version_line [] = None
 version_line (read ∷ reads) = if is_hash read then after_hash reads else None
 
--- the version that the first line that isn't empty names, and otherwise version 100
-abbrev pub version_of : List Read → Version
-version_of reads = unwrap_or (version_line (after_newlines reads)) (record { number = 100; profile = Unnamed })
+-- the version that the first line that isn't empty names, and otherwise this one
+abbrev pub version_of : Version → List Read → Version
+version_of otherwise reads = unwrap_or (version_line (after_newlines reads)) otherwise
+
+-- the version of a source that names none: GLSL ES 3.20, section 3.4
+abbrev pub default_version : Version
+default_version = record { number = 100; profile = Unnamed }
 
 abbrev pub is_profile : Profile → Profile → Bool
 is_profile Unnamed Unnamed = true

@@ -4,13 +4,15 @@ ghost use Rattle.std.specs.Prelude.{◌≡◌, ◌≤◌, ◌++◌, ◌∷◌, [
 ghost use Rattle.std.specs.Prelude.{unwrap_or};
 ghost use Rattle.clap.specs.Words.{first_value, found_of, rule_of};
 ghost use Rattle.clap.specs.declared.builder.action.ArgAction.TheVariants.{Append, Set, SetTrue};
-ghost use Rattle.glslpp_parts.specs.Asked.{AreColours, AreWarnings, IsAsked, IsFlag, IsForm, IsLimit, files_or_input};
-ghost use Rattle.glslpp_parts.specs.Asked.{words_of};
+ghost use Rattle.glslpp_parts.specs.Asked.{AreColours, AreWarnings, IsAsked, IsFlag, IsForm, IsLimit, IsRuleSet};
+ghost use Rattle.glslpp_parts.specs.Asked.{files_or_input, words_of};
 ghost use Rattle.glslpp_parts.specs.Options.{options, options_of, value_options, forms, flags, foreign, known_of};
-ghost use Rattle.glslpp_parts.specs.Options.{lettered, long_valued, message_options, named, nameless};
+ghost use Rattle.glslpp_parts.specs.Options.{language_options, lettered, long_listed, long_valued, message_options};
+ghost use Rattle.glslpp_parts.specs.Options.{named, nameless};
 ghost use Rattle.glslpp_parts.specs.inner.Adding.{IsOption};
 
 use crate::changes::Change;
+use crate::rule_set::RuleSet;
 use crate::warning::Warnings;
 use crate::warning_options::with_warning_options;
 use clap::builder::ValueParser;
@@ -55,10 +57,16 @@ pub enum Colours {
 pub struct Arguments<'a> {
     /// The `-D` and `-U` options, in order.
     pub changes: Vec<Change<'a>>,
+    /// The names of extensions whose macros are defined.
+    pub extensions: Vec<&'a str>,
     /// The file to write instead of the standard output.
     pub output: Option<&'a str>,
     /// How the preprocessed source is printed.
     pub form: Form,
+    /// Whose rules the sources are read by.
+    pub rule_set: RuleSet,
+    /// The word that names the version of a source without a `#version`.
+    pub standard: Option<&'a str>,
     /// Whether the names that GLSL predefines are defined.
     pub is_predefining: bool,
     /// Whether reading ends at the first error.
@@ -83,7 +91,8 @@ pub struct Arguments<'a> {
 pub fn command<'a>(alloc: Global) -> Result<Command<'a>, clap::Error>
     ensures { IfOk result (λ command. options_of command ≡ options) }
 {
-    let with_values = with_value_options(alloc, bare_command(alloc))?;
+    let with_language = with_language_options(alloc, bare_command(alloc))?;
+    let with_values = with_value_options(alloc, with_language)?;
     let with_forms = with_forms(alloc, with_values)?;
     let with_flags = with_flags(alloc, with_forms)?;
     let with_messages = with_message_options(alloc, with_flags)?;
@@ -129,6 +138,8 @@ fn with_argument<'a>(command: Command<'a>, option: Arg<'a>) -> Result<Command<'a
 // The headings of options in help.
 const DEFINITIONS: &str = "Definitions";
 
+const LANGUAGE: &str = "Language";
+
 const OUTPUT: &str = "Output";
 
 pub(crate) const MESSAGES: &str = "Messages";
@@ -148,6 +159,41 @@ fn with_value_options<'a>(alloc: Global, command: Command<'a>) -> Result<Command
     Ok(third)
 }
 
+// Adds the options for the language of the sources, with its extensions.
+fn with_language_options<'a>(alloc: Global, command: Command<'a>) -> Result<Command<'a>, AllocError>
+    ensures { IfOk result (λ new. options_of new ≡ options_of command.entry ++ language_options) }
+{
+    let rules = rules_option(alloc);
+    let standard = long_option(alloc, "std", "VERSION", STANDARD_HELP);
+    let extension = extension_option(alloc);
+    let first = with_option(command, LANGUAGE, rules)?;
+    let second = with_option(first, LANGUAGE, standard)?;
+    let third = with_option(second, DEFINITIONS, extension)?;
+    Ok(third)
+}
+
+fn rules_option<'a>(alloc: Global) -> Arg<'a>
+    ensures { IsOption result (long_valued (codes "rules")) }
+{
+    let parser = ValueParser::Names(&RULE_SETS);
+    long_option(alloc, "rules", "RULES", RULES_HELP).value_parser(parser)
+}
+
+const RULE_SETS: [&str; 2] = ["glsl", "pp-rs"];
+
+fn extension_option<'a>(alloc: Global) -> Arg<'a>
+    ensures { IsOption result (long_listed (codes "extension")) }
+{
+    long_option(alloc, "extension", "NAME", EXTENSION_HELP).action(ArgAction::Append)
+}
+
+const EXTENSION_HELP: &str = "Define the macro of an extension as 1, as a compiler that has it";
+
+const STANDARD_HELP: &str =
+    "The version of a source without #version, as 450, 330core or 310es; -std=VERSION too";
+
+const RULES_HELP: &str = "Read sources by GLSL's rules, or by those of the Rust crate pp-rs";
+
 const DEFINE_HELP: &str = "Define a macro before the source, as 1 if no content is given";
 
 const UNDEFINE_HELP: &str = "Undefine NAME, also if predefined";
@@ -158,7 +204,7 @@ const AFTER_HELP: &str = "\
 Without a file, or with `-`, the standard input is read.
 KIND is one of comment, conflict, extra-tokens, guard, reserved, space, undef or unused-macros.
 Defined are __VERSION__, GL_ES, GL_FRAGMENT_PRECISION_HIGH, GL_core_profile and GL_compatibility_profile, as the
-#version of the source says. Comments are not kept, and a #line of the source is not printed.
+#version of the source or --std says. Comments are not kept, and a #line of the source is not printed.
 The status is 0 if all was printed, 1 at an error in a source, and 2 if a word is wrong or reading or writing failed.";
 
 // Adds the options for how the source is printed, of which at most one may be given.
@@ -354,9 +400,14 @@ impl<'a> Arguments<'a> {
         alloc: Global,
         matches: &ArgMatches<'a>,
     ) -> Result<Arguments<'a>, AllocError>
+        ensures extensions { IfOk result (λ asked. map (λ name. name.now) asked.extensions.items
+            ≡ words_of (found_of matches.now) (codes "extension")) }
         ensures output { IfOk result (λ asked. option_map (λ name. name.now) asked.output
             ≡ first_value (found_of matches.now) (codes "output")) }
         ensures form { IfOk result (λ asked. IsForm (found_of matches.now) asked.form) }
+        ensures rule_set { IfOk result (λ asked. IsRuleSet (found_of matches.now) asked.rule_set) }
+        ensures standard { IfOk result (λ asked. option_map (λ word. word.now) asked.standard
+            ≡ first_value (found_of matches.now) (codes "std")) }
         ensures predefining { IfOk result (λ asked. IsFlag (found_of matches.now) (codes "undef")
             (not asked.is_predefining)) }
         ensures first_error_alone { IfOk result (λ asked. IsFlag (found_of matches.now)
@@ -377,8 +428,11 @@ impl<'a> Arguments<'a> {
         let warnings = Warnings::asked(warning_words.as_slice(), is_given(matches, "silent"));
         Ok(Arguments {
             changes: changes_of(alloc, matches)?,
+            extensions: words_of(alloc, matches, "extension")?,
             output: matches.get_str("output"),
             form: form_of(matches),
+            rule_set: rule_set_of(matches),
+            standard: matches.get_str("std"),
             is_predefining: !is_given(matches, "undef"),
             is_first_error_alone: is_given(matches, "first-error"),
             most_errors: most_errors_of(matches),
@@ -400,6 +454,15 @@ fn most_errors_of(matches: &ArgMatches<'_>) -> usize
         Some(0) => usize::MAX,
         Some(most) => most,
         None => MOST_ERRORS,
+    }
+}
+
+fn rule_set_of(matches: &ArgMatches<'_>) -> RuleSet
+    ensures { IsRuleSet (found_of matches.now) result }
+{
+    match matches.get_str("rules") {
+        Some("pp-rs") => RuleSet::PpRs,
+        _ => RuleSet::Glsl,
     }
 }
 

@@ -5,6 +5,7 @@ use crate::directive_line::{DirectiveLine, is_punct, name_of};
 use crate::macro_use::MacroUse;
 use crate::place::Place;
 use pp_rs::lexer::{Token, TokenValue};
+use pp_rs::rules::Rules;
 use pp_rs::token::{Punct, TokenValue as Value};
 use std::alloc::{AllocError, Global};
 
@@ -122,14 +123,15 @@ pub(crate) fn of_unexpected_token<'a>(
             String::from_str(alloc, "`#else if` is not a directive: use `#elif`")?
         }
         word @ ("else" | "endif") => format!(in alloc; "extra token `{text}` after `#{word}`")?,
-        "define" | "undef" | "ifdef" | "ifndef" if before.is_empty() => {
-            String::from_str(alloc, NAMES_ALONE)?
-        }
+        "define" | "undef" | "ifdef" | "ifndef" if before.is_empty() => match name_of(token) {
+            Some(name) => format!(in alloc; "`{name}` is a name of GLSL's own")?,
+            None => String::from_str(alloc, NAMES_ALONE)?,
+        },
         word @ ("undef" | "ifdef" | "ifndef") => {
             format!(in alloc; "extra token `{text}` after the name of `#{word}`")?
         }
         "define" => {
-            let word = word_of_use(alloc, used)?;
+            let word = word_of_use(alloc, line.rules, used)?;
             return of_token_in_definition(alloc, before, token, text, value, word);
         }
         _ => return Ok(None),
@@ -139,11 +141,15 @@ pub(crate) fn of_unexpected_token<'a>(
 
 // The word of the directive by whose rules a token of a macro's content is judged: that of the `#line` in which the
 // macro was used, or else that of its definition.
-fn word_of_use(alloc: Global, used: &Option<MacroUse<'_>>) -> Result<&'static str, AllocError> {
+fn word_of_use(
+    alloc: Global,
+    rules: Rules,
+    used: &Option<MacroUse<'_>>,
+) -> Result<&'static str, AllocError> {
     let Some(used) = used else {
         return Ok("define");
     };
-    let word = match &DirectiveLine::of(alloc, used.site)? {
+    let word = match &DirectiveLine::of(alloc, rules, used.site)? {
         Some(line) if line.word() == "line" => "line",
         _ => "define",
     };

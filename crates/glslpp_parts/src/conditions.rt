@@ -2,34 +2,35 @@
 
 ghost use Rattle.std.specs.Prelude.{◌-◌, ◌^◌, ◌<◌, length};
 
-use crate::changes::Definition;
 use crate::definitions::add_definitions;
+use crate::extensions::{EXTENSION_CONTENT, define_extension};
 use crate::failure::Failure;
 use crate::probe::{Asked, Probe};
+use crate::rule_set::Setting;
 use crate::texts::Texts;
 use pp_rs::SOURCE_LIMIT;
 use pp_rs::pp::Preprocessor;
 use pp_rs::token::{Location, PreprocessorError};
 use std::alloc::{AllocError, Global};
 
-/// The places of the words of the `#if`, `#elif` and `#line` lines that are computed, with these definitions before the
-/// source. After a line with an error there may be some too few or too many.
+/// The places of the words of the `#if`, `#elif` and `#line` lines of a source that are computed. After a line with an
+/// error there may be some too few or too many.
 pub(crate) fn computed_conditions(
     alloc: Global,
     source: &str,
-    definitions: &[Definition<'_>],
+    setting: Setting<'_>,
 ) -> Result<Vec<Location>, AllocError>
     requires { length source.now < 2 ^ 32 - 1 }
 {
-    let probe = Probe::of(alloc, source, Asked::Conditions)?;
+    let probe = Probe::of(alloc, setting.rules, source, Asked::Conditions)?;
     let text = probe.text.as_str();
     if text.len() >= SOURCE_LIMIT {
         return Ok(Vec::new(alloc));
     }
     let mut texts = Texts::new(alloc, text);
-    let mut items = Preprocessor::new(alloc, text);
-    let computed = match add_definitions(alloc, &mut items, &mut texts, definitions) {
-        Ok(()) => take_answers(alloc, &probe, &mut items),
+    let mut items = Preprocessor::with_rules(alloc, text, setting.rules);
+    let computed = match add_definitions(alloc, &mut items, &mut texts, setting.definitions) {
+        Ok(()) => take_answers(alloc, &probe, setting.extensions, &mut items),
         Err(Failure::OutOfMemory) => Err(AllocError),
         Err(Failure::Told(_text)) => Ok(Vec::new(alloc)),
     };
@@ -41,12 +42,18 @@ pub(crate) fn computed_conditions(
 fn take_answers(
     alloc: Global,
     probe: &Probe,
+    extensions: &[&str],
     items: &mut Preprocessor<'_>,
 ) -> Result<Vec<Location>, AllocError> {
     let mut computed = Vec::new(alloc);
-    'items: while let Some(item) = items.next() {
+    // A macro that an `#extension` line defines adds to what is left, so the items are counted.
+    for _ in 0..u64::MAX {
+        let Some(item) = items.next() else {
+            return Ok(computed);
+        };
         match item {
             Ok(token) => {
+                define_extension(items, &token.value, extensions, EXTENSION_CONTENT)?;
                 if let Some(question) = probe.question(token.location.line) {
                     computed.push(question.location)?;
                 }

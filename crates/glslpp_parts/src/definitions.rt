@@ -13,6 +13,7 @@ use crate::reading::is_read_as;
 use crate::texts::Texts;
 use pp_rs::SOURCE_LIMIT;
 use pp_rs::pp::{Preprocessor, ValueRef};
+use pp_rs::rules::Rules;
 use pp_rs::token::PreprocessorError;
 use std::alloc::{AllocError, Global};
 
@@ -42,7 +43,8 @@ fn check_change(alloc: Global, change: Change<'_>) -> Result<(), Failure>
     }
 }
 
-fn check_name(alloc: Global, option: &str, name: &str) -> Result<(), Failure>
+/// Fails at a name that no macro may have, after this option.
+pub(crate) fn check_name(alloc: Global, option: &str, name: &str) -> Result<(), Failure>
     ensures ok { OnOk result (IsFreeName name.now) }
     ensures told { IfErr result (λ failure. IsTold failure → ¬ IsFreeName name.now) }
 {
@@ -102,14 +104,14 @@ fn refusal(alloc: Global, option: &str, name: &str, cause: &str) -> Failure {
     }
 }
 
-// Whether the text is one identifier.
+// Whether the text is one identifier, which all rules read alike.
 fn is_name(alloc: Global, text: &str) -> Result<bool, AllocError>
     ensures { IfOk result (λ is. IsTrue is ↔ IsName text.now) }
 {
     if text.len() >= SOURCE_LIMIT {
         return Ok(false);
     }
-    is_read_as(alloc, text, ValueRef::Ident(text))
+    is_read_as(alloc, Rules::PP_RS, text, ValueRef::Ident(text))
 }
 
 /// Adds the definitions to the preprocessor, and their contents to the texts.

@@ -16,7 +16,7 @@ pub(crate) struct Complaint {
     pub message: String,
 }
 
-// Which profiles a version of GLSL has.
+/// Which profiles a version of GLSL has.
 #[derive(Clone, Copy, PartialEq, Eq)]
 pub(crate) enum Edition {
     /// None: GLSL ES 1.00, and GLSL before 1.50.
@@ -43,7 +43,7 @@ pub(crate) fn complaint_of_version(
         return complain(alloc, first.location, "`#version` without a number");
     };
     let number = integer.value;
-    let edition = if integer.signed {
+    let edition = if integer.signed && integer.width == 32 {
         edition_of(number)
     } else {
         Edition::Unknown
@@ -70,8 +70,8 @@ pub(crate) fn complaint_of_version(
     }
 }
 
-// The profiles of a version of GLSL.
-fn edition_of(number: u64) -> Edition
+/// The profiles of a version of GLSL.
+pub(crate) fn edition_of(number: u64) -> Edition
     ensures { result ≡ edition_of number }
 {
     match number {

@@ -7,12 +7,15 @@ use crate::diagnostic::Site;
 use crate::place::Place;
 use pp_rs::SOURCE_LIMIT;
 use pp_rs::lexer::{Lexer, Token, TokenValue};
+use pp_rs::rules::Rules;
 use pp_rs::token::{PreprocessorError, Punct};
 use std::alloc::{AllocError, Global};
 
 /// A line of the source that begins with `#`.
 #[derive(Drop)]
 pub(crate) struct DirectiveLine<'a> {
+    /// The rules by which it is read.
+    pub(crate) rules: Rules,
     // The text that it is in, and its byte offset there.
     whole: &'a str,
     offset: usize,
@@ -24,9 +27,10 @@ pub(crate) struct DirectiveLine<'a> {
 }
 
 impl<'a> DirectiveLine<'a> {
-    /// The line of a place of the source, or `None` if no directive is there.
+    /// The line of a place of the source, which these rules read, or `None` if no directive is there.
     pub(crate) fn of(
         alloc: Global,
+        rules: Rules,
         site: Site<'a>,
     ) -> Result<Option<DirectiveLine<'a>>, AllocError> {
         let Site::InSource(number, _, place) = site else {
@@ -42,11 +46,12 @@ impl<'a> DirectiveLine<'a> {
             return Ok(None);
         }
         Ok(Some(DirectiveLine {
+            rules,
             whole: place.text,
             offset,
             number,
             text,
-            tokens: tokens_of(alloc, text)?,
+            tokens: tokens_of(alloc, rules, text)?,
         }))
     }
 
@@ -118,10 +123,10 @@ impl<'a> DirectiveLine<'a> {
 }
 
 // The tokens of a directive after its `#`.
-fn tokens_of(alloc: Global, text: &str) -> Result<Vec<Token>, AllocError>
+fn tokens_of(alloc: Global, rules: Rules, text: &str) -> Result<Vec<Token>, AllocError>
     requires { length text.now < 2 ^ 32 - 1 }
 {
-    let mut lexer = Lexer::new(alloc, text);
+    let mut lexer = Lexer::with_rules(alloc, text, rules);
     let mut tokens = Vec::new(alloc);
     'tokens: while let Some(item) = lexer.next() {
         match item {

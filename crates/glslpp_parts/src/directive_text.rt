@@ -1,7 +1,7 @@
 //! The text of a directive that is given: as the source has it, if that is read as the same tokens.
 
 ghost use Rattle.std.specs.Prelude.{◌≡◌, ◌-◌, ◌^◌, ◌<◌, IfOk, IsTrue, length, string_bytes};
-ghost use Rattle.pp_lexer.specs.Respelling.{read_values};
+ghost use Rattle.pp_lexer.specs.Respelling.{read_values_by};
 ghost use Rattle.glslpp_parts.specs.Reading.{IsDirectiveText};
 
 use crate::place::{after_continuations, is_line_end};
@@ -9,6 +9,7 @@ use crate::reading::{Read, read_next};
 use crate::texts::Spot;
 use pp_rs::SOURCE_LIMIT;
 use pp_rs::lexer::Lexer;
+use pp_rs::rules::Rules;
 use pp_rs::token::TokenValue;
 use std::alloc::{AllocError, Global};
 
@@ -16,17 +17,18 @@ use std::alloc::{AllocError, Global};
 /// text. Otherwise it is the word and the tokens, with single spaces.
 pub(crate) fn directive_text(
     alloc: Global,
+    rules: Rules,
     value: &TokenValue,
     spot: Option<Spot<'_>>,
 ) -> Result<String, AllocError>
-    ensures { IfOk result (λ text. IsDirectiveText value.now (string_bytes text)) }
+    ensures { IfOk result (λ text. IsDirectiveText rules value.now (string_bytes text)) }
 {
     let spelled = format!(in alloc; "{value}")?;
     let (TokenValue::Pragma(_), Some(spot)) = (value, spot) else {
         return Ok(spelled);
     };
     let written = written_line(alloc, spot.text.get(spot.start..).unwrap_or(""))?;
-    if is_read_alike(alloc, written.as_str(), spelled.as_str())? {
+    if is_read_alike(alloc, rules, written.as_str(), spelled.as_str())? {
         return Ok(written);
     }
     Ok(spelled)
@@ -52,15 +54,16 @@ fn written_line(alloc: Global, text: &str) -> Result<String, AllocError> {
     String::from_str(alloc, line.as_str().trim_end())
 }
 
-// Whether the lexer reads the same tokens from two texts.
-fn is_read_alike(alloc: Global, first: &str, second: &str) -> Result<bool, AllocError>
-    ensures { IfOk result (λ is. IsTrue is → read_values first.now ≡ read_values second.now) }
+// Whether the lexer reads the same tokens from two texts by these rules.
+fn is_read_alike(alloc: Global, rules: Rules, first: &str, second: &str) -> Result<bool, AllocError>
+    ensures { IfOk result (λ is. IsTrue is → read_values_by rules first.now
+        ≡ read_values_by rules second.now) }
 {
     if first.len() >= SOURCE_LIMIT || second.len() >= SOURCE_LIMIT {
         return Ok(false);
     }
-    let first = read_all(alloc, first)?;
-    let second = read_all(alloc, second)?;
+    let first = read_all(alloc, rules, first)?;
+    let second = read_all(alloc, rules, second)?;
     Ok(are_same(first.as_slice(), second.as_slice()))
 }
 
@@ -88,12 +91,12 @@ fn is_same(first: &Read, second: &Read) -> bool
     }
 }
 
-// What the lexer reads from a text.
-fn read_all(alloc: Global, text: &str) -> Result<Vec<Read>, AllocError>
+// What the lexer reads from a text by these rules.
+fn read_all(alloc: Global, rules: Rules, text: &str) -> Result<Vec<Read>, AllocError>
     requires { length text.now < 2 ^ 32 - 1 }
-    ensures { IfOk result (λ reads. reads.items ≡ read_values text.now) }
+    ensures { IfOk result (λ reads. reads.items ≡ read_values_by rules text.now) }
 {
-    let mut lexer = Lexer::new(alloc, text);
+    let mut lexer = Lexer::with_rules(alloc, text, rules);
     let mut reads = Vec::new(alloc);
     'tokens: while let Some(read) = read_next(&mut lexer)? {
         reads.push(read)?;

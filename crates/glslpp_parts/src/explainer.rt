@@ -8,17 +8,18 @@ use crate::causes::{
     Cause, macro_at_end, macro_before, of_early_end, of_float, of_integer, of_unexpected_token,
     of_unfinished_expression, only_operator,
 };
-use crate::changes::Definition;
 use crate::diagnostic::{Diagnostic, Note, Severity, Site};
 use crate::directive_line::DirectiveLine;
 use crate::macro_use::{MacroUse, UseFinder};
 use crate::outline::Outline;
 use crate::place::Place;
 use crate::quoting::{is_typographic_quote, push_char};
+use crate::rule_set::Setting;
 use crate::search::{count_arguments, last_name};
 use crate::texts::Texts;
 use pp_rs::SOURCE_LIMIT;
 use pp_rs::lexer::Token;
+use pp_rs::rules::Rules;
 use pp_rs::token::{Location, PreprocessorError, Punct};
 use std::alloc::{AllocError, Global};
 
@@ -32,6 +33,8 @@ pub struct Explainer<'a> {
     texts: &'a Texts<'a>,
     // The byte offsets in the source of characters that stand for bytes that aren't UTF-8.
     replaced: &'a [usize],
+    // The rules by which the source is read.
+    rules: Rules,
     outline: Option<Outline>,
     uses: UseFinder<'a>,
     ghost is_short: { length source.now < 2 ^ 32 - 1 },
@@ -39,13 +42,13 @@ pub struct Explainer<'a> {
 
 impl<'a> Explainer<'a> {
     /// The messages for the errors of a source, in which the characters at these byte offsets stand for bytes that
-    /// aren't UTF-8. `texts` has the same source, and the contents of these definitions before it.
+    /// aren't UTF-8. `texts` has the same source, and the contents of the setting's definitions.
     pub fn new(
         alloc: Global,
         source: &'a str,
         texts: &'a Texts<'a>,
         replaced: &'a [usize],
-        definitions: &'a [Definition<'a>],
+        setting: Setting<'a>,
     ) -> Explainer<'a>
         requires { length source.now < 2 ^ 32 - 1 }
     {
@@ -54,8 +57,9 @@ impl<'a> Explainer<'a> {
             source,
             texts,
             replaced,
+            rules: setting.rules,
             outline: None,
-            uses: UseFinder::new(alloc, source, texts, definitions),
+            uses: UseFinder::new(alloc, source, texts, setting),
         }
     }
 
@@ -71,7 +75,7 @@ impl<'a> Explainer<'a> {
     ) -> Result<Option<MacroUse<'a>>, AllocError> {
         let outline = match self.outline.take() {
             Some(outline) => outline,
-            None => Outline::of(self.alloc, self.source)?,
+            None => Outline::of(self.alloc, self.rules, self.source)?,
         };
         let used = self.uses.find(&outline, error, location, call_line, read);
         self.outline = Some(outline);
@@ -130,7 +134,7 @@ impl<'a> Explainer<'a> {
         let Some(place) = site.place() else {
             return Ok(None);
         };
-        let line = DirectiveLine::of(self.alloc, site)?;
+        let line = DirectiveLine::of(self.alloc, self.rules, site)?;
         let message = match (error, &line) {
             (PreprocessorError::UnexpectedEndOfInput, Some(line)) if line.has_expression() => {
                 return match macro_at_end(line) {
@@ -235,7 +239,7 @@ impl<'a> Explainer<'a> {
     fn outline(&mut self) -> Result<&Outline, AllocError> {
         let outline = match self.outline.take() {
             Some(outline) => outline,
-            None => Outline::of(self.alloc, self.source)?,
+            None => Outline::of(self.alloc, self.rules, self.source)?,
         };
         Ok(self.outline.insert(outline))
     }
@@ -373,7 +377,7 @@ impl<'a> Explainer<'a> {
         if call.len() >= SOURCE_LIMIT {
             return Ok(None);
         }
-        Ok(match count_arguments(self.alloc, call) {
+        Ok(match count_arguments(self.alloc, self.rules, call) {
             Some(given) => Some((wanted, given)),
             None => None,
         })

@@ -3,11 +3,11 @@
 ghost use Rattle.std.specs.Prelude.{◌≡◌, ◌-◌, ◌^◌, ◌<◌, [], IfOk, OnOk, length};
 ghost use Rattle.glslpp_parts.specs.Warnings.{no_warnings};
 
-use crate::changes::Definition;
 use crate::comment_check::{count_line_ends, is_continued, nested_comment};
 use crate::diagnostic::{Diagnostic, Note, Site};
 use crate::explainer::is_near;
 use crate::findings::Findings;
+use crate::rule_set::Setting;
 use crate::undefined_names::find_undefined_names;
 use crate::used_names::UsedNames;
 use crate::warning::{Warning, Warnings};
@@ -15,13 +15,13 @@ use pp_rs::lexer::{Comments, Lexer, Token, TokenValue};
 use pp_rs::token::{Location, PreprocessorError, Punct};
 use std::alloc::{AllocError, Global};
 
-/// Returns what the warnings find in a source, in its order, if these definitions are before it. Without a warning
-/// nothing is read.
+/// Returns what the warnings find in a source that is read with this setting, in its order. Without a warning nothing
+/// is read.
 pub fn inspect<'a>(
     alloc: Global,
     source: &'a str,
     warnings: Warnings,
-    definitions: &[Definition<'_>],
+    setting: Setting<'_>,
 ) -> Result<Vec<Diagnostic<'a>>, AllocError>
     requires { length source.now < 2 ^ 32 - 1 }
     ensures { warnings ≡ no_warnings → IfOk result (λ found. found.items ≡ []) }
@@ -29,14 +29,14 @@ pub fn inspect<'a>(
     if !warnings.has_any() {
         return Ok(Vec::new(alloc));
     }
-    find(alloc, source, warnings, definitions)
+    find(alloc, source, warnings, setting)
 }
 
 fn find<'a>(
     alloc: Global,
     source: &'a str,
     warnings: Warnings,
-    definitions: &[Definition<'_>],
+    setting: Setting<'_>,
 ) -> Result<Vec<Diagnostic<'a>>, AllocError>
     requires { length source.now < 2 ^ 32 - 1 }
 {
@@ -45,14 +45,14 @@ fn find<'a>(
         inspect_comments(&mut findings, source)?;
     }
     if warnings.undef {
-        find_undefined_names(alloc, &mut findings, source, definitions)?;
+        find_undefined_names(alloc, &mut findings, source, setting)?;
     }
     let used = if warnings.unused_macros {
-        UsedNames::of(alloc, source)?
+        UsedNames::of(alloc, setting.rules, source)?
     } else {
         UsedNames::none(alloc)
     };
-    let mut lexer = Lexer::new(alloc, source);
+    let mut lexer = Lexer::with_rules(alloc, source, setting.rules);
     let mut inspector = Inspector::new(alloc, findings, used);
     'tokens: while let Some(item) = lexer.next() {
         match item {

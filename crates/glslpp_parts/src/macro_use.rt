@@ -2,11 +2,11 @@
 
 ghost use Rattle.std.specs.Prelude.{◌-◌, ◌^◌, ◌<◌, length};
 
-use crate::changes::Definition;
 use crate::conditions::computed_conditions;
 use crate::diagnostic::Site;
 use crate::directive_line::{is_punct, name_of};
 use crate::outline::Outline;
+use crate::rule_set::Setting;
 use crate::texts::{Spot, Texts};
 use pp_rs::SOURCE_LIMIT;
 use pp_rs::lexer::{Lexer, LexerItem, TokenValue};
@@ -33,7 +33,7 @@ pub(crate) struct UseFinder<'a> {
     alloc: Global,
     source: &'a str,
     texts: &'a Texts<'a>,
-    definitions: &'a [Definition<'a>],
+    setting: Setting<'a>,
     // The place of the last error or of the macro's name from which it came.
     last: Location,
     // The places of the words of the conditions that are computed, once they are needed.
@@ -42,12 +42,13 @@ pub(crate) struct UseFinder<'a> {
 }
 
 impl<'a> UseFinder<'a> {
-    /// The finder for a source with these definitions before it. `texts` has the same source and their contents.
+    /// The finder for a source with this setting. `texts` has the same source, and the contents of the setting's
+    /// definitions.
     pub(crate) fn new(
         alloc: Global,
         source: &'a str,
         texts: &'a Texts<'a>,
-        definitions: &'a [Definition<'a>],
+        setting: Setting<'a>,
     ) -> UseFinder<'a>
         requires { length source.now < 2 ^ 32 - 1 }
     {
@@ -55,7 +56,7 @@ impl<'a> UseFinder<'a> {
             alloc,
             source,
             texts,
-            definitions,
+            setting,
             last: Location::default(),
             conditions: None,
         }
@@ -118,7 +119,7 @@ impl<'a> UseFinder<'a> {
     fn defined_name(&self, spot: Spot<'_>) -> Option<&'a str> {
         let before = spot.text.as_bytes().get(..spot.start)?;
         let index = before.iter().filter(|byte| **byte == b'\n').count();
-        let (name, _) = self.definitions.get(index)?;
+        let (name, _) = self.setting.definitions.get(index)?;
         Some(*name)
     }
 
@@ -137,7 +138,7 @@ impl<'a> UseFinder<'a> {
         from: Location,
         line: u32,
     ) -> Result<Option<Location>, AllocError> {
-        let mut lexer = Lexer::new(self.alloc, self.rest_after(from));
+        let mut lexer = Lexer::with_rules(self.alloc, self.rest_after(from), self.setting.rules);
         let mut names = NamesOfText::after(from);
         let mut found = None;
         'tokens: while let Some(item) = lexer.next() {
@@ -193,7 +194,7 @@ impl<'a> UseFinder<'a> {
         inner: &str,
         from: Location,
     ) -> Result<Option<Location>, AllocError> {
-        let mut lexer = Lexer::new(self.alloc, self.rest_after(from));
+        let mut lexer = Lexer::with_rules(self.alloc, self.rest_after(from), self.setting.rules);
         let mut names = NamesOfText::after(from);
         let mut left = MOST_LOOKED_AT;
         'tokens: while let Some(item) = lexer.next() {
@@ -219,7 +220,7 @@ impl<'a> UseFinder<'a> {
     ) -> Result<Option<Location>, AllocError> {
         let computed = match self.conditions.take() {
             Some(computed) => computed,
-            None => computed_conditions(self.alloc, self.source, self.definitions)?,
+            None => computed_conditions(self.alloc, self.source, self.setting)?,
         };
         let found = self.find_on_lines(outline, inner, from, computed.as_slice());
         self.conditions = Some(computed);
@@ -251,7 +252,7 @@ impl<'a> UseFinder<'a> {
         inner: &str,
         word: Location,
     ) -> Result<Option<Location>, AllocError> {
-        let mut lexer = Lexer::new(self.alloc, self.rest_after(word));
+        let mut lexer = Lexer::with_rules(self.alloc, self.rest_after(word), self.setting.rules);
         let mut names = NamesOfLine::after(word);
         'tokens: while let Some(item) = lexer.next() {
             match names.name(item)? {
@@ -288,7 +289,7 @@ impl<'a> UseFinder<'a> {
         if content.len() >= SOURCE_LIMIT {
             return Ok(());
         }
-        let mut lexer = Lexer::new(self.alloc, content);
+        let mut lexer = Lexer::with_rules(self.alloc, content, self.setting.rules);
         let mut read = NamesOfText::after(Location::default());
         'tokens: while let Some(item) = lexer.next() {
             if let Some(place) = read.name(item)? {
@@ -308,7 +309,12 @@ impl<'a> UseFinder<'a> {
             let (start, end) = define.content;
             return self.source.get(start as usize..end as usize).unwrap_or("");
         }
-        match self.definitions.iter().find(|(other, _)| *other == name) {
+        match self
+            .setting
+            .definitions
+            .iter()
+            .find(|(other, _)| *other == name)
+        {
             Some((_, content)) => *content,
             None => "",
         }

@@ -4,6 +4,7 @@ ghost use Rattle.std.specs.Prelude.{◌-◌, ◌^◌, ◌<◌, length};
 
 use crate::columns::Columns;
 use pp_rs::lexer::{Lexer, Token, TokenValue};
+use pp_rs::rules::Rules;
 use pp_rs::token::{Location, PreprocessorError, Punct};
 use std::alloc::{AllocError, Global};
 use std::collections::BTreeMap;
@@ -35,11 +36,11 @@ pub(crate) struct Outline {
 }
 
 impl Outline {
-    /// The directives of this source.
-    pub(crate) fn of(alloc: Global, source: &str) -> Result<Outline, AllocError>
+    /// The directives of this source, which is read by these rules.
+    pub(crate) fn of(alloc: Global, rules: Rules, source: &str) -> Result<Outline, AllocError>
         requires { length source.now < 2 ^ 32 - 1 }
     {
-        let mut lexer = Lexer::new(alloc, source);
+        let mut lexer = Lexer::with_rules(alloc, source, rules);
         let mut reader = Reader::new(alloc, source);
         'tokens: while let Some(item) = lexer.next() {
             match item {

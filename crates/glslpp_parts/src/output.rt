@@ -17,6 +17,7 @@ use crate::layout::{Gap, Layout};
 use crate::texts::Texts;
 use crate::words::{compact_word, made_word, written_word};
 use pp_rs::pp::{TokenRef, TokenSink, ValueRef};
+use pp_rs::rules::Rules;
 use pp_rs::token::{Location, NOWHERE, Punct, Token};
 use std::alloc::{AllocError, Global};
 use std::marker::Model;
@@ -27,6 +28,8 @@ pub struct Output<'a> {
     alloc: Global,
     texts: &'a Texts<'a>,
     form: Form,
+    // The rules by which the source is read.
+    rules: Rules,
     layout: Layout,
     // The lines of JSON.
     lines: String,
@@ -48,6 +51,7 @@ impl<'a> Model for Output<'a> {
 
     ghost view = { λ o. record {
       form = o.form;
+      rules = o.rules;
       laid = o.layout;
       end = o.end;
       items = string_bytes o.lines;
@@ -78,10 +82,11 @@ impl<'a> TokenSink for Output<'a> {
 }
 
 impl<'a> Output<'a> {
-    /// Returns the output of a source before its first item.
-    pub fn new(alloc: Global, form: Form, texts: &'a Texts<'a>) -> Output<'a>
+    /// Returns the output of a source that is read by these rules, before its first item.
+    pub fn new(alloc: Global, form: Form, rules: Rules, texts: &'a Texts<'a>) -> Output<'a>
         ensures { result ≡ record {
           form = form;
+          rules = rules;
           laid = record { text = []; line = 1; is_line_begun = false };
           end = None;
           items = [];
@@ -92,6 +97,7 @@ impl<'a> Output<'a> {
             alloc,
             texts,
             form,
+            rules,
             layout: Layout::new(alloc),
             lines: String::new(alloc),
             columns: Columns::new(texts.source),
@@ -129,6 +135,7 @@ impl<'a> Output<'a> {
     #[inline(always)]
     fn push_on_its_line(&mut self, token: TokenRef<'_>) -> Result<(), AllocError>
         ensures form { self.new.form ≡ self.old.form }
+        ensures rules { self.new.rules ≡ self.old.rules }
         ensures left_out { self.new.left_out ≡ self.old.left_out }
         ensures puts { OnOk result (PutsWord self.old (token_of token.entry) (line_of token.entry) self.new) }
     {
@@ -153,6 +160,7 @@ impl<'a> Output<'a> {
         word: &str,
     ) -> Result<(), AllocError>
         ensures form { self.new.form ≡ self.old.form }
+        ensures rules { self.new.rules ≡ self.old.rules }
         ensures left_out { self.new.left_out ≡ self.old.left_out }
         ensures puts { OnOk result (PutsText self.old place is_closing line word.now self.new) }
         ensures text { IsUtf8 word.now }
@@ -175,6 +183,7 @@ impl<'a> Output<'a> {
     #[inline(never)]
     fn push_made_word(&mut self, line: u32, word: &str) -> Result<(), AllocError>
         ensures form { self.new.form ≡ self.old.form }
+        ensures rules { self.new.rules ≡ self.old.rules }
         ensures left_out { self.new.left_out ≡ self.old.left_out }
         ensures put { OnOk result (self.new ≡ record self.old {
           laid = on_line self.old.laid line Gap.Space word.now;
@@ -189,21 +198,23 @@ impl<'a> Output<'a> {
     #[inline(never)]
     fn push_number(&mut self, token: TokenRef<'_>) -> Result<(), AllocError>
         ensures form { self.new.form ≡ self.old.form }
+        ensures rules { self.new.rules ≡ self.old.rules }
         ensures left_out { self.new.left_out ≡ self.old.left_out }
         ensures puts { OnOk result (PutsWord self.old (token_of token.entry) (line_of token.entry) self.new) }
     {
         let (place, line) = (token.location, line_of(token));
         let spot = self.texts.spot(place);
-        if let Some(word) = written_word(self.alloc, token.value, spot)? {
+        if let Some(word) = written_word(self.alloc, self.rules, token.value, spot)? {
             return self.push_word(place, line, false, word);
         }
-        let word = made_word(self.alloc, token.value, spot)?;
+        let word = made_word(self.alloc, self.rules, token.value, spot)?;
         self.push_made_word(line, word.as_str())
     }
 
     #[inline(never)]
     fn push_on_last_line(&mut self, token: TokenRef<'_>) -> Result<(), AllocError>
         ensures form { self.new.form ≡ self.old.form }
+        ensures rules { self.new.rules ≡ self.old.rules }
         ensures left_out { self.new.left_out ≡ self.old.left_out }
         ensures puts { OnOk result (PutsWord self.old (token_of token.entry) self.old.laid.line self.new) }
     {
@@ -219,10 +230,10 @@ impl<'a> Output<'a> {
         ensures item { OnOk result (IsItem self.old.items self.new.items) }
     {
         let spot = self.texts.spot(token.location);
-        if let Some(word) = written_word(self.alloc, token.value, spot)? {
+        if let Some(word) = written_word(self.alloc, self.rules, token.value, spot)? {
             return json::push_token(&mut self.lines, &mut self.columns, token, spot, word);
         }
-        let word = made_word(self.alloc, token.value, spot)?;
+        let word = made_word(self.alloc, self.rules, token.value, spot)?;
         json::push_token(
             &mut self.lines,
             &mut self.columns,
@@ -236,6 +247,7 @@ impl<'a> Output<'a> {
     pub fn push_directive(&mut self, token: &Token) -> Result<(), AllocError>
         requires { is_ordinary token.now.value ≡ false }
         ensures form { self.new.form ≡ self.old.form }
+        ensures rules { self.new.rules ≡ self.old.rules }
         ensures left_out { self.new.left_out ≡ self.old.left_out }
         ensures puts { OnOk result (Puts self.old.form false self.old token.now None self.new) }
     {
@@ -243,7 +255,7 @@ impl<'a> Output<'a> {
         let line = match self.form {
             Form::Compact => format!(in self.alloc; "{}", token.value)?,
             Form::Lines | Form::Tokens | Form::Directives => {
-                directive_text(self.alloc, &token.value, spot)?
+                directive_text(self.alloc, self.rules, &token.value, spot)?
             }
         };
         self.end = None;

@@ -7,6 +7,7 @@ ghost use Rattle.std.specs.Prelude.{◌-◌, ◌^◌, ◌<◌, length};
 
 use crate::directive_line::{is_punct, name_of};
 use pp_rs::lexer::{Lexer, Token as Word, TokenValue as WordValue};
+use pp_rs::rules::Rules;
 use pp_rs::token::{Location, PreprocessorError, Punct};
 use std::alloc::{AllocError, Global};
 
@@ -70,8 +71,13 @@ pub(crate) struct Probe {
 }
 
 impl Probe {
-    /// The text for the conditions of a source.
-    pub(crate) fn of(alloc: Global, source: &str, asked: Asked) -> Result<Probe, AllocError>
+    /// The text for the conditions of a source that is read by these rules.
+    pub(crate) fn of(
+        alloc: Global,
+        rules: Rules,
+        source: &str,
+        asked: Asked,
+    ) -> Result<Probe, AllocError>
         requires { length source.now < 2 ^ 32 - 1 }
     {
         let mut probe = Probe {
@@ -82,7 +88,7 @@ impl Probe {
             questions: Vec::new(alloc),
             elifs: Vec::new(alloc),
         };
-        let mut lexer = Lexer::new(alloc, source);
+        let mut lexer = Lexer::with_rules(alloc, source, rules);
         let mut words = Vec::new(alloc);
         let mut is_directive = false;
         'words: while let Some(item) = lexer.next() {
@@ -120,7 +126,7 @@ impl Probe {
             return Ok(());
         };
         match name_of(first).unwrap_or("") {
-            "define" | "undef" | "else" => self.push_directive("", words),
+            "define" | "undef" | "else" | "extension" => self.push_directive("", words),
             "ifdef" | "ifndef" => {
                 self.elifs.push(0)?;
                 self.push_directive("", words)

@@ -8,6 +8,7 @@ ghost use Rattle.glslpp_parts.specs.Reading.{values_ahead, IsReadAs};
 
 use pp_rs::lexer::{Lexer, TokenValue as Word};
 use pp_rs::pp::ValueRef;
+use pp_rs::rules::Rules;
 use pp_rs::token::{Float, PreprocessorError, Text};
 use std::alloc::{AllocError, Global};
 
@@ -29,12 +30,17 @@ pub(crate) fn read_next(lexer: &mut Lexer<'_>) -> Result<Option<Read>, AllocErro
     }
 }
 
-/// Whether the text, read again, is one token of this value.
-pub(crate) fn is_read_as(alloc: Global, text: &str, value: ValueRef<'_>) -> Result<bool, AllocError>
+/// Whether the text, read again by these rules, is one token of this value.
+pub(crate) fn is_read_as(
+    alloc: Global,
+    rules: Rules,
+    text: &str,
+    value: ValueRef<'_>,
+) -> Result<bool, AllocError>
     requires { length text.now < 2 ^ 32 - 1 }
-    ensures { IfOk result (λ is. IsTrue is ↔ IsReadAs (value_of value.entry) text.now) }
+    ensures { IfOk result (λ is. IsTrue is ↔ IsReadAs rules (value_of value.entry) text.now) }
 {
-    let mut lexer = Lexer::new(alloc, text);
+    let mut lexer = Lexer::with_rules(alloc, text, rules);
     let Some(Ok(word)) = read_next(&mut lexer)? else {
         return Ok(false);
     };
@@ -69,7 +75,8 @@ fn is_float(float: &Float, text: &str, width: i32) -> bool
     is_text(&float.text, text)
 }
 
-fn is_text(text: &Text, word: &str) -> bool
+/// Whether the text is this word.
+pub(crate) fn is_text(text: &Text, word: &str) -> bool
     ensures { IsTrue result ↔ (text.now ≡ chars word.now) }
 {
     text.as_str() == word

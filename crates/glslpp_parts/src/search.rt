@@ -4,6 +4,7 @@ ghost use Rattle.std.specs.Prelude.{◌-◌, ◌^◌, ◌<◌, length};
 
 use crate::quoting::is_name_char;
 use pp_rs::lexer::{Lexer, TokenValue};
+use pp_rs::rules::Rules;
 use pp_rs::token::Punct;
 use std::alloc::Global;
 
@@ -24,11 +25,11 @@ fn last_char_cut(text: &str, place: usize) -> &str {
     chars.as_str()
 }
 
-/// The number of arguments in the parentheses with which the text begins.
-pub(crate) fn count_arguments(alloc: Global, text: &str) -> Option<usize>
+/// The number of arguments in the parentheses with which the text begins, which is read by these rules.
+pub(crate) fn count_arguments(alloc: Global, rules: Rules, text: &str) -> Option<usize>
     requires { length text.now < 2 ^ 32 - 1 }
 {
-    let mut lexer = Lexer::new(alloc, text);
+    let mut lexer = Lexer::with_rules(alloc, text, rules);
     let mut depth = 0usize;
     let mut count = 0usize;
     'tokens: while let Some(item) = lexer.next() {

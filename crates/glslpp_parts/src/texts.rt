@@ -68,7 +68,7 @@ impl<'a> Texts<'a> {
     }
 
     /// Adds the content of a definition, which has no line end, and returns it as the library has to get it.
-    pub(crate) fn pad(&mut self, alloc: Global, content: &str) -> Result<String, AllocError>
+    pub fn pad(&mut self, alloc: Global, content: &str) -> Result<String, AllocError>
         ensures text { IfOk result (λ text. string_bytes text ≡ padded self.old content.now) }
         ensures taken_in { OnOk result (self.new ≡ with_content self.old content.now) }
     {

@@ -6,11 +6,12 @@
 
 ghost use Rattle.std.specs.Prelude.{◌-◌, ◌^◌, ◌<◌, length};
 
-use crate::changes::Definition;
 use crate::definitions::add_definitions;
+use crate::extensions::{EXTENSION_CONTENT, define_extension};
 use crate::failure::Failure;
 use crate::findings::Findings;
 use crate::probe::{Asked, Probe};
+use crate::rule_set::Setting;
 use crate::texts::Texts;
 use crate::warning::Warning;
 use pp_rs::SOURCE_LIMIT;
@@ -18,25 +19,25 @@ use pp_rs::pp::Preprocessor;
 use pp_rs::token::{PreprocessorError, TokenValue};
 use std::alloc::{AllocError, Global};
 
-/// Finds the names that are not defined in the conditions that are computed, with these definitions before the source,
-/// up to the first condition with an error.
+/// Finds the names that are not defined in the conditions of a source that are computed, up to the first condition with
+/// an error.
 pub(crate) fn find_undefined_names(
     alloc: Global,
     findings: &mut Findings<'_>,
     source: &str,
-    definitions: &[Definition<'_>],
+    setting: Setting<'_>,
 ) -> Result<(), AllocError>
     requires { length source.now < 2 ^ 32 - 1 }
 {
-    let probe = Probe::of(alloc, source, Asked::Names)?;
+    let probe = Probe::of(alloc, setting.rules, source, Asked::Names)?;
     let text = probe.text.as_str();
     if text.len() >= SOURCE_LIMIT {
         return Ok(());
     }
     let mut texts = Texts::new(alloc, text);
-    let mut items = Preprocessor::new(alloc, text);
-    let found = match add_definitions(alloc, &mut items, &mut texts, definitions) {
-        Ok(()) => take_answers(alloc, findings, &probe, &mut items),
+    let mut items = Preprocessor::with_rules(alloc, text, setting.rules);
+    let found = match add_definitions(alloc, &mut items, &mut texts, setting.definitions) {
+        Ok(()) => take_answers(alloc, findings, &probe, setting.extensions, &mut items),
         Err(Failure::OutOfMemory) => Err(AllocError),
         Err(Failure::Told(_text)) => Ok(()),
     };
@@ -49,12 +50,18 @@ fn take_answers(
     alloc: Global,
     findings: &mut Findings<'_>,
     probe: &Probe,
+    extensions: &[&str],
     items: &mut Preprocessor<'_>,
 ) -> Result<(), AllocError> {
     let mut answered = 0;
-    'items: while let Some(item) = items.next() {
+    // A macro that an `#extension` line defines adds to what is left, so the items are counted.
+    for _ in 0..u64::MAX {
+        let Some(item) = items.next() else {
+            return Ok(());
+        };
         match item {
             Ok(token) => {
+                define_extension(items, &token.value, extensions, EXTENSION_CONTENT)?;
                 let line = items.call_line().unwrap_or(token.location.line);
                 if let TokenValue::Ident(name) = &token.value
                     && let Some(question) = probe.question(line)

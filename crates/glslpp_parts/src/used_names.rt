@@ -3,6 +3,7 @@
 ghost use Rattle.std.specs.Prelude.{◌-◌, ◌^◌, ◌<◌, length};
 
 use pp_rs::lexer::{Lexer, Token, TokenValue};
+use pp_rs::rules::Rules;
 use pp_rs::token::PreprocessorError;
 use std::alloc::{AllocError, Global};
 use std::collections::BTreeSet;
@@ -23,11 +24,11 @@ impl UsedNames {
         }
     }
 
-    /// The names of this source.
-    pub(crate) fn of(alloc: Global, source: &str) -> Result<UsedNames, AllocError>
+    /// The names of this source, which is read by these rules.
+    pub(crate) fn of(alloc: Global, rules: Rules, source: &str) -> Result<UsedNames, AllocError>
         requires { length source.now < 2 ^ 32 - 1 }
     {
-        let mut lexer = Lexer::new(alloc, source);
+        let mut lexer = Lexer::with_rules(alloc, source, rules);
         let mut reader = Reader {
             alloc,
             stage: Stage::Text,

@@ -36,19 +36,23 @@ pub struct Version {
 }
 
 /// The version of a source that names none (GLSL ES 3.20, 3.4).
-const DEFAULT_VERSION: Version = Version {
+pub(crate) const DEFAULT_VERSION: Version = Version {
     number: 100,
     profile: Profile::Unnamed,
 };
 
-/// Returns what the first tokens of the source say, if they are a `#version`.
-pub fn declared_version(alloc: Global, source: &str) -> Result<Version, AllocError>
+/// Returns what the first tokens of the source say, if they are a `#version`, and otherwise the version `otherwise`.
+pub fn declared_version(
+    alloc: Global,
+    source: &str,
+    otherwise: Version,
+) -> Result<Version, AllocError>
     requires { length source.now < 2 ^ 32 - 1 }
-    ensures { IfOk result (λ version. version ≡ version_of (read_values source.now)) }
+    ensures { IfOk result (λ version. version ≡ version_of otherwise (read_values source.now)) }
 {
     let mut lexer = Lexer::new(alloc, source);
     let version = read_version(&mut lexer)?;
-    Ok(version.unwrap_or(DEFAULT_VERSION))
+    Ok(version.unwrap_or(otherwise))
 }
 
 fn read_version(lexer: &mut Lexer<'_>) -> Result<Option<Version>, AllocError>

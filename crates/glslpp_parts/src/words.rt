@@ -3,7 +3,8 @@
 ghost use Rattle.std.specs.Prelude.{◌≡◌, ◌-◌, ◌^◌, ◌<◌, IsTrue, IfOk, IfSome, length, string_bytes};
 ghost use Rattle.std.specs.Fmt.{decimal};
 ghost use Rattle.std.specs.Str.{chars};
-ghost use Rattle.pp_lexer.specs.Respelling.{IsSpellable};
+ghost use Rattle.pp_lexer.specs.declared.rules.Rules.{Rules};
+ghost use Rattle.pp_lexer.specs.Respelling.{IsSpellableBy};
 ghost use Rattle.pp_rs.specs.TokenRefs.{value_of};
 ghost use Rattle.glslpp_parts.specs.Reading.{IsReadAs, IsTextOf, as_signed};
 
@@ -12,6 +13,7 @@ use crate::reading::is_read_as;
 use crate::texts::Spot;
 use pp_rs::SOURCE_LIMIT;
 use pp_rs::pp::ValueRef;
+use pp_rs::rules::Rules;
 use pp_rs::token::Integer;
 use std::alloc::{AllocError, Global};
 
@@ -23,16 +25,17 @@ const LINE: &str = "__LINE__";
 #[inline(always)]
 pub(crate) fn written_word<'a>(
     alloc: Global,
+    rules: Rules,
     value: ValueRef<'_>,
     spot: Option<Spot<'a>>,
 ) -> Result<Option<&'a str>, AllocError>
-    ensures { IfOk result (λ written. IfSome written (λ word. IsSpellable (value_of value.entry)
-        → IsReadAs (value_of value.entry) word.now)) }
+    ensures { IfOk result (λ written. IfSome written (λ word. IsSpellableBy rules (value_of value.entry)
+        → IsReadAs rules (value_of value.entry) word.now)) }
 {
     let Some(word) = source_word(spot) else {
         return Ok(None);
     };
-    if is_text_of(alloc, word, value)? {
+    if is_text_of(alloc, rules, word, value)? {
         return Ok(Some(word));
     }
     Ok(None)
@@ -49,29 +52,41 @@ fn source_word<'a>(spot: Option<Spot<'a>>) -> Option<&'a str> {
 
 // Whether a word can be printed for the value as it is: it is read as the value, and has no continuation.
 #[inline(always)]
-fn is_text_of(alloc: Global, word: &str, value: ValueRef<'_>) -> Result<bool, AllocError>
-    ensures { IfOk result (λ is. IsTrue is → IsSpellable (value_of value.entry)
-        → IsReadAs (value_of value.entry) word.now) }
+fn is_text_of(
+    alloc: Global,
+    rules: Rules,
+    word: &str,
+    value: ValueRef<'_>,
+) -> Result<bool, AllocError>
+    ensures { IfOk result (λ is. IsTrue is → IsSpellableBy rules (value_of value.entry)
+        → IsReadAs rules (value_of value.entry) word.now) }
 {
     match value {
         ValueRef::Ident(name) => Ok(name == word),
         ValueRef::Punct(punct) => Ok(punct.spelling() == word),
         ValueRef::Integer(integer)
-            if integer.signed && is_decimal(word.as_bytes(), integer.value) => Ok(true),
-        ValueRef::Float(text, _) if text == word => Ok(true),
-        _ => is_other_text_of(alloc, word, value),
+            if integer.signed
+                && integer.width == 32
+                && is_decimal(word.as_bytes(), integer.value) => Ok(true),
+        ValueRef::Float(text, width) if width == 32 && text == word => Ok(true),
+        _ => is_other_text_of(alloc, rules, word, value),
     }
 }
 
 // The same for a text that isn't the one by which the library spells the value.
 #[inline(never)]
-fn is_other_text_of(alloc: Global, word: &str, value: ValueRef<'_>) -> Result<bool, AllocError>
-    ensures { IfOk result (λ is. IsTrue is → IsReadAs (value_of value.entry) word.now) }
+fn is_other_text_of(
+    alloc: Global,
+    rules: Rules,
+    word: &str,
+    value: ValueRef<'_>,
+) -> Result<bool, AllocError>
+    ensures { IfOk result (λ is. IsTrue is → IsReadAs rules (value_of value.entry) word.now) }
 {
     if word.contains('\\') || word.len() >= SOURCE_LIMIT {
         return Ok(false);
     }
-    is_read_as(alloc, word, value)
+    is_read_as(alloc, rules, word, value)
 }
 
 // Whether these are the digits of the number.
@@ -94,10 +109,11 @@ fn is_decimal(bytes: &[u8], number: u64) -> bool
 /// an added definition gave it. A line number has no `u`, since GLSL's `__LINE__` is an `int`.
 pub(crate) fn made_word(
     alloc: Global,
+    rules: Rules,
     value: ValueRef<'_>,
     spot: Option<Spot<'_>>,
 ) -> Result<String, AllocError>
-    ensures { IfOk result (λ word. IsTextOf (value_of value.entry) (string_bytes word)) }
+    ensures { IfOk result (λ word. IsTextOf rules (value_of value.entry) (string_bytes word)) }
 {
     let Some(spot) = spot else {
         return spelled_word(alloc, value);
@@ -106,7 +122,7 @@ pub(crate) fn made_word(
     if joined.as_str() == LINE {
         return signed_word(alloc, value);
     }
-    if spot.is_in_source && is_text_of(alloc, joined.as_str(), value)? {
+    if spot.is_in_source && is_text_of(alloc, rules, joined.as_str(), value)? {
         return Ok(joined);
     }
     spelled_word(alloc, value)
@@ -118,7 +134,8 @@ pub(crate) fn compact_word(
     value: ValueRef<'_>,
     spot: Option<Spot<'_>>,
 ) -> Result<String, AllocError>
-    ensures { IfOk result (λ word. IsTextOf (value_of value.entry) (string_bytes word)) }
+    ensures { IfOk result (λ word. (rules : Rules)
+        → IsTextOf rules (value_of value.entry) (string_bytes word)) }
 {
     if let ValueRef::Integer(_) = value
         && let Some(spot) = spot
@@ -131,8 +148,8 @@ pub(crate) fn compact_word(
 
 // The token as the library spells it.
 fn spelled_word(alloc: Global, value: ValueRef<'_>) -> Result<String, AllocError>
-    ensures { IfOk result (λ word. IsSpellable (value_of value.entry)
-        → IsReadAs (value_of value.entry) (string_bytes word)) }
+    ensures { IfOk result (λ word. (rules : Rules) → IsSpellableBy rules (value_of value.entry)
+        → IsReadAs rules (value_of value.entry) (string_bytes word)) }
 {
     let mut word = String::new(alloc);
     value.push_to(&mut word)?;
@@ -141,8 +158,8 @@ fn spelled_word(alloc: Global, value: ValueRef<'_>) -> Result<String, AllocError
 
 // The token as the library spells it, except that a number has no `u`.
 fn signed_word(alloc: Global, value: ValueRef<'_>) -> Result<String, AllocError>
-    ensures { IfOk result (λ word. IsSpellable (value_of value.entry)
-        → IsReadAs (as_signed (value_of value.entry)) (string_bytes word)) }
+    ensures { IfOk result (λ word. (rules : Rules) → IsSpellableBy rules (value_of value.entry)
+        → IsReadAs rules (as_signed (value_of value.entry)) (string_bytes word)) }
 {
     match value {
         ValueRef::Integer(integer) => {

@@ -9,5 +9,5 @@ use Rattle.glslpp_parts.proofs.words.spelled_word.Goals as goal
 pub returns : goal.returns
 returns c =
     let pushed = (c.in_ok-push_to.ensures {u = tt}).appended in
-    spelled_read (value_of c.args.value) _ (IsUtf8-string_bytes c.push_to.new.text)
+    λ rules. spelled_read rules (value_of c.args.value) _ (IsUtf8-string_bytes c.push_to.new.text)
     (pushed ∙ ap (λ t. t ++ spelling (value_of c.args.value)) (ap chars c.new-word.ensures.bytes ∙ chars-nil))
