@@ -1,5 +1,5 @@
 -- Errors of the lexer that are passed.
-use Rattle.std.proofs.Common.{◌≡◌, ◌∙◌, Bool, true, false, List, [], ◌++◌, None, refl, sym, ap, append_assoc}
+use Rattle.std.proofs.Common.{◌≡◌, ◌∙◌, Bool, true, false, List, [], ◌++◌, None, sym, ap, append_assoc}
 use Rattle.pp_macros.specs.LexerErrors.{ErrorAt}
 use Rattle.pp_macros.specs.inner.Unreported.{Unreported, ReportsNone}
 use Rattle.pp_rs.specs.Preprocessing.{PassesErrors}

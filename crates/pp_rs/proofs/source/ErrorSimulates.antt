@@ -1,6 +1,6 @@
 -- In dead text an error of the lexer that is passed, with the number sign of a directive before it, is a step of the reader.
 use Rattle.pp_lexer.specs.Lexed.{Seen}
-use Rattle.std.proofs.Common.{◌≡◌, ◌≢◌, ◌∙◌, ℕ, Bool, true, false, if◌then◌else◌, ◌||◌, List, [], ◌∷◌, ◌++◌, take, refl, ap, sym, subst, arith}
+use Rattle.std.proofs.Common.{◌≡◌, ◌∙◌, ℕ, Bool, true, false, if◌then◌else◌, ◌||◌, List, ◌∷◌, ◌++◌, take, refl, ap, sym, subst}
 use Rattle.pp_lexer.specs.declared.token.Token.{Token}
 use Rattle.pp_model.specs.Acts.{pause_at, advanced_by, perform, act}
 use Rattle.pp_model.specs.Calls.{Fault}

@@ -1,4 +1,4 @@
-use Rattle.std.proofs.Common.{◌∙◌, ap, arith, refl, true}
+use Rattle.std.proofs.Common.{◌∙◌, arith, refl, true}
 use Rattle.pp_directives.proofs.LineReadingLemmas.{drop_fewer, passed_place, passed_end}
 use Rattle.pp_directives.proofs.UnreportedLemmas.{same_none, none_then}
 use Rattle.pp_directives.proofs.lines.pass_line.Goals as goal
