@@ -96,7 +96,9 @@ AStep A = (r : SourceReader) → IsFinite r.definitions → (x : Option Outcome)
 
 -- In each state of a run finitely many names are defined.
 abbrev pub RunDefinesFinitelyMany : Answers → Type 0
-RunDefinesFinitelyMany A = (rules : Rules) (source : List Seen) (e : Expander SourceReader) → IsReached A rules source e
+RunDefinesFinitelyMany A =
+    (rules : Rules) (source : List Seen) (e : Expander SourceReader)
+    → IsReached A rules source e
     → IsFinite e.reader.definitions
 
 -- From this state these tokens are given, one after another, and then this outcome, which is an error or the end.

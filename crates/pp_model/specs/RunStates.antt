@@ -39,7 +39,9 @@ IsReached A rules source e = LeadsTo A (start_by rules source) e
 -- No macro is open twice: in no state of a run does the list hold two end marks of one name.
 abbrev pub RunKeepsMarksApart : Answers → Type 0
 RunKeepsMarksApart A =
-    (rules : Rules) (source : List Seen) (e : Expander SourceReader) → IsReached A rules source e → HasApartMarks e.list
+    (rules : Rules) (source : List Seen) (e : Expander SourceReader)
+    → IsReached A rules source e
+    → HasApartMarks e.list
 
 -- whether the reply is the identifier `__LINE__`
 abbrev pub gives_line_name : Reply → Bool

@@ -43,7 +43,8 @@ AreItemsOf old items =
 -- yet, with its true place, or another error, which is at its own place. Errors of dead text are passed, if the rules
 -- say so. `left` and `after` are the errors that were not reported before and after the items, `place` and `last` the
 -- place of the last error before and after them.
-pub data Reports (passes : Bool) : List Item → List ErrorAt → Location → List ErrorAt → Location → Type 0 where
+pub data Reports (passes : Bool)
+    : List Item → List ErrorAt → Location → List ErrorAt → Location → Type 0 where
   none : (items : List Item) (left after : List ErrorAt) (place last : Location)
       → items ≡ []
       → after ≡ left

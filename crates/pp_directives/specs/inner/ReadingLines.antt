@@ -38,8 +38,8 @@ abbrev pub ReadsLine : {A B : Type 0} → (A → B) → (List Seen → Result B 
 ReadsLine shows wanted old result new = ReadsPart false shows (wanted old.rest) (line_length old.rest) old result new
 
 -- the rest of the line is read, or passed with its errors
-abbrev pub ReadsBy : Bool → (List Seen → Result (Unit {0}) Fault) → SourceLexed → Result (Unit {0}) Halt → SourceLexed
-    → Type 0
+abbrev pub ReadsBy : Bool → (List Seen → Result (Unit {0}) Fault) → SourceLexed → Result (Unit {0}) Halt
+    → SourceLexed → Type 0
 ReadsBy passes wanted old result new =
     ReadsPart passes (λ t. t) (wanted old.rest) (line_length old.rest) old result new
 
