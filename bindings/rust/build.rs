@@ -1,40 +1,33 @@
-//! Links libpp_c.a: the one that PP_C names, else the one that was installed with this crate, else the one in dist.
+//! Says where libpp_c.a is: in the folder that PP_LIB_DIR names, else in the one of this package for the target.
+use std::env;
 use std::path::{Path, PathBuf};
-use std::{env, fs};
 
-const INSTALLED: &str = "../../lib/libpp_c.a";
-const SHIPPED: &str = "../../dist/libpp_c.x86_64-linux-gnu.a";
+fn set(name: &str) -> String {
+    env::var(name).unwrap_or_else(|_| panic!("cargo sets {}", name))
+}
 
-fn library() -> PathBuf {
-    if let Some(named) = env::var_os("PP_C") {
-        return PathBuf::from(named);
+fn folder() -> PathBuf {
+    if let Some(named) = env::var_os("PP_LIB_DIR") {
+        return named.into();
     }
-    let here = PathBuf::from(env::var_os("CARGO_MANIFEST_DIR").unwrap());
-    let installed = here.join(INSTALLED);
-    if installed.is_file() {
-        installed
-    } else {
-        here.join(SHIPPED)
-    }
+    let (arch, os) = (set("CARGO_CFG_TARGET_ARCH"), set("CARGO_CFG_TARGET_OS"));
+    let own = Path::new(&set("CARGO_MANIFEST_DIR")).join("lib");
+    own.join(format!("{}-{}", arch, os))
 }
 
 fn main() {
-    let target = env::var("TARGET").unwrap();
-    assert!(
-        target.starts_with("x86_64-") && target.contains("-linux-")
-            || env::var_os("PP_C").is_some(),
-        "there is no libpp_c.a for {}: build it with `rt lib` and let PP_C name it",
-        target
-    );
-    let library = library();
-    let folder = env::var_os("OUT_DIR").unwrap();
-    fs::copy(&library, Path::new(&folder).join("libpp_c.a"))
-        .unwrap_or_else(|error| panic!("{}: {}", library.display(), error));
-    println!("cargo:rerun-if-env-changed=PP_C");
+    let folder = folder();
+    let library = folder.join("libpp_c.a");
+    println!("cargo:rerun-if-env-changed=PP_LIB_DIR");
     println!("cargo:rerun-if-changed={}", library.display());
-    println!(
-        "cargo:rustc-link-search=native={}",
-        Path::new(&folder).display()
-    );
+    println!("cargo:rustc-link-search=native={}", folder.display());
     println!("cargo:rustc-link-lib=static=pp_c");
+    // Nothing but linking needs it.
+    if !library.is_file() {
+        println!(
+            "cargo:warning=nothing can be linked for {}, since there is no {}: PP_LIB_DIR may name another folder",
+            set("TARGET"),
+            library.display()
+        );
+    }
 }

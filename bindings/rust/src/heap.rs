@@ -2,7 +2,7 @@
 use std::ffi::c_void;
 
 #[repr(C)]
-pub struct Tried {
+struct Tried {
     ok: bool,
     block: *mut c_void,
 }
@@ -33,13 +33,11 @@ fn at_least(size: usize, alignment: usize) -> usize {
     }
 }
 
-#[no_mangle]
-unsafe extern "C" fn rattle_alloc(size: usize, alignment: usize) -> Tried {
+unsafe extern "C" fn alloc(size: usize, alignment: usize) -> Tried {
     answer(malloc(at_least(size, alignment)))
 }
 
-#[no_mangle]
-unsafe extern "C" fn rattle_realloc(
+unsafe extern "C" fn resize(
     block: *mut c_void,
     _kept: usize,
     size: usize,
@@ -48,7 +46,32 @@ unsafe extern "C" fn rattle_realloc(
     answer(realloc(block, at_least(size, alignment)))
 }
 
-#[no_mangle]
-unsafe extern "C" fn rattle_dealloc(block: *mut c_void) {
+unsafe extern "C" fn dealloc(block: *mut c_void) {
     free(block)
 }
+
+// Gives a function the name by which the library calls it. The name is weak, so that another heap in the program takes its
+// place, and no shared library in Rust exports it: `no_mangle` gives neither.
+macro_rules! name {
+    ($jump:literal, $function:path, $name:literal) => {
+        std::arch::global_asm!(
+            concat!(".weak ", $name),
+            concat!(".type ", $name, ", %function"),
+            concat!($name, ": ", $jump, " {}"),
+            sym $function
+        );
+    };
+}
+
+macro_rules! name_all {
+    ($jump:literal) => {
+        name!($jump, alloc, "rattle_alloc");
+        name!($jump, resize, "rattle_realloc");
+        name!($jump, dealloc, "rattle_dealloc");
+    };
+}
+
+#[cfg(target_arch = "x86_64")]
+name_all!("jmp");
+#[cfg(target_arch = "aarch64")]
+name_all!("b");

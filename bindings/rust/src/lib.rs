@@ -1,7 +1,9 @@
-//! The interface of the crate pp-rs 0.2.1 over libpp_c.a, a preprocessor for GLSL that is proved correct.
-//!
-//! The types and names are those that pp-rs makes public. Its items differ from those of pp-rs only by the faults that are
-//! mended (docs/DIFFERENCES.md of the repository).
+#![doc = include_str!("../README.md")]
+// Elsewhere nothing can be linked, unless a program has a heap of its own.
+#[cfg(all(
+    target_os = "linux",
+    any(target_arch = "x86_64", target_arch = "aarch64")
+))]
 mod heap;
 mod items;
 pub mod pp;

@@ -17,7 +17,8 @@
  * - malloc, realloc and free are one allocator's and align as C says, and no call is made from a signal handler or in a
  *   forked child of a process with threads.
  *
- * Any bytes may be handed in as source and words. Calls share nothing and keep nothing: each thread may make its own. */
+ * Any bytes may be handed in as source and words. Calls share nothing and keep nothing: each thread may make its own, if
+ * it has 256 KB of stack. */
 #ifndef PP_H
 #define PP_H
 

@@ -1,0 +1,277 @@
+"""Preprocesses GLSL by a library that is proved correct: ctypes over libpp.so.1.
+
+    for item in libpp.preprocess(source, {"GL_ES": "1"}):
+        if isinstance(item, libpp.Error):
+            raise item
+        print(item.text, item.start, item.end)
+
+The library is looked for in the folder that PP_LIB_DIR names, else beside this file, where a wheel has it, else where the
+loader finds libraries. Only the library is proved. Calls may be made by several threads at a time.
+"""
+
+from __future__ import annotations
+
+import ctypes
+import enum
+import os
+import struct
+from typing import Callable, Dict, Iterable, Iterator, Mapping, NamedTuple, Optional, Tuple, Type, Union
+
+__all__ = ["Definition", "Error", "ErrorKind", "Flag", "Item", "Kind", "Token", "lex", "preprocess"]
+
+
+class Kind(enum.IntEnum):
+    """What a token is. The numbers are those of pp.h."""
+
+    IDENT = 2
+    INTEGER = 3
+    FLOAT = 4
+    VERSION = 5
+    EXTENSION = 6
+    PRAGMA = 7
+    NEW_LINE = 8
+    HASH = 9
+    ADD_ASSIGN = 16
+    SUB_ASSIGN = 17
+    MUL_ASSIGN = 18
+    DIV_ASSIGN = 19
+    MOD_ASSIGN = 20
+    LEFT_SHIFT_ASSIGN = 21
+    RIGHT_SHIFT_ASSIGN = 22
+    AND_ASSIGN = 23
+    XOR_ASSIGN = 24
+    OR_ASSIGN = 25
+    INCREMENT = 26
+    DECREMENT = 27
+    LOGICAL_AND = 28
+    LOGICAL_OR = 29
+    LOGICAL_XOR = 30
+    LESS_EQUAL = 31
+    GREATER_EQUAL = 32
+    EQUAL_EQUAL = 33
+    NOT_EQUAL = 34
+    LEFT_SHIFT = 35
+    RIGHT_SHIFT = 36
+    LEFT_BRACE = 37
+    RIGHT_BRACE = 38
+    LEFT_PAREN = 39
+    RIGHT_PAREN = 40
+    LEFT_BRACKET = 41
+    RIGHT_BRACKET = 42
+    LEFT_ANGLE = 43
+    RIGHT_ANGLE = 44
+    SEMICOLON = 45
+    COMMA = 46
+    COLON = 47
+    DOT = 48
+    EQUAL = 49
+    BANG = 50
+    MINUS = 51
+    TILDE = 52
+    PLUS = 53
+    STAR = 54
+    SLASH = 55
+    PERCENT = 56
+    PIPE = 57
+    CARET = 58
+    AMPERSAND = 59
+    QUESTION = 60
+
+
+class ErrorKind(enum.IntEnum):
+    """What is wrong. The numbers are those of pp.h, and docs/GUIDE.md of the repository has an example of each."""
+
+    INTEGER_OVERFLOW = 1
+    FLOAT_PARSING_ERROR = 2
+    UNEXPECTED_CHARACTER = 3
+    UNEXPECTED_TOKEN = 4
+    UNEXPECTED_HASH = 5
+    UNEXPECTED_NEW_LINE = 6
+    UNEXPECTED_END_OF_INPUT = 7
+    TOO_FEW_DEFINE_ARGUMENTS = 8
+    TOO_MANY_DEFINE_ARGUMENTS = 9
+    ERROR_DIRECTIVE = 10
+    DUPLICATE_PARAMETER = 11
+    UNKNOWN_DIRECTIVE = 12
+    DEFINE_REDEFINED = 13
+    ELIF_OUTSIDE_OF_BLOCK = 14
+    ELSE_OUTSIDE_OF_BLOCK = 15
+    ENDIF_OUTSIDE_OF_BLOCK = 16
+    ELIF_AFTER_ELSE = 17
+    MORE_THAN_ONE_ELSE = 18
+    UNFINISHED_BLOCK = 19
+    LINE_OVERFLOW = 20
+    NOT_SUPPORTED_16_BIT_LITERAL = 21
+    NOT_SUPPORTED_64_BIT_LITERAL = 22
+    MACRO_NOT_DEFINED = 23
+    RECURSION_LIMIT_REACHED = 24
+    DIVISION_BY_ZERO = 25
+    REMAINDER_BY_ZERO = 26
+
+
+class Flag(enum.IntFlag):
+    """What else is known of a token, as in pp.h. The last two are those of `lex`."""
+
+    SIGNED = 1
+    FIRST_DIRECTIVE = 2
+    COMMENTS_BEFORE = 4
+    NON_DIRECTIVE_BEFORE = 8
+    LEADING_WHITESPACE = 16
+    START_OF_LINE = 32
+
+
+class Token(NamedTuple):
+    """A token with its place: byte offsets in the source as UTF-8, or in the content of a definition, and a line from 1."""
+
+    kind: Kind
+    text: str
+    """How it is spelled: an integer in decimal, with `u` if it is unsigned; of a directive its first word, such as `#version`."""
+    start: int
+    end: int
+    line: int
+    flags: Flag = Flag(0)
+    value: Optional[int] = None
+    """The value of an integer."""
+    tokens: Tuple[Token, ...] = ()
+    """The tokens of a directive's line, unexpanded."""
+
+
+class Error(Exception):
+    """What is wrong with a source or a definition, and where. An iterator gives it, and goes on after it."""
+
+    def __init__(self, kind: ErrorKind, start: int, end: int, line: int, token: Optional[Token] = None) -> None:
+        super().__init__(kind, start, end, line, token)
+        self.kind, self.start, self.end, self.line = kind, start, end, line
+        self.token = token
+        """The token that can't stand there, of an UNEXPECTED_TOKEN."""
+
+    def __str__(self) -> str:
+        return f"line {self.line}: {self.kind.name.lower().replace('_', ' ')}"
+
+
+Item = Union[Token, Error]
+
+
+class Definition(NamedTuple):
+    """A macro without parameters, which is added once so many items were given."""
+
+    name: str
+    content: str
+    after: int = 0
+
+
+def preprocess(source: Union[str, bytes], definitions: Union[Mapping[str, str], Iterable[Definition]] = ()) -> Iterator[Item]:
+    """The preprocessed tokens of a source, and its errors. The call makes all of them, and the iterator reads them.
+
+    Raises the first `Error` of a definition's content; ValueError if the source isn't UTF-8, or it or a content has
+    2^32 - 1 bytes or more; MemoryError if memory runs out."""
+    given = definitions.items() if isinstance(definitions, Mapping) else definitions
+    added = [Definition(*it) for it in given]
+    words, entries = _definitions(added)
+    items = _items(source, lambda data, room: _LIBRARY.pp_preprocess(*data, words, len(words), entries, len(added), *room))
+    for entry in entries[: len(added)]:
+        if entry.error:
+            raise Error(ErrorKind(entry.error), entry.start, entry.end, entry.line)
+    return items
+
+
+def lex(source: Union[str, bytes]) -> Iterator[Item]:
+    """The tokens of a source before preprocessing, newlines and number signs among them. Raises as `preprocess` does."""
+    return _items(source, lambda data, room: _LIBRARY.pp_lex(*data, *room))
+
+
+class _Definition(ctypes.Structure):
+    _fields_ = [
+        *((it, ctypes.c_uint64) for it in ("name_start", "name_length", "content_start", "content_length", "after")),
+        *((it, ctypes.c_uint32) for it in ("error", "start", "end", "line")),
+    ]
+
+
+class _Sizes(ctypes.Structure):
+    _fields_ = [("items", ctypes.c_uint64), ("texts", ctypes.c_uint64)]
+
+
+# A pp_item: kind, error, flags, children, width, start, end, line, text_length and value.
+_ITEM = struct.Struct("=HHIIiIIIIQ")
+_WORDS_OF_AN_ITEM = _ITEM.size // 8
+_ERROR = 0
+_DONE, _TOO_SMALL = 0, 1
+_REFUSED: Dict[int, Tuple[Type[Exception], str]] = {
+    2: (ValueError, "the source isn't UTF-8"),
+    3: (ValueError, "the source or a content has 2^32 - 1 bytes or more"),
+    5: (MemoryError, "the library has no memory left"),
+}
+_KINDS = {int(it): it for it in Kind}
+_FLAGS = [Flag(it) for it in range(64)]
+_FIRST_WORDS = {Kind.VERSION: "#version", Kind.EXTENSION: "#extension", Kind.PRAGMA: "#pragma", Kind.NEW_LINE: "\n", Kind.HASH: "#"}
+
+
+def _load() -> ctypes.CDLL:
+    name = "libpp.so.1"
+    beside = os.path.join(os.path.dirname(os.path.abspath(__file__)), name)
+    folder = os.environ.get("PP_LIB_DIR")
+    path = os.path.join(folder, name) if folder else beside if os.path.exists(beside) else name
+    try:
+        library = ctypes.CDLL(path)
+    except OSError as error:
+        raise ImportError(f"{error}: ./install PREFIX makes it, and PP_LIB_DIR may name its folder") from error
+    text = [ctypes.c_char_p, ctypes.c_size_t]
+    room = [ctypes.c_void_p, ctypes.c_size_t, *text, ctypes.POINTER(_Sizes)]
+    library.pp_preprocess.argtypes = [*text, *text, ctypes.POINTER(_Definition), ctypes.c_size_t, *room]
+    library.pp_lex.argtypes = [*text, *room]
+    for call in (library.pp_preprocess, library.pp_lex):
+        call.restype = ctypes.c_uint32
+    return library
+
+
+_LIBRARY = _load()
+
+
+def _definitions(added: Iterable[Definition]) -> Tuple[bytes, ctypes.Array[_Definition]]:
+    """The words of definitions, and where each is in them. No list is empty, since its pointer would lead to nothing."""
+    words, entries = b"", []
+    for it in added:
+        name, content = it.name.encode(), it.content.encode()
+        entries.append(_Definition(len(words), len(name), len(words) + len(name), len(content), it.after))
+        words += name + content
+    return words, (_Definition * (len(entries) + 1))(*entries)
+
+
+def _items(source: Union[str, bytes], call: Callable[..., int]) -> Iterator[Item]:
+    """The items of a call, which is made with more room until there is enough. The first room is a guess."""
+    data = source.encode() if isinstance(source, str) else bytes(memoryview(source))
+    sizes = _Sizes(len(data) // 2 + 16, len(data) + 16)
+    answer = _TOO_SMALL
+    while answer == _TOO_SMALL:
+        count, length = sizes.items, sizes.texts + 1
+        items, texts = (ctypes.c_uint64 * (_WORDS_OF_AN_ITEM * count))(), ctypes.create_string_buffer(length)
+        answer = call((data, len(data)), (items, count, texts, length, sizes))
+    if answer != _DONE:
+        kind, sentence = _REFUSED[answer]
+        raise kind(sentence)
+    written = memoryview(items).cast("B")[: sizes.items * _ITEM.size]
+    return _read(_ITEM.iter_unpack(written), ctypes.string_at(texts, sizes.texts))
+
+
+_Entries = Iterator[Tuple[int, ...]]
+
+
+def _read(entries: _Entries, texts: bytes) -> Iterator[Item]:
+    for entry in entries:
+        if entry[0] != _ERROR:
+            yield _token(entry, entries, texts)
+            continue
+        # It holds its place in the source, and after it the token that it carries.
+        _, _, _, _, _, start, end, line, _, _ = next(entries)
+        token = _token(next(entries), entries, texts) if entry[3] > 1 else None
+        yield Error(ErrorKind(entry[1]), start, end, line, token)
+
+
+def _token(entry: Tuple[int, ...], entries: _Entries, texts: bytes) -> Token:
+    number, _, flags, children, _, start, end, line, length, value = entry
+    kind, held = _KINDS[number], tuple(_token(next(entries), entries, texts) for _ in range(children))
+    if kind is Kind.INTEGER:
+        text = str(value) if flags & Flag.SIGNED else f"{value}u"
+        return Token(kind, text, start, end, line, _FLAGS[flags], value)
+    text = _FIRST_WORDS.get(kind) or texts[value : value + length].decode()
+    return Token(kind, text, start, end, line, _FLAGS[flags], None, held)
