@@ -1,6 +1,4 @@
-//! Options as other preprocessors have them: some are refused, and `-std=` is spelled as `clap` asks for it.
-
-use std::alloc::{AllocError, Global};
+//! Options as other preprocessors have them, each refused with its reason.
 
 const NO_INCLUDE: &str = "glslpp has no #include";
 
@@ -36,19 +34,6 @@ const REFUSALS: [(&str, &str); 18] = [
     ("--target-env", NO_COMPILER),
     ("--target-spv", NO_COMPILER),
 ];
-
-/// Gives each word `-std=VERSION` that is an option the second dash of a long one.
-pub fn lengthen_standards(alloc: Global, words: &mut [String]) -> Result<(), AllocError> {
-    for word in words.iter_mut() {
-        if word.as_str() == "--" {
-            return Ok(());
-        }
-        if word.starts_with("-std=") {
-            *word = format!(in alloc; "-{word}")?;
-        }
-    }
-    Ok(())
-}
 
 /// Returns why a word of the command line is refused, if it is an option of another preprocessor.
 pub fn refusal_of(word: &str) -> Option<&'static str> {

@@ -6,14 +6,14 @@ mod foreign;
 mod preprocess;
 
 use clap::ArgMatches;
-use foreign::{lengthen_standards, refusal_of};
+use foreign::refusal_of;
 use glslpp_parts::arguments::{Arguments, Colours, Form, STANDARD_INPUT, command};
 use glslpp_parts::definitions::check_changes;
 use glslpp_parts::extensions::check_extensions;
 use glslpp_parts::failure::{Failure, failure_of};
 use glslpp_parts::report::{Reporter, Style};
 use glslpp_parts::source::Source;
-use glslpp_parts::standard::version_without_line;
+use glslpp_parts::standard::{lengthen_standards, version_without_line};
 use glslpp_parts::version::Version;
 use glslpp_parts::warning::check_warnings;
 use preprocess::{Found, preprocess};

@@ -100,6 +100,7 @@ fn run_over(
         rules: arguments.rule_set.rules_for(version),
         definitions: definitions.as_slice(),
         extensions: known_extensions(arguments.is_predefining),
+        budget: arguments.budget,
     };
     run_with(alloc, reporter, arguments, source, replaced, setting)
 }
@@ -125,7 +126,7 @@ fn run_with(
     requires { length source.now < 2 ^ 32 - 1 }
 {
     let mut texts = Texts::new(alloc, source);
-    let mut items = Preprocessor::with_rules(alloc, source, setting.rules);
+    let mut items = setting.begin(alloc, source)?;
     let ended = match add_contents(alloc, &mut items, &mut texts, setting.definitions) {
         Ok(extension_content) => run_over_items(
             alloc,
@@ -218,6 +219,8 @@ struct Run<'a> {
     is_first_error_alone: bool,
     // How many errors are reported at most.
     most_reports: usize,
+    // How many steps may be taken.
+    steps: u64,
     output: Output<'a>,
     reports: String,
     errors: usize,
@@ -249,6 +252,7 @@ impl<'a> Run<'a> {
             reporter,
             is_first_error_alone: arguments.is_first_error_alone,
             most_reports: arguments.most_errors,
+            steps: setting.budget.unwrap_or(u64::MAX),
             output: Output::new(alloc, arguments.form, setting.rules, texts),
             reports: String::new(alloc),
             errors: 0,
@@ -278,6 +282,11 @@ impl<'a> Run<'a> {
                     self.take_directive(&token, line)?;
                     let content = self.extension_content.as_str();
                     define_extension(items, &token.value, self.extensions, content)?;
+                }
+                Err((PreprocessorError::OutOfMemory, _)) if items.is_over_budget() => {
+                    let fault = self.finder.over_budget(self.steps, items.reached())?;
+                    self.push_fault(&fault)?;
+                    return Ok(());
                 }
                 Err((PreprocessorError::OutOfMemory, _)) => return Err(Failure::OutOfMemory),
                 Err((error, _)) => {

@@ -6,5 +6,6 @@ pub mod OptionsLemmas
 pub mod PredefinedLemmas
 pub mod ReportsLemmas
 pub mod SpelledLemmas
+pub mod StandardsLemmas
 pub mod VersionLemmas
 pub mod ItemsLemmas

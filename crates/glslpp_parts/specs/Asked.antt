@@ -1,5 +1,5 @@
 -- What the command line asks for, by what `clap` found in it.
-use Rattle.std.specs.Prelude.{◌≡◌, ℕ, Bool, true, false, None, Some, List, [], ◌∷◌, codes, if◌then◌else◌}
+use Rattle.std.specs.Prelude.{◌≡◌, ℕ, Bool, true, false, Option, None, Some, List, [], ◌∷◌, codes, if◌then◌else◌}
 use Rattle.std.specs.Option.{option_map_or}
 use Rattle.clap.specs.Matches.{matched_of, one_text, raw_values}
 use Rattle.clap.specs.declared.parser.matches.Found.{Found}
@@ -46,6 +46,10 @@ pub record IsAsked (found : Found) (id value : List ℕ) (is : Bool) : Type 0 wh
 -- the most errors that are reported: 20, if no number is given
 pub record IsLimit (found : Found) (most : ℕ) : Type 0 where
   pub none : one_text found (codes "max-errors") ≡ None → most ≡ 20
+
+-- the steps that a source may take: 100 million, if no number is given
+pub record IsBudget (found : Found) (steps : Option ℕ) : Type 0 where
+  pub none : one_text found (codes "budget") ≡ None → steps ≡ Some 100000000
 
 -- whose rules sources are read by, as the value of `--rules` says: GLSL's, unless pp-rs's are asked for
 pub record IsRuleSet (found : Found) (rule_set : RuleSet) : Type 0 where

@@ -4,7 +4,7 @@ use Rattle.glslpp_parts.specs.declared.diagnostic.Severity.TheVariants.{Error}
 use Rattle.glslpp_parts.specs.declared.fault.Fault.{Fault}
 use Rattle.glslpp_parts.specs.declared.fault.FaultKind.{FaultKind}
 use Rattle.glslpp_parts.specs.declared.fault.FaultKind.TheVariants.{UnterminatedComment, LateVersion, SecondVersion}
-use Rattle.glslpp_parts.specs.declared.fault.FaultKind.TheVariants.{MalformedVersion, MalformedExtension}
+use Rattle.glslpp_parts.specs.declared.fault.FaultKind.TheVariants.{MalformedVersion, MalformedExtension, OverBudget}
 
 -- the name of an error in the items of JSON
 abbrev pub name_of : FaultKind → List ℕ
@@ -13,6 +13,7 @@ name_of LateVersion = codes "LateVersion"
 name_of SecondVersion = codes "SecondVersion"
 name_of MalformedVersion = codes "MalformedVersion"
 name_of MalformedExtension = codes "MalformedExtension"
+name_of OverBudget = codes "OverBudget"
 
 -- what was found is said as an error
 abbrev pub IsError : Fault → Type 0

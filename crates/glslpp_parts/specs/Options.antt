@@ -51,9 +51,9 @@ language_options = long_valued (codes "rules") ∷ long_valued (codes "std") ∷
 abbrev pub forms : List Known
 forms = lettered (codes "compact") 80 SetTrue ∷ named (codes "tokens") ∷ named (codes "directives") ∷ []
 
--- `--first-error` and `--undef`
-abbrev pub flags : List Known
-flags = named (codes "first-error") ∷ named (codes "undef") ∷ []
+-- `--first-error`, `--undef` and `--budget`
+abbrev pub general_options : List Known
+general_options = named (codes "first-error") ∷ named (codes "undef") ∷ long_valued (codes "budget") ∷ []
 
 -- `--max-errors`, `--error-format`, `--color` and `--stdin-name`
 abbrev pub message_options : List Known
@@ -70,5 +70,5 @@ foreign = lettered (codes "only") 69 SetTrue ∷ lettered (codes "stage") 83 App
 
 -- all of them, and the files
 abbrev pub options : List Known
-options = language_options ++ value_options ++ forms ++ flags ++ message_options ++ warning_options ++ foreign
+options = language_options ++ value_options ++ forms ++ general_options ++ message_options ++ warning_options ++ foreign
     ++ nameless (codes "files") Append ∷ []

@@ -19,16 +19,9 @@ values_ahead lexer = map (λ s. item_value s.item) lexer.rest
 abbrev pub IsReadAs : Rules → TokenValue → List ℕ → Type 0
 IsReadAs rules value text = read_values_by rules text ≡ Ok (lexer_value value) ∷ Ok NewLine ∷ []
 
--- the same number as an `int`
-abbrev pub as_signed : TokenValue → TokenValue
-as_signed (Integer i) = Integer (record i { signed = true })
-as_signed value = value
-
--- The text for a value. If the lexer can give the value by these rules, the text, read again by them, is that value, or
--- the same number as an `int`.
+-- The text for a value. If the lexer can give the value by these rules, the text, read again by them, is that value.
 abbrev pub IsTextOf : Rules → TokenValue → List ℕ → Type 0
-IsTextOf rules value text =
-    IsSpellableBy rules value → (IsReadAs rules value text ⊎ IsReadAs rules (as_signed value) text)
+IsTextOf rules value text = IsSpellableBy rules value → IsReadAs rules value text
 
 -- the text of a directive: its word and its tokens with single spaces, or another one that these rules read as the same
 -- tokens

@@ -4,11 +4,11 @@ use Rattle.std.specs.Prelude.{Some, None, Result, Ok, codes, nat_eq, if◌then�
 use Rattle.std.specs.Cmp.Lexicographic.{pointwise}
 use Rattle.pp_lexer.specs.declared.lexer.item.TokenValue.{TokenValue as LexerTokenValue}
 use Rattle.pp_lexer.specs.declared.lexer.item.TokenValue.TheVariants.{Hash, NewLine, Ident, Integer}
+use Rattle.pp_lexer.specs.declared.rules.Profile.{Profile}
+use Rattle.pp_lexer.specs.declared.rules.Profile.TheVariants.{Es, Core, Compatibility}
 use Rattle.pp_lexer.specs.declared.token.PreprocessorError.{PreprocessorError}
 use Rattle.glslpp_parts.specs.declared.changes.Change.{Change}
 use Rattle.glslpp_parts.specs.declared.changes.Change.TheVariants.{Define, Undefine}
-use Rattle.glslpp_parts.specs.declared.version.Profile.{Profile}
-use Rattle.glslpp_parts.specs.declared.version.Profile.TheVariants.{Unnamed, Es, Core, Compatibility}
 use Rattle.glslpp_parts.specs.declared.version.Version.{Version}
 
 -- what a lexer reads: a value, or an error
@@ -37,14 +37,14 @@ abbrev pub after_newlines : List Read → List Read
 after_newlines [] = []
 after_newlines (read ∷ reads) = if is_newline read then after_newlines reads else read ∷ reads
 
--- the profile that the next word names
-abbrev pub profile_of : List Read → Profile
-profile_of [] = Unnamed
+-- the profile that the next word names, if it is one of GLSL
+abbrev pub profile_of : List Read → Option Profile
+profile_of [] = None
 profile_of (read ∷ reads) =
-    if is_word (codes "es") read then Es
-    else if is_word (codes "core") read then Core
-    else if is_word (codes "compatibility") read then Compatibility
-    else Unnamed
+    if is_word (codes "es") read then Some Es
+    else if is_word (codes "core") read then Some Core
+    else if is_word (codes "compatibility") read then Some Compatibility
+    else None
 
 -- a number, and then the profile
 abbrev pub numbered : List Read → Option Version
@@ -67,18 +67,19 @@ version_of otherwise reads = unwrap_or (version_line (after_newlines reads)) oth
 
 -- the version of a source that names none: GLSL ES 3.20, section 3.4
 abbrev pub default_version : Version
-default_version = record { number = 100; profile = Unnamed }
+default_version = record { number = 100; profile = None }
 
-abbrev pub is_profile : Profile → Profile → Bool
-is_profile Unnamed Unnamed = true
-is_profile Es Es = true
-is_profile Core Core = true
-is_profile Compatibility Compatibility = true
-is_profile wanted profile = false
+abbrev pub names_es : Option Profile → Bool
+names_es (Some Es) = true
+names_es profile = false
+
+abbrev pub names_compatibility : Option Profile → Bool
+names_compatibility (Some Compatibility) = true
+names_compatibility profile = false
 
 -- GLSL ES: the profile is `es`, or the number is 100
 abbrev pub is_es : Version → Bool
-is_es v = is_profile Es v.profile || (v.number == 100)
+is_es v = names_es v.profile || (v.number == 100)
 
 abbrev pub has_high_precision : Version → Bool
 has_high_precision v = is_es v || nat_le 130 v.number
@@ -87,7 +88,7 @@ abbrev pub has_core : Version → Bool
 has_core v = not (is_es v) && nat_le 150 v.number
 
 abbrev pub is_compatible : Version → Bool
-is_compatible v = is_profile Compatibility v.profile && nat_le 150 v.number
+is_compatible v = names_compatibility v.profile && nat_le 150 v.number
 
 abbrev pub said_of : Change → List ℕ × Option (List ℕ)
 said_of (Define name content) = (name.now, Some content.now)

@@ -4,11 +4,12 @@ ghost use Rattle.std.specs.Prelude.{◌≡◌, ◌≤◌, ◌++◌, ◌∷◌, [
 ghost use Rattle.std.specs.Prelude.{unwrap_or};
 ghost use Rattle.clap.specs.Words.{first_value, found_of, rule_of};
 ghost use Rattle.clap.specs.declared.builder.action.ArgAction.TheVariants.{Append, Set, SetTrue};
-ghost use Rattle.glslpp_parts.specs.Asked.{AreColours, AreWarnings, IsAsked, IsFlag, IsForm, IsLimit, IsRuleSet};
+ghost use Rattle.glslpp_parts.specs.Asked.{AreColours, AreWarnings, IsAsked, IsBudget, IsFlag, IsForm, IsLimit};
+ghost use Rattle.glslpp_parts.specs.Asked.{IsRuleSet};
 ghost use Rattle.glslpp_parts.specs.Asked.{files_or_input, words_of};
-ghost use Rattle.glslpp_parts.specs.Options.{options, options_of, value_options, forms, flags, foreign, known_of};
+ghost use Rattle.glslpp_parts.specs.Options.{options, options_of, value_options, forms, general_options, foreign};
 ghost use Rattle.glslpp_parts.specs.Options.{language_options, lettered, long_listed, long_valued, message_options};
-ghost use Rattle.glslpp_parts.specs.Options.{named, nameless};
+ghost use Rattle.glslpp_parts.specs.Options.{known_of, named, nameless};
 ghost use Rattle.glslpp_parts.specs.inner.Adding.{IsOption};
 
 use crate::changes::Change;
@@ -27,6 +28,9 @@ const STANDARD_INPUT_NAME: &str = "<stdin>";
 
 // How many errors of a source are reported, if no number is given.
 const MOST_ERRORS: usize = 20;
+
+// How many steps a source may take, if no number is given.
+const STEPS: u64 = 100_000_000;
 
 /// How the preprocessed source is printed.
 #[derive(Clone, Copy, PartialEq, Eq)]
@@ -73,6 +77,8 @@ pub struct Arguments<'a> {
     pub is_first_error_alone: bool,
     /// How many errors of a source are reported at most.
     pub most_errors: usize,
+    /// How many steps a source may take, if they are bounded.
+    pub budget: Option<u64>,
     /// Whether messages on a source are JSON.
     pub has_json_errors: bool,
     /// Whether messages have colours.
@@ -94,8 +100,8 @@ pub fn command<'a>(alloc: Global) -> Result<Command<'a>, clap::Error>
     let with_language = with_language_options(alloc, bare_command(alloc))?;
     let with_values = with_value_options(alloc, with_language)?;
     let with_forms = with_forms(alloc, with_values)?;
-    let with_flags = with_flags(alloc, with_forms)?;
-    let with_messages = with_message_options(alloc, with_flags)?;
+    let with_general = with_general_options(alloc, with_forms)?;
+    let with_messages = with_message_options(alloc, with_general)?;
     let with_warnings = with_warning_options(alloc, with_messages)?;
     let with_foreign = with_foreign_options(alloc, with_warnings)?;
     let whole = with_argument(with_foreign, files_argument(alloc))?;
@@ -252,15 +258,27 @@ fn without<'a>(option: Arg<'a>, other: &'a str) -> Result<Arg<'a>, AllocError>
     option.conflicts_with(other)
 }
 
-fn with_flags<'a>(alloc: Global, command: Command<'a>) -> Result<Command<'a>, AllocError>
-    ensures { IfOk result (λ new. options_of new ≡ options_of command.entry ++ flags) }
+fn with_general_options<'a>(alloc: Global, command: Command<'a>) -> Result<Command<'a>, AllocError>
+    ensures { IfOk result (λ new. options_of new ≡ options_of command.entry ++ general_options) }
 {
     let first_error = long_flag(alloc, "first-error", "End at the first error");
     let undef = long_flag(alloc, "undef", "Define no predefined name");
+    let budget = budget_option(alloc);
     let first = with_option(command, MESSAGES, first_error)?;
     let second = with_option(first, DEFINITIONS, undef)?;
-    Ok(second)
+    let third = with_option(second, MESSAGES, budget)?;
+    Ok(third)
 }
+
+fn budget_option<'a>(alloc: Global) -> Arg<'a>
+    ensures { IsOption result (long_valued (codes "budget")) }
+{
+    let parser = ValueParser::unsigned(0, u64::MAX);
+    long_option(alloc, "budget", "N", BUDGET_HELP).value_parser(parser)
+}
+
+const BUDGET_HELP: &str =
+    "Take at most N steps for a source, 0 for any number, 100000000 if it isn't given";
 
 // Adds the options for messages.
 fn with_message_options<'a>(alloc: Global, command: Command<'a>) -> Result<Command<'a>, AllocError>
@@ -413,6 +431,7 @@ impl<'a> Arguments<'a> {
         ensures first_error_alone { IfOk result (λ asked. IsFlag (found_of matches.now)
             (codes "first-error") asked.is_first_error_alone) }
         ensures most_errors { IfOk result (λ asked. IsLimit (found_of matches.now) asked.most_errors) }
+        ensures budget { IfOk result (λ asked. IsBudget (found_of matches.now) asked.budget) }
         ensures json_errors { IfOk result (λ asked. IsAsked (found_of matches.now)
             (codes "error-format") (codes "json") asked.has_json_errors) }
         ensures colours { IfOk result (λ asked. AreColours (found_of matches.now) asked.colours) }
@@ -436,6 +455,7 @@ impl<'a> Arguments<'a> {
             is_predefining: !is_given(matches, "undef"),
             is_first_error_alone: is_given(matches, "first-error"),
             most_errors: most_errors_of(matches),
+            budget: budget_of(matches),
             has_json_errors: matches.get_str("error-format") == Some("json"),
             colours: colours_of(matches),
             warning_words,
@@ -454,6 +474,17 @@ fn most_errors_of(matches: &ArgMatches<'_>) -> usize
         Some(0) => usize::MAX,
         Some(most) => most,
         None => MOST_ERRORS,
+    }
+}
+
+// The number of steps, or none if it is 0.
+fn budget_of(matches: &ArgMatches<'_>) -> Option<u64>
+    ensures { IsBudget (found_of matches.now) result }
+{
+    match matches.get_one::<u64>("budget") {
+        Some(0) => None,
+        Some(steps) => Some(steps),
+        None => Some(STEPS),
     }
 }
 

@@ -14,7 +14,7 @@ use pp_rs::token::{Location, PreprocessorError};
 use std::alloc::{AllocError, Global};
 
 /// The places of the words of the `#if`, `#elif` and `#line` lines of a source that are computed. After a line with an
-/// error there may be some too few or too many.
+/// error there may be some too few or too many, and too few if the budget is used up.
 pub(crate) fn computed_conditions(
     alloc: Global,
     source: &str,
@@ -28,7 +28,7 @@ pub(crate) fn computed_conditions(
         return Ok(Vec::new(alloc));
     }
     let mut texts = Texts::new(alloc, text);
-    let mut items = Preprocessor::with_rules(alloc, text, setting.rules);
+    let mut items = setting.begin(alloc, text)?;
     let computed = match add_definitions(alloc, &mut items, &mut texts, setting.definitions) {
         Ok(()) => take_answers(alloc, &probe, setting.extensions, &mut items),
         Err(Failure::OutOfMemory) => Err(AllocError),
@@ -57,6 +57,9 @@ fn take_answers(
                 if let Some(question) = probe.question(token.location.line) {
                     computed.push(question.location)?;
                 }
+            }
+            Err((PreprocessorError::OutOfMemory, _)) if items.is_over_budget() => {
+                return Ok(computed);
             }
             Err((PreprocessorError::OutOfMemory, _)) => return Err(AllocError),
             Err((_error, _)) => {}

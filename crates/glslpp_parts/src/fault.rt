@@ -23,6 +23,8 @@ pub enum FaultKind {
     MalformedVersion,
     /// An `#extension` that isn't of the form `#extension NAME : BEHAVIOUR`.
     MalformedExtension,
+    /// A source that needs more steps than it may take.
+    OverBudget,
 }
 
 impl FaultKind {
@@ -36,6 +38,7 @@ impl FaultKind {
             FaultKind::SecondVersion => "SecondVersion",
             FaultKind::MalformedVersion => "MalformedVersion",
             FaultKind::MalformedExtension => "MalformedExtension",
+            FaultKind::OverBudget => "OverBudget",
         }
     }
 }
@@ -134,6 +137,15 @@ impl<'a> FaultFinder<'a> {
     {
         let message = String::from_str(self.alloc, "unterminated comment")?;
         Ok(self.error(FaultKind::UnterminatedComment, location, message, None))
+    }
+
+    /// Returns the error for a source that needs more than this many steps, and had come to this place.
+    pub fn over_budget(&self, steps: u64, location: Location) -> Result<Fault<'a>, AllocError>
+        ensures { IfOk result IsError }
+    {
+        let plural = if steps == 1 { "" } else { "s" };
+        let message = format!(in self.alloc; "source needs more than {steps} step{plural}")?;
+        Ok(self.error(FaultKind::OverBudget, location, message, None))
     }
 
     fn error(

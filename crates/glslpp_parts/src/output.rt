@@ -15,7 +15,7 @@ use crate::directive_text::directive_text;
 use crate::json;
 use crate::layout::{Gap, Layout};
 use crate::texts::Texts;
-use crate::words::{compact_word, made_word, written_word};
+use crate::words::{made_word, spelled_word, written_word};
 use pp_rs::pp::{TokenRef, TokenSink, ValueRef};
 use pp_rs::rules::Rules;
 use pp_rs::token::{Location, NOWHERE, Punct, Token};
@@ -218,7 +218,7 @@ impl<'a> Output<'a> {
         ensures left_out { self.new.left_out ≡ self.old.left_out }
         ensures puts { OnOk result (PutsWord self.old (token_of token.entry) self.old.laid.line self.new) }
     {
-        let word = compact_word(self.alloc, token.value, self.texts.spot(token.location))?;
+        let word = spelled_word(self.alloc, token.value)?;
         let line = self.layout.line();
         self.end = None;
         self.layout.push_word(line, Gap::Space, word.as_str())

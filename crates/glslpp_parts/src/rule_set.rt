@@ -1,11 +1,13 @@
 //! The rules by which a source is read.
 
-ghost use Rattle.std.specs.Prelude.{◌≡◌};
-ghost use Rattle.glslpp_parts.specs.RuleSets.{profile_for, rules_for};
+ghost use Rattle.std.specs.Prelude.{◌≡◌, ◌-◌, ◌^◌, ◌<◌, length};
+ghost use Rattle.glslpp_parts.specs.RuleSets.{rules_for};
 
 use crate::changes::Definition;
-use crate::version::{Profile, Version};
-use pp_rs::rules::{self, Rules};
+use crate::version::Version;
+use pp_rs::pp::Preprocessor;
+use pp_rs::rules::{Profile, Rules};
+use std::alloc::{AllocError, Global};
 
 /// Whose rules a source is read by.
 #[derive(Clone, Copy, PartialEq, Eq)]
@@ -16,24 +18,15 @@ pub enum RuleSet {
     PpRs,
 }
 
-// The profile of GLSL's rules: without a name it is that of the desktop.
-fn profile_for(profile: Profile) -> rules::Profile
-    ensures { result ≡ profile_for profile }
-{
-    match profile {
-        Profile::Es => rules::Profile::Es,
-        Profile::Compatibility => rules::Profile::Compatibility,
-        Profile::Core | Profile::Unnamed => rules::Profile::Core,
-    }
-}
-
 impl RuleSet {
-    /// The rules for a source of this version.
+    /// The rules for a source of this version. A version that names no profile has that of the desktop.
     pub fn rules_for(self, version: Version) -> Rules
         ensures { result ≡ rules_for self version }
     {
         match self {
-            RuleSet::Glsl => Rules::glsl(version.number, profile_for(version.profile)),
+            RuleSet::Glsl => {
+                Rules::glsl(version.number, version.profile.unwrap_or(Profile::Core))
+            }
             RuleSet::PpRs => Rules::PP_RS,
         }
     }
@@ -48,4 +41,23 @@ pub struct Setting<'a> {
     pub definitions: &'a [Definition<'a>],
     /// The extensions whose macros its `#extension` lines define.
     pub extensions: &'a [&'a str],
+    /// How many steps it may take, if they are bounded.
+    pub budget: Option<u64>,
+}
+
+impl<'a> Setting<'a> {
+    /// Returns a preprocessor of a source by the rules and within the budget. The definitions aren't added.
+    pub fn begin<'s>(self, alloc: Global, source: &'s str) -> Result<Preprocessor<'s>, AllocError>
+        requires { length source.now < 2 ^ 32 - 1 }
+    {
+        let mut items = Preprocessor::with_rules(alloc, source, self.rules);
+        let Some(steps) = self.budget else {
+            return Ok(items);
+        };
+        if items.set_budget(steps).is_err() {
+            drop(items);
+            return Err(AllocError);
+        }
+        Ok(items)
+    }
 }

@@ -1,12 +1,14 @@
 //! The version of a source without a `#version`, as `-std=` names it: `450`, `330core`, `310es`.
 
-ghost use Rattle.std.specs.Prelude.{◌≡◌, IfOk, IsTrue, MatchOption, string_bytes};
+ghost use Rattle.std.specs.Prelude.{◌≡◌, IfOk, IsTrue, MatchOption, OnOk, map, string_bytes};
 ghost use Rattle.glslpp_parts.specs.Standards.{IsStandard, has_profile, profile_word, standard_word};
+ghost use Rattle.glslpp_parts.specs.Standards.{all_lengthened, lengthened};
 ghost use Rattle.glslpp_parts.specs.Version.{default_version};
 
 use crate::directive_check::{Edition, edition_of};
 use crate::failure::{Failure, failure_of};
-use crate::version::{DEFAULT_VERSION, Profile, Version};
+use crate::version::{DEFAULT_VERSION, Version};
+use pp_rs::rules::Profile;
 use std::alloc::{AllocError, Global};
 
 // The numbers of GLSL's versions.
@@ -14,12 +16,35 @@ const NUMBERS: [u64; 17] = [
     100, 110, 120, 130, 140, 150, 300, 310, 320, 330, 400, 410, 420, 430, 440, 450, 460,
 ];
 
-const PROFILES: [Profile; 4] = [
-    Profile::Unnamed,
-    Profile::Core,
-    Profile::Compatibility,
-    Profile::Es,
+const PROFILES: [Option<Profile>; 4] = [
+    None,
+    Some(Profile::Core),
+    Some(Profile::Compatibility),
+    Some(Profile::Es),
 ];
+
+/// Gives each word `-std=VERSION` that is an option the second dash of a long one, as `clap` asks for it. From a word
+/// `--` on there are no options. It takes memory for each such word, and fails only for want of it.
+pub fn lengthen_standards(alloc: Global, words: &mut [String]) -> Result<(), AllocError>
+    ensures { OnOk result (map string_bytes words.new ≡ all_lengthened (map string_bytes words.old)) }
+{
+    for word in words.iter_mut() {
+        if word.as_str() == "--" {
+            return Ok(());
+        }
+        lengthen(alloc, word)?;
+    }
+    Ok(())
+}
+
+fn lengthen(alloc: Global, word: &mut String) -> Result<(), AllocError>
+    ensures { OnOk result (string_bytes word.new ≡ lengthened (string_bytes word.old)) }
+{
+    if word.starts_with("-std=") {
+        *word = format!(in alloc; "-{word}")?;
+    }
+    Ok(())
+}
 
 /// Returns the version of a source without a `#version`: the one that the word after `-std=` names, or 100 without such
 /// a word. It fails at a word that names no version of GLSL.
@@ -59,13 +84,13 @@ fn is_named_by(alloc: Global, word: &str, version: Version) -> Result<bool, Allo
 }
 
 // Whether a version of such an edition may have this profile in its `#version`.
-fn has_profile(edition: Edition, profile: Profile) -> bool
+fn has_profile(edition: Edition, profile: Option<Profile>) -> bool
     ensures { result ≡ has_profile edition profile }
 {
     match edition {
-        Edition::WithoutProfiles => profile == Profile::Unnamed,
-        Edition::Es => profile == Profile::Es,
-        Edition::Desktop => profile != Profile::Es,
+        Edition::WithoutProfiles => profile.is_none(),
+        Edition::Es => matches!(profile, Some(Profile::Es)),
+        Edition::Desktop => !matches!(profile, Some(Profile::Es)),
         Edition::Unknown => false,
     }
 }
@@ -78,14 +103,14 @@ fn standard_word(alloc: Global, version: Version) -> Result<String, AllocError>
     format!(in alloc; "{}{profile}", version.number)
 }
 
-fn profile_word(profile: Profile) -> &'static str
+fn profile_word(profile: Option<Profile>) -> &'static str
     ensures { result.now ≡ profile_word profile }
 {
     match profile {
-        Profile::Unnamed => "",
-        Profile::Es => "es",
-        Profile::Core => "core",
-        Profile::Compatibility => "compatibility",
+        None => "",
+        Some(Profile::Es) => "es",
+        Some(Profile::Core) => "core",
+        Some(Profile::Compatibility) => "compatibility",
     }
 }
 

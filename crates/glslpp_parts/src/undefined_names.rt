@@ -20,7 +20,7 @@ use pp_rs::token::{PreprocessorError, TokenValue};
 use std::alloc::{AllocError, Global};
 
 /// Finds the names that are not defined in the conditions of a source that are computed, up to the first condition with
-/// an error.
+/// an error, and no further than the budget allows.
 pub(crate) fn find_undefined_names(
     alloc: Global,
     findings: &mut Findings<'_>,
@@ -35,7 +35,7 @@ pub(crate) fn find_undefined_names(
         return Ok(());
     }
     let mut texts = Texts::new(alloc, text);
-    let mut items = Preprocessor::with_rules(alloc, text, setting.rules);
+    let mut items = setting.begin(alloc, text)?;
     let found = match add_definitions(alloc, &mut items, &mut texts, setting.definitions) {
         Ok(()) => take_answers(alloc, findings, &probe, setting.extensions, &mut items),
         Err(Failure::OutOfMemory) => Err(AllocError),
@@ -45,7 +45,7 @@ pub(crate) fn find_undefined_names(
     found
 }
 
-// Takes what the preprocessor gives for the questions, up to the first error.
+// Takes what the preprocessor gives for the questions, up to the first error or the end of the budget.
 fn take_answers(
     alloc: Global,
     findings: &mut Findings<'_>,
@@ -71,6 +71,9 @@ fn take_answers(
                     let text = message_of(alloc, name.as_str(), question.name.as_str())?;
                     findings.push(Warning::Undef, question.location, text.as_str())?;
                 }
+            }
+            Err((PreprocessorError::OutOfMemory, _)) if items.is_over_budget() => {
+                return Ok(());
             }
             Err((PreprocessorError::OutOfMemory, _)) => return Err(AllocError),
             Err((_error, _)) => return Ok(()),

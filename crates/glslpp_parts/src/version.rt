@@ -11,34 +11,22 @@ ghost use Rattle.glslpp_parts.specs.Version.{as_one, predefined};
 use crate::changes::Change;
 use crate::reading::{Read, read_next};
 use pp_rs::lexer::{Lexer, TokenValue as Word};
+use pp_rs::rules::Profile;
 use std::alloc::{AllocError, Global};
-
-/// The profile that a `#version` names.
-#[derive(Clone, Copy, PartialEq, Eq)]
-pub enum Profile {
-    /// None, or one that GLSL doesn't know.
-    Unnamed,
-    /// `es`.
-    Es,
-    /// `core`.
-    Core,
-    /// `compatibility`.
-    Compatibility,
-}
 
 /// What the `#version` of a source says.
 #[derive(Clone, Copy)]
 pub struct Version {
     /// Its number.
     pub number: u64,
-    /// Its profile.
-    pub profile: Profile,
+    /// Its profile, if it names one that GLSL has.
+    pub profile: Option<Profile>,
 }
 
 /// The version of a source that names none (GLSL ES 3.20, 3.4).
 pub(crate) const DEFAULT_VERSION: Version = Version {
     number: 100,
-    profile: Profile::Unnamed,
+    profile: None,
 };
 
 /// Returns what the first tokens of the source say, if they are a `#version`, and otherwise the version `otherwise`.
@@ -107,21 +95,21 @@ fn read_number(lexer: &mut Lexer<'_>) -> Result<Option<Version>, AllocError>
     }))
 }
 
-fn read_profile(lexer: &mut Lexer<'_>) -> Result<Profile, AllocError>
+fn read_profile(lexer: &mut Lexer<'_>) -> Result<Option<Profile>, AllocError>
     requires { lexer.old.spent ≡ false }
     ensures { IfOk result (λ profile. profile ≡ profile_of (values_ahead lexer.old)) }
 {
     let Some(read) = read_next(lexer)? else {
-        return Ok(Profile::Unnamed);
+        return Ok(None);
     };
     Ok(if is_word(&read, "es") {
-        Profile::Es
+        Some(Profile::Es)
     } else if is_word(&read, "core") {
-        Profile::Core
+        Some(Profile::Core)
     } else if is_word(&read, "compatibility") {
-        Profile::Compatibility
+        Some(Profile::Compatibility)
     } else {
-        Profile::Unnamed
+        None
     })
 }
 
@@ -152,7 +140,7 @@ impl Version {
     fn is_es(self) -> bool
         ensures { result ≡ is_es self }
     {
-        self.profile == Profile::Es || self.number == 100
+        matches!(self.profile, Some(Profile::Es)) || self.number == 100
     }
 
     // Whether fragment shaders have high precision in it.
@@ -173,7 +161,7 @@ impl Version {
     fn is_compatible(self) -> bool
         ensures { result ≡ is_compatible self }
     {
-        self.profile == Profile::Compatibility && self.number >= 150
+        matches!(self.profile, Some(Profile::Compatibility)) && self.number >= 150
     }
 
     /// Appends the names that GLSL predefines in this version, each as 1, but `__VERSION__` as

@@ -4,9 +4,8 @@ ghost use Rattle.std.specs.Prelude.{◌≡◌, ◌-◌, ◌^◌, ◌<◌, IsTrue
 ghost use Rattle.std.specs.Fmt.{decimal};
 ghost use Rattle.std.specs.Str.{chars};
 ghost use Rattle.pp_lexer.specs.declared.rules.Rules.{Rules};
-ghost use Rattle.pp_lexer.specs.Respelling.{IsSpellableBy};
 ghost use Rattle.pp_rs.specs.TokenRefs.{value_of};
-ghost use Rattle.glslpp_parts.specs.Reading.{IsReadAs, IsTextOf, as_signed};
+ghost use Rattle.glslpp_parts.specs.Reading.{IsReadAs, IsTextOf};
 
 use crate::place::after_continuations;
 use crate::reading::is_read_as;
@@ -14,11 +13,7 @@ use crate::texts::Spot;
 use pp_rs::SOURCE_LIMIT;
 use pp_rs::pp::ValueRef;
 use pp_rs::rules::Rules;
-use pp_rs::token::Integer;
 use std::alloc::{AllocError, Global};
-
-// The name of the line number.
-const LINE: &str = "__LINE__";
 
 /// The text of a token as the source has it at its place, if the place is in the source and the text is read as the
 /// token's value.
@@ -29,8 +24,7 @@ pub(crate) fn written_word<'a>(
     value: ValueRef<'_>,
     spot: Option<Spot<'a>>,
 ) -> Result<Option<&'a str>, AllocError>
-    ensures { IfOk result (λ written. IfSome written (λ word. IsSpellableBy rules (value_of value.entry)
-        → IsReadAs rules (value_of value.entry) word.now)) }
+    ensures { IfOk result (λ written. IfSome written (λ word. IsTextOf rules (value_of value.entry) word.now)) }
 {
     let Some(word) = source_word(spot) else {
         return Ok(None);
@@ -58,8 +52,7 @@ fn is_text_of(
     word: &str,
     value: ValueRef<'_>,
 ) -> Result<bool, AllocError>
-    ensures { IfOk result (λ is. IsTrue is → IsSpellableBy rules (value_of value.entry)
-        → IsReadAs rules (value_of value.entry) word.now) }
+    ensures { IfOk result (λ is. IsTrue is → IsTextOf rules (value_of value.entry) word.now) }
 {
     match value {
         ValueRef::Ident(name) => Ok(name == word),
@@ -106,7 +99,7 @@ fn is_decimal(bytes: &[u8], number: u64) -> bool
 }
 
 /// The text of a token that isn't printed as the source has it: without its continuations, or spelled by its value if
-/// an added definition gave it. A line number has no `u`, since GLSL's `__LINE__` is an `int`.
+/// an added definition or `__LINE__` gave it.
 pub(crate) fn made_word(
     alloc: Global,
     rules: Rules,
@@ -119,58 +112,19 @@ pub(crate) fn made_word(
         return spelled_word(alloc, value);
     };
     let joined = joined_word(alloc, spot)?;
-    if joined.as_str() == LINE {
-        return signed_word(alloc, value);
-    }
     if spot.is_in_source && is_text_of(alloc, rules, joined.as_str(), value)? {
         return Ok(joined);
     }
     spelled_word(alloc, value)
 }
 
-/// The text of a token by its value, except that a line number has no `u`.
-pub(crate) fn compact_word(
-    alloc: Global,
-    value: ValueRef<'_>,
-    spot: Option<Spot<'_>>,
-) -> Result<String, AllocError>
-    ensures { IfOk result (λ word. (rules : Rules)
-        → IsTextOf rules (value_of value.entry) (string_bytes word)) }
-{
-    if let ValueRef::Integer(_) = value
-        && let Some(spot) = spot
-        && joined_word(alloc, spot)?.as_str() == LINE
-    {
-        return signed_word(alloc, value);
-    }
-    spelled_word(alloc, value)
-}
-
-// The token as the library spells it.
-fn spelled_word(alloc: Global, value: ValueRef<'_>) -> Result<String, AllocError>
-    ensures { IfOk result (λ word. (rules : Rules) → IsSpellableBy rules (value_of value.entry)
-        → IsReadAs rules (value_of value.entry) (string_bytes word)) }
+/// The token as the library spells it.
+pub(crate) fn spelled_word(alloc: Global, value: ValueRef<'_>) -> Result<String, AllocError>
+    ensures { IfOk result (λ word. (rules : Rules) → IsTextOf rules (value_of value.entry) (string_bytes word)) }
 {
     let mut word = String::new(alloc);
     value.push_to(&mut word)?;
     Ok(word)
-}
-
-// The token as the library spells it, except that a number has no `u`.
-fn signed_word(alloc: Global, value: ValueRef<'_>) -> Result<String, AllocError>
-    ensures { IfOk result (λ word. (rules : Rules) → IsSpellableBy rules (value_of value.entry)
-        → IsReadAs rules (as_signed (value_of value.entry)) (string_bytes word)) }
-{
-    match value {
-        ValueRef::Integer(integer) => {
-            let signed = Integer {
-                signed: true,
-                ..integer
-            };
-            spelled_word(alloc, ValueRef::Integer(signed))
-        }
-        _ => spelled_word(alloc, value),
-    }
 }
 
 // The text at a place, without its continuations. The place's end is counted as if no continuation came directly before

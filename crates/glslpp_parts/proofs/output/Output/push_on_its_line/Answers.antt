@@ -12,7 +12,7 @@ returns-in-Ident-clause-puts c =
     let name = c.in-Ident.name.now in
     on_ok_weaker c.push_word.result (λ puts. rw c.in-Ident.is (record {
       word = name;
-      is_text = λ h. inl (spelled_read c.args.self.now.rules (Ident (chars name)) name c.push_word.ensures.text refl h);
+      is_text = λ h. spelled_read c.args.self.now.rules (Ident (chars name)) name c.push_word.ensures.text refl h;
       puts =
           subst (λ line. PutsText c.args.self.now c.args.token.location false line name c.push_word.new.self) c.line_of-line.ensures puts;
     })) c.push_word.ensures.puts
@@ -22,8 +22,8 @@ returns-in-Punct-clause-puts c =
     let spelled = c.spelling.result.now in
     on_ok_weaker c.push_word-in-Punct.result (λ puts. rw c.in-Punct.is (record {
       word = spelled;
-      is_text = λ h. inl (spelled_read c.args.self.now.rules (Punct c.in-Punct.punct) spelled c.spelling.utf8
-          (ap chars c.spelling.ensures ∙ chars-punctuator c.in-Punct.punct) h);
+      is_text = λ h. spelled_read c.args.self.now.rules (Punct c.in-Punct.punct) spelled c.spelling.utf8
+          (ap chars c.spelling.ensures ∙ chars-punctuator c.in-Punct.punct) h;
       puts =
           subst (λ line. PutsText c.args.self.now c.args.token.location (is_closing (Punct c.in-Punct.punct)) line spelled c.push_word-in-Punct.new.self) c.line_of-line.ensures
           (subst (λ closes. PutsText c.args.self.now c.args.token.location closes c.line_of-line.result spelled c.push_word-in-Punct.new.self)
