@@ -2,7 +2,7 @@
 use Rattle.std.proofs.Common.{◌≡◌, ◌∙◌, List, [], ◌∷◌, ◌++◌, map, refl, ap, sym, subst, Option, Some, None}
 use Rattle.std.specs.List.{AllByRecursion as Each}
 use Rattle.std.specs.Str.{chars}
-use Rattle.pp_macros.specs.LexerErrors.{ErrorAt}
+use Rattle.pp_macros.specs.LexerErrors.{ErrorAt, PassesErrors}
 use Rattle.pp_model.specs.Emitting.{answers_at, expansion_limit}
 use Rattle.pp_model.specs.Run.{Call, add_define, next, with_added, by_rules, Runs}
 use Rattle.pp_model.specs.Run as run
@@ -13,7 +13,6 @@ use Rattle.pp_model.specs.declared.outcome.Outcome.TheVariants as outcome
 use Rattle.pp_rs.specs.Comes.{State}
 use Rattle.pp_rs.specs.Kept.{Preprocessing, Stands, errors_left, rules_of}
 use Rattle.pp_rs.specs.declared.rules.Rules.{Rules}
-use Rattle.pp_rs.specs.Preprocessing.{PassesErrors}
 use Rattle.pp_rs.specs.Preprocessing as place
 use Rattle.pp_rs.specs.Rules.{pp_rs}
 use Rattle.pp_c.specs.Preprocessed.{Given, token, error, outcomes_of, replies_to_next, ErrorsStand, GivenHoldsOrdinary}

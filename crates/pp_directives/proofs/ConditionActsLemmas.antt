@@ -27,6 +27,7 @@ use Rattle.pp_macros.specs.inner.SourceMoves.{unnoted}
 use Rattle.pp_directives.proofs.LineReadingLemmas.{drop_fewer}
 use Rattle.pp_directives.proofs.SourceActsLemmas.{source_of}
 use Rattle.pp_directives.proofs.UnreportedLemmas.{nothing_met, same_none}
+use Rattle.pp_model.specs.Numbering.{list_numbering}
 
 -- the innermost block changes
 pub with_last_is : (change : OpenBlock → OpenBlock) (blocks : List OpenBlock) (block : OpenBlock) → last_block blocks ≡ Some block
@@ -53,7 +54,7 @@ module _ (rules : Rules) (definitions : List Defined) (blocks : List OpenBlock)
   }
 
   -- an `#if` opens a block
-  pub if_opens : (value : Bool) (after : List OpenBlock) → Condition word tokens definitions (Ok value) → after ≡ blocks ++ block_opened word value ∷ []
+  pub if_opens : (value : Bool) (after : List OpenBlock) → Condition word tokens (list_numbering rules line_offset) definitions (Ok value) → after ≡ blocks ++ block_opened word value ∷ []
       → Acts (block_change (Some part.Opens) word) (line_move (line_tokens old.rest) (decides word) old.rest)
       (source_of old rules definitions blocks line_offset has_text has_directive dead) (Ok tt) (source_of new rules definitions after line_offset has_text has_directive dead)
   if_opens value after condition made = record {
@@ -63,7 +64,7 @@ module _ (rules : Rules) (definitions : List Defined) (blocks : List OpenBlock)
   }
 
   -- an `#elif` parts the innermost block
-  pub elif_parts : (block : OpenBlock) (value : Bool) (after : List OpenBlock) → Condition word tokens definitions (Ok value)
+  pub elif_parts : (block : OpenBlock) (value : Bool) (after : List OpenBlock) → Condition word tokens (list_numbering rules line_offset) definitions (Ok value)
       → last_block blocks ≡ Some block → after ≡ outer_blocks blocks ++ block_decided block value ∷ []
       → Acts elif_change (line_move (line_tokens old.rest) (decides word) old.rest)
       (source_of old rules definitions blocks line_offset has_text has_directive dead) (Ok tt) (source_of new rules definitions after line_offset has_text has_directive dead)
@@ -75,7 +76,7 @@ module _ (rules : Rules) (definitions : List Defined) (blocks : List OpenBlock)
   }
 
   -- a `#line` numbers the lines after it
-  pub line_numbers : (n : ℕ) (offset : ℤ) → LineNumber word tokens definitions (Ok n) → offset ≡ pos n -ℤ pos (numbered_line rules word.line)
+  pub line_numbers : (n : ℕ) (offset : ℤ) → LineNumber word tokens (list_numbering rules line_offset) definitions (Ok n) → offset ≡ pos n -ℤ pos (numbered_line rules word.line)
       → Acts unchanged (line_move (line_tokens old.rest) (renumbers word) old.rest)
       (source_of old rules definitions blocks line_offset has_text has_directive dead) (Ok tt) (source_of new rules definitions blocks offset has_text has_directive dead)
   line_numbers n offset number made = record {
@@ -99,7 +100,7 @@ module _ (rules : Rules) (definitions : List Defined) (blocks : List OpenBlock)
 
   -- the condition of an `#if` or `#elif` is at fault, and no more blocks are open after it
   pub condition_failed : (change : BlockChange) (after : List OpenBlock) → length after ≤ length blocks → (h : Halt)
-      → Satisfies {A = Bool} (Err h) (Condition word tokens definitions)
+      → Satisfies {A = Bool} (Err h) (Condition word tokens (list_numbering rules line_offset) definitions)
       → Acts change (line_move (line_tokens old.rest) (decides word) old.rest)
       (source_of old rules definitions blocks line_offset has_text has_directive dead) (Err h)
       (source_of new rules definitions after line_offset has_text has_directive dead)
@@ -108,7 +109,7 @@ module _ (rules : Rules) (definitions : List Defined) (blocks : List OpenBlock)
   condition_failed change after few halt.OutOfMemory condition = record { acts = tt; holds = tt; errors = tt }
 
   -- so is the number of a `#line`, after which the lines may be numbered from anywhere
-  pub number_failed : (offset : ℤ) (h : Halt) → Satisfies {A = ℕ} (Err h) (LineNumber word tokens definitions)
+  pub number_failed : (offset : ℤ) (h : Halt) → Satisfies {A = ℕ} (Err h) (LineNumber word tokens (list_numbering rules line_offset) definitions)
       → Acts unchanged (line_move (line_tokens old.rest) (renumbers word) old.rest)
       (source_of old rules definitions blocks line_offset has_text has_directive dead) (Err h)
       (source_of new rules definitions blocks offset has_text has_directive dead)

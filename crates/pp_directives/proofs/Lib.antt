@@ -1,11 +1,13 @@
 pub mod LinedLemmas
 pub mod EndedLemmas
 pub mod UnreportedLemmas
+pub mod PassedErrorsLemmas
 pub mod HeldLemmas
 pub mod LineReadingLemmas
 pub mod ContentLemmas
 pub mod CommentsAfterLemmas
 pub mod SourceActsLemmas
+pub mod SkippingLemmas
 pub mod NotedLemmas
 pub mod PlainWordLemmas
 pub mod SourceStepLemmas

@@ -10,15 +10,16 @@ use Rattle.pp_macros.proofs.open_frames.KnownLemmas.{alone_known}
 use Rattle.pp_macros.proofs.open_frames.ListKnownLemmas.{call_known}
 use Rattle.pp_macros.proofs.taking.ListedLeadsLemmas.{turned}
 use Rattle.pp_directives.specs.inner.LineItems.{IsOnLine}
+use Rattle.pp_model.specs.declared.numbering.Numbering.{Numbering}
 
-pub line_known : (definitions : List Defined) (m : MacroProcessor) (l : Listing) → IsOnLine definitions m.here (listed_in m.below l)
+pub line_known : (numbering : Numbering) (definitions : List Defined) (m : MacroProcessor) (l : Listing) → IsOnLine numbering definitions m.here (listed_in m.below l)
     → AreKnown (names_in l.definitions) m
-line_known definitions m l reads = alone_known (names_in l.definitions) m reads.sound.numbers reads.unhidden
+line_known numbering definitions m l reads = alone_known (names_in l.definitions) m reads.sound.numbers reads.unhidden
 
 -- a call was gathered
-pub line_call_known : (definitions : List Defined) (m n : MacroProcessor) (l k : Listing) (c : MacroCall) → IsOnLine definitions m.here (listed_in m.below l)
+pub line_call_known : (numbering : Numbering) (definitions : List Defined) (m n : MacroProcessor) (l k : Listing) (c : MacroCall) → IsOnLine numbering definitions m.here (listed_in m.below l)
     → TurnsOrRefuses m.here (of_list (listed_in m.below l)) (Ok (taken.Call c)) n.here (of_list (listed_in n.below k)) → n.below ≡ m.below
     → AreKnown (names_in definitions) n
-line_call_known definitions m n l k c reads turns same =
+line_call_known numbering definitions m n l k c reads turns same =
     call_known 0 m n m m.below n.below l k definitions c reads.sound (turned _ _ _ _ _ turns refl) reads.defined same
-    (subst (λ (ds : List Defined). AreKnown (names_in ds) m) reads.defined (line_known definitions m l reads))
+    (subst (λ (ds : List Defined). AreKnown (names_in ds) m) reads.defined (line_known numbering definitions m l reads))

@@ -27,117 +27,118 @@ use Rattle.pp_macros.proofs.taking.ListedLeadsLemmas.{turned}
 use Rattle.pp_macros.proofs.open_frames.ReportedLemmas.{wants_taken}
 use Rattle.pp_macros.specs.declared.halt.Halt.{Halt}
 use Rattle.pp_macros.specs.declared.halt.Halt.TheVariants as halt
+use Rattle.pp_model.specs.declared.numbering.Numbering.{Numbering}
 
-module _ (levels : ℕ) (definitions : List Defined) (m : kept.Expander) (l : Listing) where
+module _ (levels : ℕ) (numbering : Numbering) (definitions : List Defined) (m : kept.Expander) (l : Listing) where
   -- the fault of a step, unless memory was refused
   pub reads_fault : {T : Type 0} (P : Result T Fault → Expander Listed → Type 0) (h : Halt) (n : kept.Expander) (k : Listing) (fault : Fault)
-      → h ≡ halt_of fault → (is_out_of_memory fault.0 ≡ false → (f : Expander Listed) × P (Err fault) f) → ReadsOfLine {T = T} levels definitions m l P (Err h) n k
-  reads_fault {T} P h n k fault is passes = subst (λ (x : Halt). ReadsOfLine {T = T} levels definitions m l P (Err x) n k) (sym is)
+      → h ≡ halt_of fault → (is_out_of_memory fault.0 ≡ false → (f : Expander Listed) × P (Err fault) f) → ReadsOfLine {T = T} levels numbering definitions m l P (Err h) n k
+  reads_fault {T} P h n k fault is passes = subst (λ (x : Halt). ReadsOfLine {T = T} levels numbering definitions m l P (Err x) n k) (sym is)
       (go (is_out_of_memory fault.0) refl)
     where
-      go : (b : Bool) → is_out_of_memory fault.0 ≡ b → ReadsOfLine {T = T} levels definitions m l P (Err (if b then halt.OutOfMemory else halt.Fault fault)) n k
+      go : (b : Bool) → is_out_of_memory fault.0 ≡ b → ReadsOfLine {T = T} levels numbering definitions m l P (Err (if b then halt.OutOfMemory else halt.Fault fault)) n k
       go true e = tt
       go false e = passes e
 
   -- what was read before has a fault, which is that of the whole
   pub reads_broken : {T U : Type 0} (P : Result T Fault → Expander Listed → Type 0) (Q : Result U Fault → Expander Listed → Type 0)
       (h : Halt) (n p : kept.Expander) (k q : Listing) (r : Result U Halt) → r ≡ Err h
-      → ((fault : Fault) (f : Expander Listed) → P (Err fault) f → Q (Err fault) f) → ReadsOfLine {T = T} levels definitions m l P (Err h) n k
-      → ReadsOfLine {T = U} levels definitions m l Q r p q
-  reads_broken {T} {U} P Q h n p k q r is on reads = subst (λ (x : Result U Halt). ReadsOfLine {T = U} levels definitions m l Q x p q) (sym is) (go h reads)
+      → ((fault : Fault) (f : Expander Listed) → P (Err fault) f → Q (Err fault) f) → ReadsOfLine {T = T} levels numbering definitions m l P (Err h) n k
+      → ReadsOfLine {T = U} levels numbering definitions m l Q r p q
+  reads_broken {T} {U} P Q h n p k q r is on reads = subst (λ (x : Result U Halt). ReadsOfLine {T = U} levels numbering definitions m l Q x p q) (sym is) (go h reads)
     where
-      go : (h : Halt) → ReadsOfLine {T = T} levels definitions m l P (Err h) n k → ReadsOfLine {T = U} levels definitions m l Q (Err h) p q
+      go : (h : Halt) → ReadsOfLine {T = T} levels numbering definitions m l P (Err h) n k → ReadsOfLine {T = U} levels numbering definitions m l Q (Err h) p q
       go (halt.Fault fault) reads = (reads.0, on fault reads.0 reads.1)
       go halt.OutOfMemory reads = tt
 
   -- what is read after something that was read
   pub reads_then : {T : Type 0} (P Q : Result T Fault → Expander Listed → Type 0) (n p : kept.Expander) (k q : Listing) (r : Result T Halt)
-      → ReadsOn levels definitions m l n k → ((x : Result T Fault) (f : Expander Listed) → P x f → Q x f)
-      → ReadsOfLine {T = T} levels definitions n k P r p q → ReadsOfLine {T = T} levels definitions m l Q r p q
+      → ReadsOn levels numbering definitions m l n k → ((x : Result T Fault) (f : Expander Listed) → P x f → Q x f)
+      → ReadsOfLine {T = T} levels numbering definitions n k P r p q → ReadsOfLine {T = T} levels numbering definitions m l Q r p q
   reads_then P Q n p k q (Ok value) before on (read, after) =
       (on (Ok value) _ read, record { stands = after.stands; least = le_trans after.least before.least })
   reads_then P Q n p k q (Err (halt.Fault fault)) before on (f, read) = (f, on (Err fault) f read)
   reads_then P Q n p k q (Err halt.OutOfMemory) before on reads = tt
 
 -- what is taken next has a fault, or memory was refused
-pub taken_fault : (levels : ℕ) (definitions : List Defined) (m : kept.Expander) (l : Listing) → IsOnLine definitions m l
+pub taken_fault : (levels : ℕ) (numbering : Numbering) (definitions : List Defined) (m : kept.Expander) (l : Listing) → IsOnLine numbering definitions m l
     → (n : kept.Expander) (k : Listing) (fault : Fault) (h : Halt) → TakesNext m (of_list l) (Err (Error fault)) n (of_list k) → h ≡ halt_of fault
-    → ReadsTaken levels definitions m l (Err h) n k
-taken_fault levels definitions m l on n k fault h next is =
-    reads_fault levels definitions m l (λ (item : Result (Option Read) Fault) (f : Expander Listed). Takes line_reading (expander_of m l)
+    → ReadsTaken levels numbering definitions m l (Err h) n k
+taken_fault levels numbering definitions m l on n k fault h next is =
+    reads_fault levels numbering definitions m l (λ (item : Result (Option Read) Fault) (f : Expander Listed). Takes line_reading (expander_of m l)
     (taken_of_item item) f) h n k fault is
-    (λ reported. let read = next_read levels definitions m n l k on (Err (Error fault)) next reported in (expander_of n k, read.0))
+    (λ reported. let read = next_read levels numbering definitions m n l k on (Err (Error fault)) next reported in (expander_of n k, read.0))
 
 -- What the search for the next item has reached: the items from here on are those from the beginning on.
-pub record ItemsOn (levels : ℕ) (definitions : List Defined) (m : kept.Expander) (l : Listing) (n : kept.Expander) (k : Listing) : Type 0 where
+pub record ItemsOn (levels : ℕ) (numbering : Numbering) (definitions : List Defined) (m : kept.Expander) (l : Listing) (n : kept.Expander) (k : Listing) : Type 0 where
   pub goes_on : GoesOn levels m l n k
-  pub stands : IsOnLine definitions n k
+  pub stands : IsOnLine numbering definitions n k
   pub least : work_of levels n (of_list k) ≤ work_of levels m (of_list l)
 
-pub items_start : (levels : ℕ) (definitions : List Defined) (m : kept.Expander) (l : Listing) → IsOnLine definitions m l → ItemsOn levels definitions m l m l
-items_start levels definitions m l on = record { goes_on = λ o g emits. emits; stands = on; least = omega arith }
+pub items_start : (levels : ℕ) (numbering : Numbering) (definitions : List Defined) (m : kept.Expander) (l : Listing) → IsOnLine numbering definitions m l → ItemsOn levels numbering definitions m l m l
+items_start levels numbering definitions m l on = record { goes_on = λ o g emits. emits; stands = on; least = omega arith }
 
-module _ (levels : ℕ) (definitions : List Defined) (m : kept.Expander) (l : Listing) (n : kept.Expander) (k : Listing) (on : ItemsOn levels definitions m l n k)
+module _ (levels : ℕ) (numbering : Numbering) (definitions : List Defined) (m : kept.Expander) (l : Listing) (n : kept.Expander) (k : Listing) (on : ItemsOn levels numbering definitions m l n k)
     (p : kept.Expander) (q : Listing) where
   itself : (step : Step Taken) → TurnsOrRefuses n (of_list k) step p (of_list q) → wants_taken step ≡ false → TurnsTo n (of_list k) step p (of_list q)
   itself step turns reported = turned n p (of_list k) (of_list q) step turns reported
 
   pub items_token : (read : Read) → TurnsOrRefuses n (of_list k) (Ok (taken.Token read)) p (of_list q)
-      → ReadsItem levels definitions m l (Ok (Some read)) p q
+      → ReadsItem levels numbering definitions m l (Ok (Some read)) p q
   items_token read turns =
-      let h = token_read levels definitions n p k q on.stands read (itself (Ok (taken.Token read)) turns refl) in
+      let h = token_read levels numbering definitions n p k q on.stands read (itself (Ok (taken.Token read)) turns refl) in
       let less : IsWorkLess levels n k p q = h.2 in
       (on.goes_on (given.Token read) (expander_of p q) h.0, record { stands = h.1; least = omega (arith, on.least, less) })
 
   pub items_token_less : (read : Read) → TurnsOrRefuses n (of_list k) (Ok (taken.Token read)) p (of_list q) → IsWorkLess levels m l p q
   items_token_less read turns =
-      let less : IsWorkLess levels n k p q = (token_read levels definitions n p k q on.stands read (itself (Ok (taken.Token read)) turns refl)).2 in
+      let less : IsWorkLess levels n k p q = (token_read levels numbering definitions n p k q on.stands read (itself (Ok (taken.Token read)) turns refl)).2 in
       omega (arith, on.least, less)
 
-  pub items_end : TurnsOrRefuses n (of_list k) (Err Finished) p (of_list q) → ReadsItem levels definitions m l (Ok None) p q
+  pub items_end : TurnsOrRefuses n (of_list k) (Err Finished) p (of_list q) → ReadsItem levels numbering definitions m l (Ok None) p q
   items_end turns =
-      let h = end_read levels definitions n p k q on.stands (itself (Err Finished) turns refl) in
-      let after : ReadsOn levels definitions n k p q = h.1 in
+      let h = end_read levels numbering definitions n p k q on.stands (itself (Err Finished) turns refl) in
+      let after : ReadsOn levels numbering definitions n k p q = h.1 in
       (on.goes_on given.End (expander_of p q) h.0, record { stands = after.stands; least = omega (arith, on.least, after.least) })
 
   -- a part of the line was passed, and the items go on
-  passed : (p : kept.Expander) → GoesOn levels n k p q → IsOnLine definitions p q → IsWorkLess levels n k p q → ItemsOn levels definitions m l p q
+  passed : (p : kept.Expander) → GoesOn levels n k p q → IsOnLine numbering definitions p q → IsWorkLess levels n k p q → ItemsOn levels numbering definitions m l p q
   passed p goes stands less = record { goes_on = λ o g emits. on.goes_on o g (goes o g emits); stands = stands; least = omega (arith, on.least, less) }
 
-  pub items_pause : TurnsOrRefuses n (of_list k) (Err Continue) p (of_list q) → ItemsOn levels definitions m l p q
+  pub items_pause : TurnsOrRefuses n (of_list k) (Err Continue) p (of_list q) → ItemsOn levels numbering definitions m l p q
   items_pause turns =
-      let h = pause_read levels definitions n p k q on.stands (itself (Err Continue) turns refl) in
+      let h = pause_read levels numbering definitions n p k q on.stands (itself (Err Continue) turns refl) in
       passed p h.0 h.1 h.2
 
   pub items_pause_less : TurnsOrRefuses n (of_list k) (Err Continue) p (of_list q) → IsWorkLess levels n k p q
-  items_pause_less turns = (pause_read levels definitions n p k q on.stands (itself (Err Continue) turns refl)).2
+  items_pause_less turns = (pause_read levels numbering definitions n p k q on.stands (itself (Err Continue) turns refl)).2
 
   pub items_fault : (fault : Fault) (h : Halt) → TurnsOrRefuses n (of_list k) (Err (Error fault)) p (of_list q) → h ≡ halt_of fault
-      → ReadsItem levels definitions m l (Err h) p q
+      → ReadsItem levels numbering definitions m l (Err h) p q
   items_fault fault h turns is =
-      reads_fault levels definitions m l (λ (item : Result (Option Read) Fault) (f : Expander Listed). Emits line_reading (answers_at levels)
+      reads_fault levels numbering definitions m l (λ (item : Result (Option Read) Fault) (f : Expander Listed). Emits line_reading (answers_at levels)
       (expander_of m l) (taken_of_item item) f) h p q fault is
-      (λ reported. let read = fault_read levels definitions n p k q on.stands fault (itself (Err (Error fault)) turns reported) reported in
+      (λ reported. let read = fault_read levels numbering definitions n p k q on.stands fault (itself (Err (Error fault)) turns reported) reported in
       (read.0, on.goes_on (given.Fault fault) read.0 read.1))
 
   module _ (c : MacroCall) (turns : TurnsOrRefuses n (of_list k) (Ok (taken.Call c)) p (of_list q)) where
     call : TurnsTo n (of_list k) (Ok (taken.Call c)) p (of_list q)
     call = itself (Ok (taken.Call c)) turns refl
 
-    pub items_call : (u : kept.Expander) → IsOpened levels definitions (names_of p.frames ++ []) c p u → ItemsOn levels definitions m l u q
+    pub items_call : (u : kept.Expander) → IsOpened levels numbering definitions (names_of p.frames ++ []) c p u → ItemsOn levels numbering definitions m l u q
     items_call u opened =
-        let h = call_read levels definitions n p k q on.stands c call u opened in
+        let h = call_read levels numbering definitions n p k q on.stands c call u opened in
         passed u h.0 h.1 h.2
 
-    pub items_call_less : (u : kept.Expander) → IsOpened levels definitions (names_of p.frames ++ []) c p u → IsWorkLess levels n k u q
-    items_call_less u opened = (call_read levels definitions n p k q on.stands c call u opened).2
+    pub items_call_less : (u : kept.Expander) → IsOpened levels numbering definitions (names_of p.frames ++ []) c p u → IsWorkLess levels n k u q
+    items_call_less u opened = (call_read levels numbering definitions n p k q on.stands c call u opened).2
 
-    pub items_call_fault : (u : kept.Expander) (h : Halt) (r : Result (Option Read) Halt) → Finishes levels definitions [] c p (Err h) u → r ≡ Err h
-        → ReadsItem levels definitions m l r u q
-    items_call_fault u h r finishes is = subst (λ (x : Result (Option Read) Halt). ReadsItem levels definitions m l x u q) (sym is) (go h finishes)
+    pub items_call_fault : (u : kept.Expander) (h : Halt) (r : Result (Option Read) Halt) → Finishes levels numbering definitions [] c p (Err h) u → r ≡ Err h
+        → ReadsItem levels numbering definitions m l r u q
+    items_call_fault u h r finishes is = subst (λ (x : Result (Option Read) Halt). ReadsItem levels numbering definitions m l x u q) (sym is) (go h finishes)
       where
-        go : (h : Halt) → Finishes levels definitions [] c p (Err h) u → ReadsItem levels definitions m l (Err h) u q
+        go : (h : Halt) → Finishes levels numbering definitions [] c p (Err h) u → ReadsItem levels numbering definitions m l (Err h) u q
         go (halt.Fault fault) finishes =
-            let read = call_fault_read levels definitions n p k q on.stands c call fault finishes.0 in
+            let read = call_fault_read levels numbering definitions n p k q on.stands c call fault finishes.0 in
             (read.0, on.goes_on (given.Fault fault) read.0 read.1)
         go halt.OutOfMemory finishes = tt

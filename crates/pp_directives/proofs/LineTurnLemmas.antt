@@ -1,6 +1,7 @@
 -- Reading the line of an `#if`, `#elif` or `#line`: each step of the code reads what the definitions read.
 use Rattle.std.proofs.Common.{◌≡◌, ◌∙◌, inl, inr, true, false, ℕ, ◌≤◌, List, [], ◌∷◌, ◌++◌, refl, sym, ap, subst, Option, Some, None, Bool}
 use Rattle.std.specs.Prelude.{if◌then◌else◌, Result, Ok, Err, option_map, unwrap_or, ⊤}
+use Rattle.pp_model.specs.Numbering.{number_of}
 use Rattle.pp_model.specs.declared.read.Read.{Read}
 use Rattle.pp_model.specs.Calls.{Fault, Gathered, Site, site_of}
 use Rattle.pp_model.specs.Emitting.{Emits, answers_at}
@@ -38,6 +39,7 @@ use Rattle.pp_macros.proofs.taking.SearchSimulates.{StandsHeld, next_simulates}
 use Rattle.pp_macros.proofs.work.SpendLemmas.{step_spends, next_left, next_spends, no_more}
 use Rattle.pp_macros.proofs.taking.TurnLeadsLemmas.{LeadsTo}
 use Rattle.pp_macros.proofs.work.WorkFallsLemmas.{frame_of, no_more_work}
+use Rattle.pp_model.specs.declared.numbering.Numbering.{Numbering}
 
 -- a list, and no source
 abbrev IsList : Reader → Type 0
@@ -61,7 +63,7 @@ taken_quiet (Ok read) fs (of_source source) list h = absurd list
 taken_quiet (Ok read) fs (of_list l) list h = go (is_identifier line_name read.token.value)
   where
     go : (b : Bool) → IsNoFault (step_of_outcome (if b then line_number read.token.location
-        (Some (unwrap_or (outermost_frame_line fs) read.token.location.line)) else given.Token read))
+        (Some (number_of l.numbering (unwrap_or (outermost_frame_line fs) read.token.location.line))) else given.Token read))
     go true = tt
     go false = tt
 
@@ -184,9 +186,9 @@ end_taken m q r t step e (seeks read opened c step1 m1 n p q1 r1 s t1 steps some
     no_end (refused fault) h = let is = h.0 in cc
     no_end (gathered paren g) h = let is = h.0 in cc
 
-module _ (definitions : List Defined) where
-  held_stands : (o : Option (Step Read)) (l : Listing) (x : Listed) → IsHeld o → IsListed true definitions [] (of_list l) x
-      → StandsHeld line_reading (IsListed true definitions []) [] o (of_list l) x
+module _ (numbering : Numbering) (definitions : List Defined) where
+  held_stands : (o : Option (Step Read)) (l : Listing) (x : Listed) → IsHeld o → IsListed true numbering definitions [] (of_list l) x
+      → StandsHeld line_reading (IsListed true numbering definitions []) [] o (of_list l) x
   held_stands None l x h listed = listed
   held_stands (Some (Ok read)) l x h listed = listed
   held_stands (Some (Err Finished)) l x h listed = listed
@@ -194,25 +196,25 @@ module _ (definitions : List Defined) where
   held_stands (Some (Err (Error fault))) l x h listed = absurd h
 
   stands_held : (o : Option (Step Read)) (l : Listing) (x : Listed) → IsHeld o
-      → StandsHeld line_reading (IsListed true definitions []) [] o (of_list l) x → IsListed true definitions [] (of_list l) x
+      → StandsHeld line_reading (IsListed true numbering definitions []) [] o (of_list l) x → IsListed true numbering definitions [] (of_list l) x
   stands_held None l x h listed = listed
   stands_held (Some (Ok read)) l x h listed = listed
   stands_held (Some (Err Finished)) l x h listed = listed
   stands_held (Some (Err Continue)) l x h listed = absurd h
   stands_held (Some (Err (Error fault))) l x h listed = absurd h
 
-  stands_here : (m : kept.Expander) (l : Listing) → IsOnLine definitions m l → StandsListed true definitions [] m l (expander_of m l)
+  stands_here : (m : kept.Expander) (l : Listing) → IsOnLine numbering definitions m l → StandsListed true numbering definitions [] m l (expander_of m l)
   stands_here m l on = record {
     holds = refl;
     list = refl;
     reader =
-        held_stands m.held l (expander_of m l).reader on.holds (refl, on.unhidden, on.line, on.defined);
+        held_stands m.held l (expander_of m l).reader on.holds (refl, on.unhidden, on.line, on.defined, on.numbered);
     names = refl;
   }
 
   -- where the code stands is where the definitions stand
-  here : (n : kept.Expander) (k : Listing) (f : Expander Listed) → StandsListed true definitions [] n k f → IsHeld n.held → IsSound n (of_list k)
-      → (f ≡ expander_of n k) × IsOnLine definitions n k
+  here : (n : kept.Expander) (k : Listing) (f : Expander Listed) → StandsListed true numbering definitions [] n k f → IsHeld n.held → IsSound n (of_list k)
+      → (f ≡ expander_of n k) × IsOnLine numbering definitions n k
   here n k f stands holds sound =
       let listed = stands_held n.held k f.reader holds stands.reader in
       let e = expander_of n k in (
@@ -220,7 +222,7 @@ module _ (definitions : List Defined) where
             ∙ ap (λ (es : List Entry). record { held = e.held; list = es; reader = f.reader; hidden = f.hidden }) stands.list
             ∙ ap (λ (x : Listed). record { held = e.held; list = e.list; reader = x; hidden = f.hidden }) listed.0
             ∙ ap (λ (ns : List Name). record { held = e.held; list = e.list; reader = e.reader; hidden = ns }) stands.names,
-        record { sound = sound; holds = holds; line = listed.2; unhidden = listed.1; defined = listed.3 },
+        record { sound = sound; holds = holds; line = listed.2; unhidden = listed.1; defined = listed.3; numbered = listed.4 },
       )
 
 -- the items from here on are those from the beginning on
@@ -228,37 +230,37 @@ abbrev pub GoesOn : ℕ → kept.Expander → Listing → kept.Expander → List
 GoesOn levels m l n k = (o : Given) (g : Expander Listed) → Emits line_reading (answers_at levels) (expander_of n k) o g
     → Emits line_reading (answers_at levels) (expander_of m l) o g
 
-module _ (levels : ℕ) (definitions : List Defined) (m n : kept.Expander) (l k : Listing) (on : IsOnLine definitions m l) where
+module _ (levels : ℕ) (numbering : Numbering) (definitions : List Defined) (m n : kept.Expander) (l k : Listing) (on : IsOnLine numbering definitions m l) where
   leads : (step : Step Taken) → TurnsTo m (of_list l) step n (of_list k) → wants_taken step ≡ false
-      → LeadsTo line_reading (IsListed true definitions []) [] (list_simulates true definitions []) (list_shows true definitions
-      []) (list_hides true definitions []) (list_sees true definitions []) (answers_at levels) step (expander_of m l) n (of_list k)
-  leads step turns reported = listed_leads true definitions [] (answers_at levels) m n l k step (expander_of m l)
-      (stands_here definitions m l on) turns reported
+      → LeadsTo line_reading (IsListed true numbering definitions []) [] (list_simulates true numbering definitions []) (list_shows true numbering definitions
+      []) (list_hides true numbering definitions []) (list_sees true numbering definitions []) (answers_at levels) step (expander_of m l) n (of_list k)
+  leads step turns reported = listed_leads true numbering definitions [] (answers_at levels) m n l k step (expander_of m l)
+      (stands_here numbering definitions m l on) turns reported
 
   -- a token
   pub token_read : (read : Read) → TurnsTo m (of_list l) (Ok (taken.Token read)) n (of_list k)
-      → Emits line_reading (answers_at levels) (expander_of m l) (given.Token read) (expander_of n k) × IsOnLine definitions n k × IsWorkLess levels m l n k
+      → Emits line_reading (answers_at levels) (expander_of m l) (given.Token read) (expander_of n k) × IsOnLine numbering definitions n k × IsWorkLess levels m l n k
   token_read read turns =
       let h = leads (Ok (taken.Token read)) turns refl in
       let less : IsLess levels m (of_list l) n (of_list k) = turn_falls levels m (of_list l) on.sound (Ok (taken.Token read)) n (of_list k) turns refl in
-      let at = here definitions n k h.0 h.2 (turn_holds m n (of_list l) (of_list k) (Ok (taken.Token read)) tt on.holds turns) less.sound in
+      let at = here numbering definitions n k h.0 h.2 (turn_holds m n (of_list l) (of_list k) (Ok (taken.Token read)) tt on.holds turns) less.sound in
       (subst (λ (f : Expander Listed). Emits line_reading (answers_at levels) (expander_of m l) (given.Token read) f) at.0 h.1, at.1, less.falls)
 
   -- a pause
-  pub pause_read : TurnsTo m (of_list l) (Err Continue) n (of_list k) → GoesOn levels m l n k × IsOnLine definitions n k × IsWorkLess levels m l n k
+  pub pause_read : TurnsTo m (of_list l) (Err Continue) n (of_list k) → GoesOn levels m l n k × IsOnLine numbering definitions n k × IsWorkLess levels m l n k
   pause_read turns =
       let h = leads (Err Continue) turns refl in
       let less : IsLess levels m (of_list l) n (of_list k) = turn_falls levels m (of_list l) on.sound (Err Continue) n (of_list k) turns refl in
-      let at = here definitions n k h.0 h.1 (turn_holds m n (of_list l) (of_list k) (Err Continue) tt on.holds turns) less.sound in
+      let at = here numbering definitions n k h.0 h.1 (turn_holds m n (of_list l) (of_list k) (Err Continue) tt on.holds turns) less.sound in
       (λ o g emits. (h.2 o g (subst (λ (f : Expander Listed). Emits line_reading (answers_at levels) f o g) (sym at.0) emits)).0, at.1, less.falls)
 
   -- the end
   pub end_read : TurnsTo m (of_list l) (Err Finished) n (of_list k)
-      → Emits line_reading (answers_at levels) (expander_of m l) given.End (expander_of n k) × ReadsOn levels definitions m l n k
+      → Emits line_reading (answers_at levels) (expander_of m l) given.End (expander_of n k) × ReadsOn levels numbering definitions m l n k
   end_read turns =
       let h = leads (Err Finished) turns refl in
       let sound : IsSound n (of_list k) = turn_falls levels m (of_list l) on.sound (Err Finished) n (of_list k) turns refl in
-      let at = here definitions n k h.0 h.2 (turn_holds m n (of_list l) (of_list k) (Err Finished) tt on.holds turns) sound in
+      let at = here numbering definitions n k h.0 h.2 (turn_holds m n (of_list l) (of_list k) (Err Finished) tt on.holds turns) sound in
       let r = of_list l in
       let level = frame_steps_level (most_bodies r) (most_open r) levels in
       let spent = step_spends (frame_of levels r) (most_open r) level (Err Finished) m n r (of_list k)
@@ -276,35 +278,35 @@ module _ (levels : ℕ) (definitions : List Defined) (m n : kept.Expander) (l k 
     pending : IsPending levels m (of_list l) c n (of_list k)
     pending = turn_falls levels m (of_list l) on.sound (Ok (taken.Call c)) n (of_list k) turns refl
 
-    led : LeadsTo line_reading (IsListed true definitions []) [] (list_simulates true definitions []) (list_shows true definitions
-        []) (list_hides true definitions []) (list_sees true definitions []) (answers_at levels) (Ok (taken.Call c)) (expander_of m l) n (of_list k)
+    led : LeadsTo line_reading (IsListed true numbering definitions []) [] (list_simulates true numbering definitions []) (list_shows true numbering definitions
+        []) (list_hides true numbering definitions []) (list_sees true numbering definitions []) (answers_at levels) (Ok (taken.Call c)) (expander_of m l) n (of_list k)
     led = leads (Ok (taken.Call c)) turns refl
 
-    site : site_of line_reading led.0 c.paren c.tokens ≡ site_at c definitions (names_of n.frames ++ [])
-    site = site_same true definitions [] n k c led.0 led.1 pending.free
+    site : site_of line_reading led.0 c.paren c.tokens ≡ site_at c numbering definitions (names_of n.frames ++ [])
+    site = site_same true numbering definitions [] n k c led.0 led.1 pending.free
 
     -- a call that has a fault
-    pub call_fault_read : (fault : Fault) → answers_at levels c.opened.definition (site_at c definitions (names_of n.frames ++ [])) (Err fault)
+    pub call_fault_read : (fault : Fault) → answers_at levels c.opened.definition (site_at c numbering definitions (names_of n.frames ++ [])) (Err fault)
         → (f : Expander Listed) × Emits line_reading (answers_at levels) (expander_of m l) (given.Fault fault) f
     call_fault_read fault answers = (led.0, (led.2 fault (subst (λ (x : Site). answers_at levels c.opened.definition x (Err fault)) (sym site) answers)).0)
 
     -- a call whose frame opened
-    pub call_read : (p : kept.Expander) → IsOpened levels definitions (names_of n.frames ++ []) c n p → GoesOn levels m l p k × IsOnLine definitions p k
+    pub call_read : (p : kept.Expander) → IsOpened levels numbering definitions (names_of n.frames ++ []) c n p → GoesOn levels m l p k × IsOnLine numbering definitions p k
         × IsWorkLess levels m l p k
     call_read p opened =
         let less : IsLess levels m (of_list l) p (of_list k) =
-        opened_less true definitions [] levels m n l k c p pending (stands_listed true definitions [] n k led.0 led.1 pending.free).3 opened in
+        opened_less true numbering definitions [] levels m n l k c p pending (stands_listed true numbering definitions [] n k led.0 led.1 pending.free).3 opened in
         let f : Expander Listed = record led.0 { list = macro_before c.opened.name c.opened.definition c.closing.line opened.arguments led.0.list } in
-        let stood : StandsListed true definitions [] n k led.0 = led.1 in
-        let stands : StandsListed true definitions [] p k f =
-        subst (λ (q : kept.Expander). StandsListed true definitions [] q k f) (sym opened.opens)
+        let stood : StandsListed true numbering definitions [] n k led.0 = led.1 in
+        let stands : StandsListed true numbering definitions [] p k f =
+        subst (λ (q : kept.Expander). StandsListed true numbering definitions [] q k f) (sym opened.opens)
         (record {
           holds = stood.holds;
           list = ap (macro_before c.opened.name c.opened.definition c.closing.line opened.arguments) stood.list;
           reader = stood.reader;
           names = stood.names;
         }) in
-        let at = here definitions p k f stands (free_held p.held (ap (λ (q : kept.Expander). q.held) opened.opens ∙ pending.free)) less.sound in (
+        let at = here numbering definitions p k f stands (free_held p.held (ap (λ (q : kept.Expander). q.held) opened.opens ∙ pending.free)) less.sound in (
           λ o g emits. (led.3 opened.arguments (subst (λ (x : Site). answers_at levels c.opened.definition x (Ok opened.arguments))
               (sym site) opened.answers) o g (subst (λ (e : Expander Listed). Emits line_reading (answers_at levels) e o g) (sym at.0) emits)).0,
           at.1,
@@ -313,25 +315,25 @@ module _ (levels : ℕ) (definitions : List Defined) (m n : kept.Expander) (l k 
 
   -- what is taken next
   pub next_read : (step : Step Read) → TakesNext m (of_list l) step n (of_list k) → wants_memory step ≡ false
-      → Takes line_reading (expander_of m l) (outcome_of_step step) (expander_of n k) × ReadsOn levels definitions m l n k
+      → Takes line_reading (expander_of m l) (outcome_of_step step) (expander_of n k) × ReadsOn levels numbering definitions m l n k
   next_read step next reported =
       let r = of_list l in
       let s = of_list k in
       let level = frame_steps_level (most_bodies r) (most_open r) levels in
-      let h = next_simulates line_reading (IsListed true definitions []) [] (list_simulates true definitions []) (list_shows true definitions
-      []) (list_hides true definitions []) m n r s step (expander_of m l) (stands_here definitions m l on) next reported in
+      let h = next_simulates line_reading (IsListed true numbering definitions []) [] (list_simulates true numbering definitions []) (list_shows true numbering definitions
+      []) (list_hides true numbering definitions []) m n r s step (expander_of m l) (stands_here numbering definitions m l on) next reported in
       let quiet = next_quiet m n r s step tt on.holds next reported in
       let sound : IsSound n s = next_sound None step m n r s next reported on.sound in
       let free : n.held ≡ None = (next_spends (frame_of levels r) (most_open r) level step m n r s next reported).free in
       let left = next_left (frame_of levels r) (most_open r) level step m n r s next reported in
       let holding : kept.Expander = record n { held = Some step } in
-      let at = here definitions holding k (record h.0 { held = Some (outcome_of_step step) }) h.2
+      let at = here numbering definitions holding k (record h.0 { held = Some (outcome_of_step step) }) h.2
       (quiet_held step quiet.quiet (next_no_pause m n r s step next)) sound in
       let same : h.0 ≡ expander_of n k =
       ap (λ (o : Option Given). record h.0 { held = o }) h.3
       ∙ ap (λ (e : Expander Listed). record e { held = None }) at.0
       ∙ ap (λ (o : Option (Step Read)). record (expander_of holding k) { held = option_map outcome_of_step o }) (sym free) in
-      let stood : IsOnLine definitions holding k = at.1 in (
+      let stood : IsOnLine numbering definitions holding k = at.1 in (
         subst (λ (f : Expander Listed). Takes line_reading (expander_of m l) (outcome_of_step step) f) same h.1,
         record {
           stands = record {
@@ -340,6 +342,7 @@ module _ (levels : ℕ) (definitions : List Defined) (m n : kept.Expander) (l k 
             line = stood.line;
             unhidden = stood.unhidden;
             defined = stood.defined;
+            numbered = stood.numbered;
           };
           least = no_more_work levels m n r s left.tightens left.spends;
         },

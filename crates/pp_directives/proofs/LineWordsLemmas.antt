@@ -17,42 +17,43 @@ use Rattle.pp_directives.specs.inner.LineItems.{IsOnLine, ReadsItem, ReadsOperan
 use Rattle.pp_macros.specs.inner.Expander.{Expander}
 use Rattle.pp_macros.specs.inner.Reader.{Listing}
 use Rattle.pp_macros.specs.declared.halt.Halt.TheVariants as halt
+use Rattle.pp_model.specs.declared.numbering.Numbering.{Numbering}
 
 -- What the reading of a line has reached: its words so far, after which those from here on come.
-pub record WordsOn (kind : LineKind) (directive : Location) (levels : ℕ) (defined : List definitions.Defined)
+pub record WordsOn (kind : LineKind) (directive : Location) (levels : ℕ) (numbering : Numbering) (defined : List definitions.Defined)
     (m : Expander) (l : Listing) (words : List Word) (n : Expander) (k : Listing) : Type 0 where
   pub goes_on : (rest : Words) → LineWords kind directive (answers_at levels) (expander_of n k) rest
       → LineWords kind directive (answers_at levels) (expander_of m l) (after_words words rest)
-  pub stands : IsOnLine defined n k
+  pub stands : IsOnLine numbering defined n k
 
-pub words_start : (kind : LineKind) (directive : Location) (levels : ℕ) (defined : List definitions.Defined)
-    (m : Expander) (l : Listing) (words : List Word) → IsOnLine defined m l → words ≡ [] → WordsOn kind directive levels defined m l words m l
-words_start kind directive levels defined m l words on none = rw none (record { goes_on = λ rest h. h; stands = on })
+pub words_start : (kind : LineKind) (directive : Location) (levels : ℕ) (numbering : Numbering) (defined : List definitions.Defined)
+    (m : Expander) (l : Listing) (words : List Word) → IsOnLine numbering defined m l → words ≡ [] → WordsOn kind directive levels numbering defined m l words m l
+words_start kind directive levels numbering defined m l words on none = rw none (record { goes_on = λ rest h. h; stands = on })
 
-module _ (kind : LineKind) (directive : Location) (levels : ℕ) (defined : List definitions.Defined) (m : Expander) (l : Listing) (words : List Word)
-    (n : Expander) (k : Listing) (on : WordsOn kind directive levels defined m l words n k) (p : Expander) (q : Listing) where
+module _ (kind : LineKind) (directive : Location) (levels : ℕ) (numbering : Numbering) (defined : List definitions.Defined) (m : Expander) (l : Listing) (words : List Word)
+    (n : Expander) (k : Listing) (on : WordsOn kind directive levels numbering defined m l words n k) (p : Expander) (q : Listing) where
   -- the words so far with what ends them are those of the line
   end_with : (ending : Option Fault) (w : Words) → w ≡ record { words = words; ending = ending }
       → LineWords kind directive (answers_at levels) (expander_of n k) (record { words = []; ending = ending })
       → LineWords kind directive (answers_at levels) (expander_of m l) w
   end_with ending w is h = rw (is, ← after_words-end words ending) (on.goes_on (record { words = []; ending = ending }) h)
 
-  pub words_end : (w : Words) → ReadsItem levels defined n k (Ok None) p q → w ≡ record { words = words; ending = None }
+  pub words_end : (w : Words) → ReadsItem levels numbering defined n k (Ok None) p q → w ≡ record { words = words; ending = None }
       → LineWords kind directive (answers_at levels) (expander_of m l) w
   words_end w item is = end_with None w is (line.ended (expander_of n k) (expander_of p q) (record { words = []; ending = None }) item.0 refl)
 
-  pub words_fault : (fault : Fault) (w : Words) → ReadsItem levels defined n k (Err (halt.Fault fault)) p q
+  pub words_fault : (fault : Fault) (w : Words) → ReadsItem levels numbering defined n k (Err (halt.Fault fault)) p q
       → w ≡ record { words = words; ending = Some fault } → LineWords kind directive (answers_at levels) (expander_of m l) w
   words_fault fault w item is = end_with (Some fault) w is (line.failed fault (expander_of n k) item.0 (record { words = []; ending = Some fault }) item.1 refl)
 
-  module _ (read : Read) (item : ReadsItem levels defined n k (Ok (Some read)) p q) where
+  module _ (read : Read) (item : ReadsItem levels numbering defined n k (Ok (Some read)) p q) where
     pub words_refused : (fault : Fault) (w : Words) → reading kind read.token ≡ line.fault fault → w ≡ record { words = words; ending = Some fault }
         → LineWords kind directive (answers_at levels) (expander_of m l) w
     words_refused fault w reads is = end_with (Some fault) w is (line.refused read fault (expander_of n k) (expander_of p q)
         (record { words = []; ending = Some fault }) item.0 reads refl)
 
     pub words_plain : (word : Token) (more : List Word) → reading kind read.token ≡ line.word word → more ≡ words ++ Plain word ∷ []
-        → WordsOn kind directive levels defined m l more p q
+        → WordsOn kind directive levels numbering defined m l more p q
     words_plain word more reads is =
         rw is (record {
           goes_on = λ rest h. rw (← after_words-before words (Plain word) rest)
@@ -62,8 +63,8 @@ module _ (kind : LineKind) (directive : Location) (levels : ℕ) (defined : List
         })
 
     pub words_answered : (answer : Bool) (u : Expander) (v : Listing) (more : List Word) → reading kind read.token ≡ line.operator
-        → ReadsOperand kind directive levels defined p q (Ok answer) u v → more ≡ words ++ Defined read.token.location (Ok answer) ∷ []
-        → WordsOn kind directive levels defined m l more u v
+        → ReadsOperand kind directive levels numbering defined p q (Ok answer) u v → more ≡ words ++ Defined read.token.location (Ok answer) ∷ []
+        → WordsOn kind directive levels numbering defined m l more u v
     words_answered answer u v more reads operand is =
         let w : Word = Defined read.token.location (Ok answer) in
         rw is (record {
@@ -74,7 +75,7 @@ module _ (kind : LineKind) (directive : Location) (levels : ℕ) (defined : List
         })
 
     pub words_faulty : (fault : Fault) (u : Expander) (v : Listing) (more : List Word) (w : Words) → reading kind read.token ≡ line.operator
-        → ReadsOperand kind directive levels defined p q (Err (halt.Fault fault)) u v → more ≡ words ++ Defined read.token.location (Err fault) ∷ []
+        → ReadsOperand kind directive levels numbering defined p q (Err (halt.Fault fault)) u v → more ≡ words ++ Defined read.token.location (Err fault) ∷ []
         → w ≡ record { words = more; ending = None } → LineWords kind directive (answers_at levels) (expander_of m l) w
     words_faulty fault u v more w reads operand grown is =
         let rest : Words = record { words = Defined read.token.location (Err fault) ∷ []; ending = None } in

@@ -29,6 +29,7 @@ use Rattle.pp_macros.specs.declared.halt.Halt.TheVariants as halt
 use Rattle.pp_macros.specs.declared.step.StepExit.TheVariants.{Error, Continue, Finished}
 use Rattle.pp_directives.proofs.LineReadingLemmas.{drop_fewer}
 use Rattle.pp_directives.proofs.UnreportedLemmas.{reports_after}
+use Rattle.pp_model.specs.Numbering.{list_numbering}
 
 -- an error that is known is the result
 pub err_result : {A E : Type 0} (r : Result A E) (h : E) → IsErrAnd r (λ e. e ≡ h) → r ≡ Err h
@@ -197,7 +198,7 @@ module _ (rules : Rules) (definitions : List Defined) (blocks : List OpenBlock)
   redefines named None taken note h = absurd h
   redefines named (Some before) taken note h = inr (h.0, ap (λ f. Err (Error f)) h.1, further)
 
-  pub fault_makes : (effect : Effect) (taken : ℕ) (note : Note) (change : BlockChange) → FailsWith effect definitions fault
+  pub fault_makes : (effect : Effect) (taken : ℕ) (note : Note) (change : BlockChange) → FailsWith effect (list_numbering rules line_offset) definitions fault
       → HasEffect effect taken note change (source_of old rules definitions blocks line_offset has_text has_directive dead) (Err (Error fault)) new
   fault_makes (gives token) taken note change h = absurd h
   fault_makes (gives_item item word) taken note change h = absurd h

@@ -20,12 +20,13 @@ use Rattle.pp_model.specs.Sights.{directive_of, named_directive, token_sight, si
 use Rattle.pp_model.specs.inner.Sights.{directive_sight}
 use Rattle.pp_macros.specs.inner.Defined.{Defined}
 use Rattle.pp_macros.specs.Halting.{step_of}
+use Rattle.pp_macros.specs.inner.Turns.{as_pause}
 use Rattle.pp_macros.specs.Item.{Step}
 use Rattle.pp_macros.specs.inner.LineReading.{HasTaken, as_next, next_token}
 use Rattle.pp_macros.specs.inner.OpenBlocks.{facts_among, is_live_among, BlockChange, unchanged, block_change, block_change_at}
 use Rattle.pp_macros.specs.declared.blocks.OpenBlock.{OpenBlock}
 use Rattle.pp_macros.specs.inner.Source.{Source, Pauses, Makes, MakesMove, IsRefusedStep, StepsSource}
-use Rattle.pp_directives.specs.inner.SourceActs.{GivesNoted, StepsDirective, word_note, word_change, name_move, word_move}
+use Rattle.pp_directives.specs.inner.SourceActs.{DoesMove, StepsDirective, word_note, word_change, name_move, word_move}
 use Rattle.pp_macros.specs.inner.SourceLexed.{SourceLexed, EndKeepsPlaces}
 use Rattle.pp_model.specs.Moves.{Effect, fails, passes, Move, failing, passing, directive_move, error_length, move_at, BlockFacts}
 use Rattle.pp_model.specs.inner.Moves.{taking_more}
@@ -33,6 +34,7 @@ use Rattle.pp_macros.specs.inner.SourceMoves.{Note, unnoted, directive_line, not
 use Rattle.pp_macros.specs.declared.step.StepExit.TheVariants.{Continue}
 use Rattle.pp_macros.specs.declared.halt.Halt.{Halt}
 use Rattle.pp_macros.specs.declared.halt.Halt.TheVariants as halt
+use Rattle.pp_directives.proofs.SkippingLemmas.{skips_move}
 use Rattle.pp_directives.proofs.SourceActsLemmas.{source_of, pause_no_fault, effect_after, fault_makes}
 
 match_false : (P Q : Type 0) (b : Bool) → b ≡ false → Q → MatchBool b P Q
@@ -67,16 +69,16 @@ module _ (rules : Rules) (definitions : List Defined) (blocks : List OpenBlock)
       ⊎ Makes note change move (source_of old rules definitions blocks line_offset has_text has_directive dead) (step_of result) new
 
   acts_make : (effect : Effect) (more total : ℕ) (note : Note) (change : BlockChange) → total ≡ 1 + more → (result : Result (Option Token) Halt)
-      → GivesNoted note change (record { effect = effect; taken = more }) (source_of mid rules definitions blocks line_offset has_text has_directive dead) result new
+      → DoesMove as_pause note change (record { effect = effect; taken = more }) (source_of mid rules definitions blocks line_offset has_text has_directive dead) result new
       → StepsBy result note change (record { effect = effect; taken = total })
   acts_make effect more total note change sum (Ok given) h =
-      inr (effect_after rules definitions blocks line_offset has_text has_directive dead old mid 1 more total sum taken note change given new effect h.acts)
+      inr (effect_after rules definitions blocks line_offset has_text has_directive dead old mid 1 more total sum taken note change given new effect h)
   acts_make effect more total note change sum (Err (halt.Fault fault)) h =
-      inr (fault_makes rules definitions blocks line_offset has_text has_directive dead old mid new fault fewer h.acts.1 effect total note change h.acts.0)
+      inr (fault_makes rules definitions blocks line_offset has_text has_directive dead old mid new fault fewer h.1 effect total note change h.0)
   acts_make effect more total note change sum (Err halt.OutOfMemory) h = inl (record { some_left = λ e. absurd (omega (arith, ap length e)); fault = refl })
 
   directive_makes : (live : Bool) (block : Option BlockFacts) (name : Name) (word : Location) (result : Result (Option Token) Halt)
-      → GivesNoted directive_line (block_change (part_of (directive_of name)) word)
+      → DoesMove as_pause directive_line (block_change (part_of (directive_of name)) word)
       (taking_more 1 (directive_move rules live block (directive_of name) word (drop 1 mid.rest)))
       (source_of mid rules definitions blocks line_offset has_text has_directive dead) result new
       → StepsBy result directive_line (block_change (part_of (directive_of name)) word)
@@ -86,12 +88,12 @@ module _ (rules : Rules) (definitions : List Defined) (blocks : List OpenBlock)
       let after : drop 1 mid.rest ≡ drop 2 old.rest = ap (drop 1) taken ∙ drop-drop 1 1 old.rest in
       let change = block_change (part_of (directive_of name)) word in
       acts_make move.effect (1 + move.taken) (2 + move.taken) directive_line change (omega arith) result
-      (subst (λ (rest : List Seen). GivesNoted directive_line change (taking_more 1 (directive_move rules live block (directive_of name) word rest))
+      (subst (λ (rest : List Seen). DoesMove as_pause directive_line change (taking_more 1 (directive_move rules live block (directive_of name) word rest))
       (source_of mid rules definitions blocks line_offset has_text has_directive dead) result new) after h)
 
   -- a number sign without a word
   bare_makes : (live newline : Bool) (fault : Fault) (block : Option BlockFacts) (result : Result (Option Token) Halt)
-      → GivesNoted (note_at live (if newline then sight.Lone else sight.NoWord fault))
+      → DoesMove as_pause (note_at live (if newline then sight.Lone else sight.NoWord fault))
       (block_change_at (if newline then sight.Lone else sight.NoWord fault))
       (if newline then passing 1 else if live then failing fault else passing 1)
       (source_of mid rules definitions blocks line_offset has_text has_directive dead) result new
@@ -103,7 +105,7 @@ module _ (rules : Rules) (definitions : List Defined) (blocks : List OpenBlock)
   bare_makes false false fault block result h = acts_make passes 1 2 unnoted unchanged refl result h
 
   name_makes : (live : Bool) (block : Option BlockFacts) (token : LexerToken) (name : Option Name) (result : Result (Option Token) Halt)
-      → GivesNoted (note_at live (named_directive token name)) (block_change_at (named_directive token name))
+      → DoesMove as_pause (note_at live (named_directive token name)) (block_change_at (named_directive token name))
       (name_move rules live block token name (drop 1 mid.rest))
       (source_of mid rules definitions blocks line_offset has_text has_directive dead) result new
       → StepsBy result (note_at live (named_directive token name)) (block_change_at (named_directive token name))
@@ -112,23 +114,23 @@ module _ (rules : Rules) (definitions : List Defined) (blocks : List OpenBlock)
   name_makes live block token (Some name) result h = directive_makes live block name token.location result h
 
   fail_makes : (fault : Fault) (total : ℕ) (result : Result (Option Token) Halt)
-      → GivesNoted unnoted unchanged (failing fault) (source_of mid rules definitions blocks line_offset has_text has_directive dead) result new
+      → DoesMove as_pause unnoted unchanged (failing fault) (source_of mid rules definitions blocks line_offset has_text has_directive dead) result new
       → StepsBy result unnoted unchanged (record { effect = fails fault; taken = total })
-  fail_makes fault total (Ok given) h = absurd (pause_no_fault given fault h.acts.0)
+  fail_makes fault total (Ok given) h = absurd (pause_no_fault given fault h.0)
   fail_makes fault total (Err (halt.Fault found)) h =
-      inr (fault_makes rules definitions blocks line_offset has_text has_directive dead old mid new found fewer h.acts.1 (fails fault) total unnoted unchanged h.acts.0)
+      inr (fault_makes rules definitions blocks line_offset has_text has_directive dead old mid new found fewer h.1 (fails fault) total unnoted unchanged h.0)
   fail_makes fault total (Err halt.OutOfMemory) h = inl (record { some_left = λ e. absurd (omega (arith, ap length e)); fault = refl })
 
   -- an error of the lexer after it
   error_makes : (fault : Fault) (passed : Bool) (result : Result (Option Token) Halt)
-      → GivesNoted unnoted unchanged (if passed then passing 1 else failing fault)
+      → DoesMove as_pause unnoted unchanged (if passed then passing 1 else failing fault)
       (source_of mid rules definitions blocks line_offset has_text has_directive dead) result new
       → StepsBy result unnoted unchanged (if passed then passing (error_length old.rest) else failing fault)
   error_makes fault true result h = acts_make passes 1 (error_length old.rest) unnoted unchanged two result h
   error_makes fault false result h = fail_makes fault 0 result h
 
   word_makes : (live : Bool) (block : Option BlockFacts) (first : Result LexerToken Fault) (result : Result (Option Token) Halt)
-      → GivesNoted (word_note live first) (word_change first) (word_move rules live block first (drop 1 mid.rest))
+      → DoesMove as_pause (word_note live first) (word_change first) (word_move rules live block first (drop 1 mid.rest))
       (source_of mid rules definitions blocks line_offset has_text has_directive dead) result new
       → StepsBy result (word_note live first) (word_change first) (move_at rules live block (directive_sight first) old.rest)
   word_makes live block (Ok token) result h = name_makes live block token (identifier_of token.value) result h
@@ -184,7 +186,8 @@ module _ (rules : Rules) (definitions : List Defined) (blocks : List OpenBlock)
   step_directive step new v s some acts =
       let made = word_makes rules definitions blocks line_offset has_text has_directive dead old mid new took.rest
       (fewer_after old.rest mid.rest token gave took.rest) (hash_length old.rest mid.rest token gave v s took.rest some) (is_live_among dead blocks) (facts_among blocks)
-      (first_token token.location mid.rest) acts.given acts.gives in
+      (first_token token.location mid.rest) acts.given
+      (skips_move _ _ _ acts.given (source_of mid rules definitions blocks line_offset has_text has_directive dead) acts.mid new acts.gives.acts acts.skips) in
       subst (λ (x : Step Token). StepsSource (source_of old rules definitions blocks line_offset has_text has_directive dead) x new) (sym acts.is)
       (steps_by (step_of acts.given) new (rw (hash_sight token mid.rest v s) made))
 

@@ -14,3 +14,4 @@ pub mod ReadingLines
 pub mod ReadingWords
 pub mod Starting
 pub mod TokenTaking
+pub mod Skipping

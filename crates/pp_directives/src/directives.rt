@@ -1,14 +1,15 @@
 //! The source's reader: directives act, and the tokens between them are given.
 
-ghost use Rattle.std.specs.Prelude.{◌≡◌, ◌-◌, ◌^◌, ◌<◌, ◌&&◌, not, [], length, false, Err, IsTrue, IfOk, None};
-ghost use Rattle.std.specs.Prelude.{pos, ◌+ℤ◌};
+ghost use Rattle.std.specs.Prelude.{◌≡◌, ◌-◌, ◌^◌, ◌<◌, ◌&&◌, not, [], length, false, Ok, Err, IsTrue, IfOk, None};
 ghost use Rattle.std.specs.Str.{chars};
-ghost use Rattle.pp_model.specs.LineValues.{as_line_number};
+ghost use Rattle.pp_model.specs.Numbering.{list_numbering, text_number};
 ghost use Rattle.pp_model.specs.Run.{items_by, content_tokens};
 ghost use Rattle.pp_macros.specs.Held.{HoldsOrdinary};
 ghost use Rattle.pp_directives.specs.inner.PlainText.{IsInText};
 ghost use Rattle.pp_macros.specs.inner.OpenBlocks.{is_live_among};
 ghost use Rattle.pp_directives.specs.inner.SettingContent.{SetsContent};
+ghost use Rattle.pp_directives.specs.inner.Skipping.{SkipsRest};
+ghost use Rattle.pp_macros.specs.inner.LineReading.{Meets};
 ghost use Rattle.pp_macros.specs.inner.Source.{StepsSource, unreported_of};
 ghost use Rattle.pp_directives.specs.inner.SourceActs.{StepsDirective};
 ghost use Rattle.pp_directives.specs.inner.Starting.{source_start};
@@ -20,17 +21,20 @@ mod plain_text;
 
 use crate::content::content_tokens;
 use crate::convert::convert_lexer_token_to_step;
+use crate::lines::pass_rest;
 use crate::source_lexer::SourceLexer;
 use pp_lexer::lexer::{self, Form};
 use pp_lexer::rules::Rules;
-use pp_lexer::token::{Location, PreprocessorError, Text, Token, out_of_memory};
+use pp_lexer::token::{Integer, Location, PreprocessorError, Text, Token, out_of_memory};
 use pp_macros::blocks::Blocks;
+use pp_macros::budget::Budget;
 use pp_macros::define::Define;
 use pp_macros::halt::Halt;
 use pp_macros::macro_processor::SpareCounts;
 use pp_macros::names::Definitions;
 use pp_macros::step::{Step, StepExit};
-use std::alloc::Global;
+use pp_model::numbering::{Numbering, text_number};
+use std::alloc::{AllocError, Global};
 use std::marker::Model;
 
 /// A reader of the source after the lexer, with its directives.
@@ -88,8 +92,24 @@ impl<'a> DirectiveProcessor<'a> {
             has_text: false,
             has_directive: false,
             dead_for_good: false,
-            counts: SpareCounts::none(alloc),
+            counts: SpareCounts::none(alloc, Budget::unbounded()),
         }
+    }
+
+    /// Takes its steps from this budget from now on. The only error is that an allocation failed.
+    pub fn set_budget(&mut self, budget: &Budget) -> Result<(), AllocError>
+        ensures { self.new ≡ self.old }
+    {
+        let of_lines = budget.share()?;
+        let of_words = budget.share()?;
+        self.counts = SpareCounts::none(self.alloc, of_lines);
+        self.lexer.set_budget(of_words);
+        Ok(())
+    }
+
+    /// The place of the item of the source that was read last, on the line of a directive and in dead text too.
+    pub fn reached(&self) -> Location {
+        self.lexer.reached()
     }
 
     /// The definitions that hold now.
@@ -99,12 +119,18 @@ impl<'a> DirectiveProcessor<'a> {
         &self.definitions
     }
 
-    /// The line that `__LINE__` shows for a line of the source, if it fits in 32 bits.
-    pub fn shown_line(&self, line: u32) -> Option<u32>
-        ensures { result ≡ as_line_number (pos line +ℤ self.now.line_offset) }
+    /// The number that `__LINE__` shows for a line of the source, or `None` if it is out of range.
+    pub fn shown_line(&self, line: u32) -> Option<Integer>
+        ensures { result ≡ text_number self.now.rules self.now.line_offset line }
     {
-        let shown = self.line_offset.checked_add(i64::from(line))?;
-        u32::try_from(shown).ok()
+        text_number(self.rules, self.line_offset, line)
+    }
+
+    /// How the lines of an argument or of a directive's line are numbered here.
+    pub fn list_numbering(&self) -> Numbering
+        ensures { result ≡ list_numbering self.now.rules self.now.line_offset }
+    {
+        Numbering::of_list(self.rules, self.line_offset)
     }
 
     /// Takes the place of the lexer's error that was read and not reported yet. The caller reports it now.
@@ -166,7 +192,20 @@ impl<'a> DirectiveProcessor<'a> {
         }
     }
 
-    // A step at a directive, after its number sign.
+    // Skips what is left of the line of a directive with a fault, if the rules say so. The only error is that an
+    // allocation failed.
+    fn skip_faulty_line(&mut self) -> Result<(), Halt>
+        requires { self.old.spent ≡ false }
+        ensures only { Meets (λ t. t) result (Ok tt) }
+        ensures skips { IfOk result (λ done. SkipsRest self.old self.new) }
+    {
+        if self.rules.passes_dead_errors {
+            pass_rest(&mut self.lexer)?;
+        }
+        Ok(())
+    }
+
+    // A step at a directive, after its number sign. After a fault what is left of its line may be skipped.
     fn step_directive(&mut self, hash: Location) -> Step<Token>
         requires { self.old.spent ≡ false }
         ensures reads { StepsDirective hash self.old result self.new }
@@ -174,9 +213,14 @@ impl<'a> DirectiveProcessor<'a> {
         ensures errors { StepReports self.old.rules.passes_dead_errors result
             (unreported_of self.old) (unreported_of self.new) }
     {
-        match self.read_directive(hash)? {
-            Some(item) => Ok(item),
-            None => Err(StepExit::Continue),
+        match self.read_directive(hash) {
+            Ok(Some(item)) => Ok(item),
+            Ok(None) => Err(StepExit::Continue),
+            Err(Halt::OutOfMemory) => Err(StepExit::from(Halt::OutOfMemory)),
+            Err(Halt::Fault(fault)) => {
+                self.skip_faulty_line()?;
+                Err(StepExit::Error(fault))
+            }
         }
     }
 
@@ -201,6 +245,10 @@ impl<'a> DirectiveProcessor<'a> {
             }
             Err(halt) => return Err(StepExit::from(halt)),
         };
+        if self.lexer.is_over_budget() {
+            drop(token);
+            return Err(StepExit::Error(out_of_memory()));
+        }
         match token.value {
             lexer::TokenValue::NewLine => {
                 drop(token);
@@ -229,8 +277,9 @@ impl<'a> DirectiveProcessor<'a> {
     /// `#undef`, `#if`, `#ifdef`, `#ifndef`, `#elif`, `#else`, `#endif` and `#line`. In live text `#version`,
     /// `#extension` and `#pragma` are tokens at their word, which hold the tokens of their line; `#error` is
     /// `ErrorDirective` at its word, and a number sign that begins no line is `UnexpectedHash` at its place. The
-    /// lexer's errors are given as they are, and in dead text passed if the rules say so. At the end `UnfinishedBlock`
-    /// is reported for each block that is open, the innermost first.
+    /// lexer's errors are given as they are, and in dead text passed if the rules say so. After an error of a directive
+    /// what is left of its line is skipped if the rules say so. At the end `UnfinishedBlock` is reported for each block
+    /// that is open, the innermost first.
     #[inline(always)]
     pub fn step(&mut self) -> Step<Token>
         ensures reads { StepsSource self.old result self.new }
@@ -243,6 +292,9 @@ impl<'a> DirectiveProcessor<'a> {
         }
         let Some(word) = self.lexer.peek_word() else {
             return self.step_any();
+        };
+        let Ok(()) = self.lexer.pay() else {
+            return Err(StepExit::Error(out_of_memory()));
         };
         if matches!(word.form, Form::Hash) {
             if !word.start_of_line {

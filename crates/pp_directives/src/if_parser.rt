@@ -13,8 +13,8 @@ use crate::line_words::line_words;
 use crate::token_list::LineReads;
 use pp_lexer::token::Location;
 use pp_macros::halt::Halt;
+use pp_macros::list_lexer::Scope;
 use pp_macros::macro_processor::SpareCounts;
-use pp_macros::names::Definitions;
 use pp_model::line_value::unwanted_word;
 use pp_model::word::{LineKind, Word, Words};
 use std::alloc::{AllocError, Global};
@@ -46,17 +46,17 @@ impl IfParser {
         kind: LineKind,
         directive: Location,
         tokens: LineReads,
-        definitions: &Definitions,
+        scope: &Scope<'_>,
         counts: &mut SpareCounts,
     ) -> Result<IfParser, AllocError>
         requires { AllHoldOrdinary tokens }
-        ensures { IfOk result (IsAtFront kind directive tokens definitions.now) }
+        ensures { IfOk result (IsAtFront kind directive tokens scope.now.numbering scope.now.definitions.now) }
     {
         let levels = expansion_limit();
         Ok(IfParser {
             alloc,
             directive,
-            words: line_words(alloc, kind, directive, tokens, definitions, levels, counts)?,
+            words: line_words(alloc, kind, directive, tokens, scope, levels, counts)?,
         })
     }
 

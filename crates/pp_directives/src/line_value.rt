@@ -2,7 +2,7 @@
 
 ghost use Rattle.std.specs.Prelude.{◌≡◌};
 ghost use Rattle.pp_model.specs.Emitting.{answers_at, expansion_limit};
-ghost use Rattle.pp_model.specs.LineValues.{IsCondition, IsLineNumber, as_line_number};
+ghost use Rattle.pp_model.specs.LineValues.{IsCondition, IsLineNumber};
 ghost use Rattle.pp_macros.specs.inner.Defined.{meaning_of};
 ghost use Rattle.pp_macros.specs.Held.{AllHoldOrdinary};
 ghost use Rattle.pp_macros.specs.inner.Expander.{Satisfies};
@@ -12,8 +12,9 @@ use crate::if_parser::IfParser;
 use crate::token_list::LineReads;
 use pp_lexer::token::{Location, PreprocessorError};
 use pp_macros::halt::Halt;
+use pp_macros::list_lexer::Scope;
 use pp_macros::macro_processor::SpareCounts;
-use pp_macros::names::Definitions;
+use pp_model::numbering::as_line_number;
 use pp_model::word::LineKind;
 use std::alloc::{AllocError, Global};
 
@@ -25,21 +26,14 @@ pub fn condition(
     alloc: Global,
     directive: Location,
     tokens: LineReads,
-    definitions: &Definitions,
+    scope: &Scope<'_>,
     counts: &mut SpareCounts,
 ) -> Result<bool, Halt>
     requires { AllHoldOrdinary tokens }
     ensures { Satisfies result (IsCondition (answers_at expansion_limit) directive tokens
-        (meaning_of definitions.now)) }
+        scope.now.numbering (meaning_of scope.now.definitions.now)) }
 {
-    let mut parser = IfParser::new(
-        alloc,
-        LineKind::Condition,
-        directive,
-        tokens,
-        definitions,
-        counts,
-    )?;
+    let mut parser = IfParser::new(alloc, LineKind::Condition, directive, tokens, scope, counts)?;
     let value = parser.evaluate_line()?;
     Ok(value != 0)
 }
@@ -77,13 +71,6 @@ impl From<Halt> for LineHalt {
     }
 }
 
-// The value as the number of a line.
-fn as_line_number(value: i64) -> Option<u32>
-    ensures { result ≡ as_line_number value }
-{
-    u32::try_from(value).ok()
-}
-
 /// The line number of a `#line`, or its first fault with any number that comes before it.
 ///
 /// `directive` is the place of the directive's word, and `tokens` are those after it. The error is
@@ -92,19 +79,19 @@ pub fn line_number(
     alloc: Global,
     directive: Location,
     tokens: LineReads,
-    definitions: &Definitions,
+    scope: &Scope<'_>,
     counts: &mut SpareCounts,
 ) -> Result<u32, LineHalt>
     requires { AllHoldOrdinary tokens }
     ensures { Satisfies (without_number result) (IsLineNumber (answers_at expansion_limit) directive tokens
-        (meaning_of definitions.now)) }
+        scope.now.numbering (meaning_of scope.now.definitions.now)) }
 {
     let mut parser = IfParser::new(
         alloc,
         LineKind::LineNumber,
         directive,
         tokens,
-        definitions,
+        scope,
         counts,
     )?;
     let value = parser.evaluate_expression()?;

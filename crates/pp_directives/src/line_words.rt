@@ -15,10 +15,9 @@ use pp_lexer::token::{Location, PreprocessorError, Text, Token, TokenValue};
 use pp_macros::arguments::finish_call;
 use pp_macros::calls::Taken;
 use pp_macros::halt::{Halt, halt_of};
-use pp_macros::list_lexer::ListLexer;
+use pp_macros::list_lexer::{ListLexer, Scope};
 use pp_macros::list_step::{step_list, take_list};
 use pp_macros::macro_processor::{MacroProcessor, SpareCounts};
-use pp_macros::names::Definitions;
 use pp_macros::step::StepExit;
 use pp_model::outcome::Fault;
 use pp_model::parentheses::{is_left_paren, is_right_paren};
@@ -33,14 +32,14 @@ struct LineExpander<'a> {
     lexer: ListLexer<'a>,
 }
 
-// The reader of a line's words: the kind of the line, the place of its directive, the definitions there, and how many
+// The reader of a line's words: the kind of the line, the place of its directive, what holds there, and how many
 // levels deep arguments may be read inside each other.
 #[derive(Drop)]
 struct WordReader<'a> {
     alloc: Global,
     kind: LineKind,
     directive: Location,
-    definitions: &'a Definitions,
+    scope: Scope<'a>,
     levels: u32,
 }
 
@@ -84,7 +83,7 @@ impl<'a> WordReader<'a> {
                     self.alloc,
                     &mut line.expander,
                     call,
-                    self.definitions,
+                    &self.scope,
                     self.levels,
                 )?,
                 Err(StepExit::Continue) => {}
@@ -110,9 +109,9 @@ impl<'a> WordReader<'a> {
 
     // Whether the name is defined.
     fn is_defined(&self, name: &Text) -> bool
-        ensures { result ≡ is_some (meaning_of self.now.definitions.now name.now) }
+        ensures { result ≡ is_some (meaning_of self.now.scope.definitions.now name.now) }
     {
-        self.definitions.get(name.as_str()).is_some()
+        self.scope.definitions.get(name.as_str()).is_some()
     }
 
     // The fault of an item where `defined` needs its operand or a parenthesis.
@@ -219,18 +218,15 @@ impl<'a> WordReader<'a> {
     fn words_of_line(
         &self,
         tokens: LineReads,
-        definitions: &Definitions,
         counts: &mut SpareCounts,
     ) -> Result<Words, AllocError>
-        requires holds { AllHoldOrdinary tokens }
-        requires same { self.now.definitions.now ≡ definitions.now }
-        ensures { IfOk result
-            (AreWordsOfLine self.now.kind self.now.directive self.now.levels tokens
-            definitions.now) }
+        requires { AllHoldOrdinary tokens }
+        ensures { IfOk result (AreWordsOfLine self.now.kind self.now.directive self.now.levels tokens
+            self.now.scope.numbering self.now.scope.definitions.now) }
     {
         let expander = MacroProcessor::with_counts(self.alloc, counts.take(self.alloc));
         let mut reads = tokens.into_reads();
-        let lexer = ListLexer::line(&mut reads, definitions);
+        let lexer = ListLexer::line(&mut reads, self.scope);
         let mut line = LineExpander { expander, lexer };
         let words = self.read_words(&mut line);
         *counts = close_line(line);
@@ -244,19 +240,20 @@ pub fn line_words(
     kind: LineKind,
     directive: Location,
     tokens: LineReads,
-    definitions: &Definitions,
+    scope: &Scope<'_>,
     levels: u32,
     counts: &mut SpareCounts,
 ) -> Result<Words, AllocError>
     requires { AllHoldOrdinary tokens }
-    ensures { IfOk result (AreWordsOfLine kind directive levels tokens definitions.now) }
+    ensures { IfOk result (AreWordsOfLine kind directive levels tokens scope.now.numbering
+        scope.now.definitions.now) }
 {
     let reader = WordReader {
         alloc,
         kind,
         directive,
-        definitions,
+        scope: *scope,
         levels,
     };
-    reader.words_of_line(tokens, definitions, counts)
+    reader.words_of_line(tokens, counts)
 }

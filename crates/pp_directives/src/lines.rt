@@ -13,6 +13,7 @@ ghost use Rattle.pp_macros.specs.inner.LineReading as spec;
 ghost use Rattle.pp_directives.specs.inner.ReadNames.{as_named, as_placed};
 ghost use Rattle.pp_directives.specs.inner.ReadingLines.{AreOrdinary, first_free_name, ReadsPart, ReadsNext};
 ghost use Rattle.pp_directives.specs.inner.ReadingLines.{ReadsLine, ReadsBy, ReadsTokens};
+ghost use Rattle.pp_directives.specs.inner.Skipping.{PassesRest};
 ghost use Rattle.pp_macros.specs.inner.ParameterReading.{function_at};
 
 use crate::parameters::parameters;
@@ -84,6 +85,9 @@ pub fn ended_line(word: Location, lexer: &mut SourceLexer<'_>) -> Result<(), Hal
     requires { lexer.old.spent ≡ false }
     ensures { ReadsNext (λ t. t) (ended_line word) lexer.old result lexer.new }
 {
+    if lexer.pass_newline() {
+        return Ok(());
+    }
     let token = first_token(word, lexer)?;
     match token.value {
         lexer::TokenValue::NewLine => Ok(()),
@@ -139,6 +143,22 @@ fn pass_line(lexer: &mut SourceLexer<'_>) -> Result<(), Halt>
     ensures { ReadsBy true (spec.passed_line true) lexer.old result lexer.new }
 {
     'line: while pass_item(lexer)? {}
+    Ok(())
+}
+
+/// Passes the rest of the line, and the errors of the lexer on it, unless the line is over. The place of an error that
+/// was read before is kept. The only error is that an allocation failed.
+pub fn pass_rest(lexer: &mut SourceLexer<'_>) -> Result<(), Halt>
+    requires { lexer.old.spent ≡ false }
+    ensures only { spec.Meets (λ t. t) result (Ok tt) }
+    ensures passes { IfOk result (λ done. PassesRest lexer.old lexer.new) }
+{
+    if lexer.is_line_over() {
+        return Ok(());
+    }
+    let place = lexer.take_error_place();
+    pass_line(lexer)?;
+    lexer.put_error_place(place);
     Ok(())
 }
 

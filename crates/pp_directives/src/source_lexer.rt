@@ -6,6 +6,7 @@ ghost use Rattle.pp_lexer.specs.Spots.{spots_of};
 ghost use Rattle.pp_lexer.specs.declared.lexer.plain.Form.TheVariants.{Hash};
 ghost use Rattle.pp_directives.specs.inner.PlainText.{IsPeeked, PassesBlanks, PassesWord, TakesWordToken};
 ghost use Rattle.pp_directives.specs.inner.PlainText.{PassesNewline};
+ghost use Rattle.pp_directives.specs.inner.Skipping.{IsOver};
 ghost use Rattle.pp_directives.specs.inner.TokenTaking.{TakesToken};
 ghost use Rattle.pp_macros.specs.inner.SourceLexed.{beginning};
 
@@ -13,6 +14,7 @@ use crate::convert::word_token;
 use pp_lexer::lexer::{self, Lexer, PlainItem};
 use pp_lexer::rules::Rules;
 use pp_lexer::token::{Location, Token};
+use pp_macros::budget::Budget;
 use pp_macros::halt::Halt;
 use pp_macros::step::is_out_of_memory;
 use std::alloc::{AllocError, Global};
@@ -23,6 +25,7 @@ use std::marker::Model;
 pub struct SourceLexer<'a> {
     lexer: Lexer<'a>,
     error_place: Option<Location>,
+    budget: Budget,
 }
 
 impl<'a> Model for SourceLexer<'a> {
@@ -57,7 +60,26 @@ impl<'a> SourceLexer<'a> {
         SourceLexer {
             lexer: Lexer::with_rules(alloc, input, rules),
             error_place: None,
+            budget: Budget::unbounded(),
         }
+    }
+
+    /// Takes its steps from this budget from now on.
+    pub fn set_budget(&mut self, budget: Budget)
+        ensures { self.new ≡ self.old }
+    {
+        self.budget = budget;
+    }
+
+    /// Whether more steps were needed than there were.
+    pub fn is_over_budget(&self) -> bool {
+        self.budget.is_over()
+    }
+
+    /// Pays for a word. It fails if no step is left.
+    #[inline(always)]
+    pub fn pay(&self) -> Result<(), AllocError> {
+        self.budget.pay(1)
     }
 
     /// Whether an allocation failed.
@@ -83,6 +105,25 @@ impl<'a> SourceLexer<'a> {
         let place = self.error_place;
         self.error_place = None;
         place
+    }
+
+    /// Keeps this place as that of an error that was read and not reported yet.
+    pub fn put_error_place(&mut self, place: Option<Location>)
+        ensures { self.new ≡ record self.old { error_place = place } }
+    {
+        self.error_place = place;
+    }
+
+    /// The place of the item that was read last, or `NOWHERE` before the first.
+    pub fn reached(&self) -> Location {
+        self.lexer.place()
+    }
+
+    /// Whether the line is over: the item that was read last was a newline, or none was read.
+    pub fn is_line_over(&self) -> bool
+        ensures { IsOver result self.now.rest }
+    {
+        self.lexer.is_line_over()
     }
 
     /// The next token before memory is taken for it, if it is a word of plain text. It isn't taken.
@@ -130,14 +171,17 @@ impl<'a> SourceLexer<'a> {
         self.lexer.pass_newline()
     }
 
-    /// The next token, or nothing at the end.
+    /// The next token, or nothing at the end. If no step is left to pay for it, the next step of the source fails.
     pub fn next_token(&mut self) -> Result<Option<lexer::Token>, Halt>
         requires { self.old.spent ≡ false }
         ensures { TakesToken self.old result self.new }
     {
         match self.lexer.next() {
             None => Ok(None),
-            Some(Ok(token)) => Ok(Some(token)),
+            Some(Ok(token)) => {
+                drop(self.pay());
+                Ok(Some(token))
+            }
             Some(Err(error)) => {
                 if is_out_of_memory(&error.0) {
                     drop(error);

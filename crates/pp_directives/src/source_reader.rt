@@ -3,11 +3,11 @@
 ghost use Rattle.pp_macros.specs.inner.Reader.{of_source};
 
 use crate::directives::DirectiveProcessor;
-use pp_lexer::token::{Location, PreprocessorError};
+use pp_lexer::token::Integer;
 use pp_macros::define::Macro;
 use pp_macros::names::NameId;
 use pp_macros::reader::MeLexer;
-use pp_macros::step::{Step, StepExit};
+use pp_macros::step::Step;
 use pp_model::read::Read;
 use std::alloc::AllocError;
 use std::rc::Rc;
@@ -42,10 +42,7 @@ impl<'a> MeLexer for DirectiveProcessor<'a> {
         self.definitions().get_define(id)
     }
 
-    fn apply_line_offset(&self, line: u32, location: Location) -> Step<u32> {
-        match self.shown_line(line) {
-            Some(shown) => Ok(shown),
-            None => Err(StepExit::Error((PreprocessorError::LineOverflow, location))),
-        }
+    fn shown_line(&self, line: u32) -> Option<Integer> {
+        DirectiveProcessor::shown_line(self, line)
     }
 }

@@ -11,3 +11,4 @@ pub mod PlacesLemmas
 pub mod TokenLinesLemmas
 pub mod CountLemmas
 pub mod NextWordLemmas
+pub mod LineStartLemmas

@@ -11,6 +11,7 @@ pp_rs = record {
   passes_dead_errors = false;
   keeps_own_names = false;
   numbers_next_line = false;
+  numbers_as_int = false;
 }
 
 -- The first version by which the line after a `#line n` has the number n (GLSL 3.30 and GLSL ES 3.00, section 3.3 and
@@ -28,4 +29,5 @@ glsl version profile = record {
   passes_dead_errors = true;
   keeps_own_names = true;
   numbers_next_line = nat_le (numbered_from profile) version;
+  numbers_as_int = true;
 }

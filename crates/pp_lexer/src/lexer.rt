@@ -4,7 +4,7 @@
 //! and 7, each with its line. [`Lexer`] gives the tokens. The rules are those of docs/RULES.md, Characters and Tokens.
 
 ghost use Rattle.std.specs.Prelude.{◌≡◌, ◌-◌, ◌^◌, ◌<◌, ◌+◌, ◌↔◌, length, Ok, Some, true, false, if◌then◌else◌, ⊤};
-ghost use Rattle.std.specs.Prelude.{IsSome, IfSome, MatchOption};
+ghost use Rattle.std.specs.Prelude.{IsSome, IfSome, IfOk, MatchOption, []};
 ghost use Rattle.std.specs.Iterator.{at_most};
 ghost use Rattle.pp_lexer.specs.declared.rules.Rules.{Rules};
 ghost use Rattle.pp_lexer.specs.Reading.{first_char};
@@ -454,6 +454,16 @@ impl<'a> Lexer<'a> {
         ensures { result ≡ self.now.place }
     {
         self.state.place
+    }
+
+    /// Returns whether the item that `next` returned last was a newline, or it returned none yet. Then the next token
+    /// is the first of its line.
+    pub fn is_line_over(&self) -> bool
+        ensures next { IfSome (first_item self.now.rest)
+            (λ item. IfOk item (λ token. token.start_of_line ≡ result)) }
+        ensures end { self.now.rest ≡ [] → result ≡ true }
+    {
+        self.state.flags.start_of_line
     }
 
     /// Returns whether an allocation failed. Then `next` returns `None`.

@@ -23,12 +23,16 @@ pub struct Rules {
     pub(crate) takes_widths: bool,
     // Whether a bad character takes itself alone. Otherwise it takes up to two more.
     pub(crate) takes_one_bad_character: bool,
-    /// Whether an error of the lexer in dead text, or on a line that is skipped, is passed. Otherwise it is given.
+    /// Whether an error of the lexer in dead text, or on a line that is skipped, is passed, and what is left of a
+    /// directive's line after a fault on it is skipped. Otherwise the error is given, and that line is read on.
     pub passes_dead_errors: bool,
     /// Whether `#define` and `#undef` refuse the names that the language keeps for itself.
     pub keeps_own_names: bool,
     /// Whether the line after a `#line n` has the number n. Otherwise it has n + 1.
     pub numbers_next_line: bool,
+    /// Whether `__LINE__` is an `int` that follows `#line` wherever it stands. Otherwise it is a `uint`, and follows
+    /// `#line` outside of arguments and of directives' lines.
+    pub numbers_as_int: bool,
 }
 
 // The first version by which the line after a `#line n` has the number n.
@@ -49,6 +53,7 @@ impl Rules {
         passes_dead_errors: false,
         keeps_own_names: false,
         numbers_next_line: false,
+        numbers_as_int: false,
     };
 
     /// Returns GLSL's rules for a version, by its number in `#version`: 450, or 310 with [`Profile::Es`].
@@ -62,6 +67,8 @@ impl Rules {
     /// - `#define` and `#undef` of `defined`, of `__LINE__`, `__FILE__` and `__VERSION__`, and of a name that begins
     ///   with `GL_` are an [`UnexpectedToken`](crate::token::PreprocessorError::UnexpectedToken) at the name.
     /// - The line after a `#line n` has the number n from 3.30 and from ES 3.00 on, and before n + 1.
+    /// - `__LINE__` is an `int`, and follows `#line` in arguments and on directives' lines too (section 3.4).
+    /// - After an `#error`, an unknown directive or a fault on a directive's line, what is left of the line is skipped.
     pub fn glsl(version: u64, profile: Profile) -> Rules
         ensures { result ≡ glsl version profile }
     {
@@ -71,6 +78,7 @@ impl Rules {
             passes_dead_errors: true,
             keeps_own_names: true,
             numbers_next_line: numbered_from(profile) <= version,
+            numbers_as_int: true,
         }
     }
 }

@@ -1,6 +1,6 @@
 -- The errors of the lexer in a source, each with its true place. An error item itself says (0, 0, line 1)
 -- (docs/RULES.md, Tokens 7).
-use Rattle.std.specs.Prelude.{ℕ, List, [], ◌∷◌, Ok, Err}
+use Rattle.std.specs.Prelude.{◌≡◌, ℕ, Bool, true, false, List, [], ◌∷◌, Ok, Err}
 use Rattle.pp_lexer.specs.Items.{Lexeme, places_by}
 use Rattle.pp_lexer.specs.Lexed.{Seen}
 use Rattle.pp_lexer.specs.Rules.{pp_rs}
@@ -33,3 +33,22 @@ lexer_errors_by rules text = errors_among (items_by rules text) (places_by rules
 -- the same by pp-rs's rules
 abbrev pub lexer_errors : List ℕ → List ErrorAt
 lexer_errors text = lexer_errors_by pp_rs text
+
+-- These are left of the errors before: some may be passed, and the others stay in their order.
+pub data AreLeft : List ErrorAt → List ErrorAt → Type 0 where
+  none : (before after : List ErrorAt) → before ≡ [] → after ≡ [] → AreLeft before after
+  kept : (error : ErrorAt) (before ones after others : List ErrorAt)
+      → before ≡ error ∷ ones
+      → after ≡ error ∷ others
+      → AreLeft ones others
+      → AreLeft before after
+  passed : (error : ErrorAt) (before ones after : List ErrorAt)
+      → before ≡ error ∷ ones
+      → AreLeft ones after
+      → AreLeft before after
+
+-- These errors of the lexer are left of those before. If the rules pass errors in dead text and on lines that are
+-- skipped, some may be gone; otherwise none is.
+abbrev pub PassesErrors : Bool → List ErrorAt → List ErrorAt → Type 0
+PassesErrors false before after = after ≡ before
+PassesErrors true before after = AreLeft before after

@@ -17,7 +17,7 @@ ghost use Rattle.pp_macros.specs.declared.step.StepExit.TheVariants.{Error};
 use crate::argument_lists::{ArgumentLists, Part};
 use crate::calls::{MacroCall, Taken};
 use crate::halt::{Halt, halt_of};
-use crate::list_lexer::{ListLexer, take_out};
+use crate::list_lexer::{ListLexer, Scope, take_out};
 use crate::list_step::{is_plain, step_list};
 use crate::macro_processor::MacroProcessor;
 use crate::names::Definitions;
@@ -87,16 +87,16 @@ pub fn finish_call(
     alloc: Global,
     processor: &mut MacroProcessor,
     mut call: MacroCall,
-    definitions: &Definitions,
+    scope: &Scope<'_>,
     levels: u32,
 ) -> Result<(), Halt>
     requires free { processor.old.here.held ≡ None }
-    requires known { AreKnown (names_in definitions.now) processor.old }
-    ensures finishes { Finishes levels definitions.now (names_of processor.old.below) call processor.old.here result
-        processor.new.here }
+    requires known { AreKnown (names_in scope.now.definitions.now) processor.old }
+    ensures finishes { Finishes levels scope.now.numbering scope.now.definitions.now (names_of processor.old.below) call
+        processor.old.here result processor.new.here }
     ensures below { processor.new.below ≡ processor.old.below }
 {
-    let expanded = expand_call(alloc, &mut *processor, &mut call, definitions, levels)?;
+    let expanded = expand_call(alloc, &mut *processor, &mut call, scope, levels)?;
     processor.open_call(call, expanded)?;
     Ok(())
 }
@@ -107,15 +107,15 @@ fn expand_call(
     alloc: Global,
     processor: &mut MacroProcessor,
     call: &mut MacroCall,
-    definitions: &Definitions,
+    scope: &Scope<'_>,
     levels: u32,
 ) -> Result<ArgumentLists, Halt>
     requires free { processor.old.here.held ≡ None }
-    requires known { AreKnown (names_in definitions.now) processor.old }
+    requires known { AreKnown (names_in scope.now.definitions.now) processor.old }
     ensures same { processor.new ≡ processor.old }
     ensures answers { Satisfies result (λ out. answers_at levels call.old.opened.definition
-        (site_at call.old definitions.now (open_names processor.old)) out) }
-    ensures least { IfOk result (λ outs. AreOfCall levels definitions.now call.old outs) }
+        (site_at call.old scope.now.numbering scope.now.definitions.now (open_names processor.old)) out) }
+    ensures least { IfOk result (λ outs. AreOfCall levels scope.now.definitions.now call.old outs) }
     ensures left { call.new ≡ record call.old { tokens = [] } }
 {
     let arguments = arguments_of(&mut *processor, call.take_tokens(alloc))?;
@@ -126,7 +126,7 @@ fn expand_call(
     if levels == 0 {
         return Err(Halt::Fault((PreprocessorError::RecursionLimitReached, call.paren())));
     }
-    expand_arguments(alloc, processor, arguments, definitions, levels - 1)
+    expand_arguments(alloc, processor, arguments, scope, levels - 1)
 }
 
 // The arguments, each expanded alone, or the first fault.
@@ -135,26 +135,21 @@ fn expand_arguments(
     alloc: Global,
     processor: &mut MacroProcessor,
     arguments: ArgumentLists,
-    definitions: &Definitions,
+    scope: &Scope<'_>,
     levels: u32,
 ) -> Result<ArgumentLists, Halt>
     requires free { processor.old.here.held ≡ None }
-    requires known { AreKnown (names_in definitions.now) processor.old }
+    requires known { AreKnown (names_in scope.now.definitions.now) processor.old }
     ensures same { processor.new ≡ processor.old }
-    ensures expands { Satisfies result (ExpandsEach levels definitions.now (open_names processor.old) arguments) }
+    ensures expands { Satisfies result (ExpandsEach levels scope.now.numbering scope.now.definitions.now
+        (open_names processor.old) arguments) }
 {
     let (mut tokens, parts) = arguments.into_parts();
-    if are_plain(&tokens, definitions, &*processor) {
+    processor.pay(tokens.len())?;
+    if are_plain(&tokens, scope.definitions, &*processor) {
         return Ok(ArgumentLists::new(tokens, parts));
     }
-    let expanded = expand_parts(
-        alloc,
-        &mut *processor,
-        &mut tokens,
-        &parts,
-        definitions,
-        levels,
-    );
+    let expanded = expand_parts(alloc, &mut *processor, &mut tokens, &parts, scope, levels);
     processor.keep_lists(tokens, parts);
     expanded
 }
@@ -166,30 +161,23 @@ fn expand_parts(
     processor: &mut MacroProcessor,
     tokens: &mut [Read],
     parts: &[Part],
-    definitions: &Definitions,
+    scope: &Scope<'_>,
     levels: u32,
 ) -> Result<ArgumentLists, Halt>
     requires holds { AllReadOrdinary tokens.old }
     requires order { AreInOrder 0 parts.now (length tokens.old) }
     requires free { processor.old.here.held ≡ None }
-    requires known { AreKnown (names_in definitions.now) processor.old }
+    requires known { AreKnown (names_in scope.now.definitions.now) processor.old }
     ensures same { processor.new ≡ processor.old }
-    ensures expands { Satisfies result (ExpandsEach levels definitions.now (open_names processor.old)
-        (lists_of tokens.old parts.now)) }
+    ensures expands { Satisfies result (ExpandsEach levels scope.now.numbering scope.now.definitions.now
+        (open_names processor.old) (lists_of tokens.old parts.now)) }
 {
     let mut items = processor.take_tokens(tokens.len())?;
     let mut expanded = processor.take_parts(parts.len())?;
     for part in parts {
         let start = items.len();
         let argument = &mut tokens[part.start..part.end];
-        expand_argument(
-            alloc,
-            &mut *processor,
-            argument,
-            &mut items,
-            definitions,
-            levels,
-        )?;
+        expand_argument(alloc, &mut *processor, argument, &mut items, scope, levels)?;
         expanded.push(Part {
             start,
             end: items.len(),
@@ -225,31 +213,24 @@ fn expand_argument(
     processor: &mut MacroProcessor,
     tokens: &mut [Read],
     items: &mut Vec<Read>,
-    definitions: &Definitions,
+    scope: &Scope<'_>,
     levels: u32,
 ) -> Result<(), Halt>
     requires ordinary { AllReadOrdinary tokens.old }
     requires before { AllReadOrdinary items.old.items }
     requires free { processor.old.here.held ≡ None }
-    requires known { AreKnown (names_in definitions.now) processor.old }
+    requires known { AreKnown (names_in scope.now.definitions.now) processor.old }
     ensures same { processor.new ≡ processor.old }
-    ensures expands { Satisfies result (ExpandsOnto levels definitions.now (open_names processor.old) tokens.old
-        items.old.items items.new.items) }
+    ensures expands { Satisfies result (ExpandsOnto levels scope.now.numbering scope.now.definitions.now
+        (open_names processor.old) tokens.old items.old.items items.new.items) }
 {
-    if are_plain(&*tokens, definitions, &*processor) {
+    if are_plain(&*tokens, scope.definitions, &*processor) {
         append(tokens, items)?;
         return Ok(());
     }
     let around = processor.nest();
-    let mut lexer = ListLexer::argument(tokens, definitions);
-    let ended = expand_list(
-        alloc,
-        &mut *processor,
-        &mut lexer,
-        items,
-        definitions,
-        levels,
-    );
+    let mut lexer = ListLexer::argument(tokens, *scope);
+    let ended = expand_list(alloc, &mut *processor, &mut lexer, items, scope, levels);
     drop(lexer);
     processor.unnest(around);
     ended
@@ -262,24 +243,23 @@ fn expand_list(
     processor: &mut MacroProcessor,
     lexer: &mut ListLexer<'_>,
     items: &mut Vec<Read>,
-    definitions: &Definitions,
+    scope: &Scope<'_>,
     levels: u32,
 ) -> Result<(), Halt>
-    requires start { IsAtStart definitions.now (names_of processor.old.below) processor.old.here
-        (listed_in processor.old.below lexer.old) }
+    requires start { IsAtStart scope.now.numbering scope.now.definitions.now (names_of processor.old.below)
+        processor.old.here (listed_in processor.old.below lexer.old) }
     requires before { AllReadOrdinary items.old.items }
-    requires known { AreKnown (names_in definitions.now) processor.old }
+    requires known { AreKnown (names_in scope.now.definitions.now) processor.old }
     ensures below { processor.new.below ≡ processor.old.below }
-    ensures expands { Satisfies result (ExpandsOnto levels definitions.now (names_of processor.old.below)
-        lexer.old.tokens items.old.items items.new.items) }
+    ensures expands { Satisfies result (ExpandsOnto levels scope.now.numbering scope.now.definitions.now
+        (names_of processor.old.below) lexer.old.tokens items.old.items items.new.items) }
 {
     'items: loop {
+        processor.pay(1)?;
         processor.give_frames(&*lexer, items)?;
         match step_list(&mut *processor, &mut *lexer) {
             Ok(Taken::Token(read)) => items.push(read)?,
-            Ok(Taken::Call(call)) => {
-                finish_call(alloc, &mut *processor, call, definitions, levels)?
-            }
+            Ok(Taken::Call(call)) => { finish_call(alloc, &mut *processor, call, scope, levels)? }
             Err(StepExit::Continue) => {}
             Err(StepExit::Finished) => return Ok(()),
             Err(StepExit::Error(fault)) => return Err(halt_of(fault)),

@@ -262,6 +262,7 @@ impl MacroProcessor {
         }
         let start = tokens.len();
         let found = lexer.push_flat(tokens)?;
+        self.pay(tokens.len().saturating_sub(start))?;
         self.paint_from(&*lexer, tokens, start);
         if found {
             return Ok(());

@@ -4,6 +4,7 @@
 pub mod argument_lists;
 pub mod arguments;
 pub mod blocks;
+pub mod budget;
 pub mod calls;
 pub mod define;
 pub mod frames;

@@ -9,8 +9,9 @@ use crate::define::Macro;
 use crate::names::{Definitions, NameId};
 use crate::reader::{MeLexer, ends_at_parenthesis};
 use crate::step::{Step, StepExit};
-use pp_lexer::token::{Location, NOWHERE, Punct, Token, TokenValue};
+use pp_lexer::token::{Integer, NOWHERE, Punct, Token, TokenValue};
 use pp_model::names::{is_defined_name, is_line_name};
+use pp_model::numbering::Numbering;
 use pp_model::read::Read;
 use std::alloc::AllocError;
 use std::marker::Model;
@@ -29,12 +30,21 @@ pub fn take_out(place: &mut Read) -> Read
     mem::replace(place, Read::unpainted(nothing))
 }
 
-/// A list of tokens, with the definitions there. Tokens that it has read are moved out of the list.
+/// What holds for the tokens of a list.
+#[derive(Clone, Copy)]
+pub struct Scope<'a> {
+    /// How their lines are numbered.
+    pub numbering: Numbering,
+    /// The definitions there.
+    pub definitions: &'a Definitions,
+}
+
+/// A list of tokens, and what holds for them. Tokens that it has read are moved out of the list.
 #[derive(Drop)]
 pub struct ListLexer<'a> {
     tokens: &'a mut [Read],
     position: usize,
-    definitions: &'a Definitions,
+    scope: Scope<'a>,
     is_line: bool,
 }
 
@@ -47,7 +57,8 @@ impl<'a> Model for ListLexer<'a> {
 
     ghost view = { λ l. record {
       tokens = drop l.position l.tokens.now;
-      definitions = l.definitions.now;
+      numbering = l.scope.numbering;
+      definitions = l.scope.definitions.now;
       hidden = [];
       is_line = l.is_line;
     } };
@@ -57,11 +68,12 @@ impl<'a> Model for ListLexer<'a> {
 
 impl<'a> ListLexer<'a> {
     /// An argument of a call.
-    pub fn argument(tokens: &'a mut [Read], definitions: &'a Definitions) -> Self
+    pub fn argument(tokens: &'a mut [Read], scope: Scope<'a>) -> Self
         requires { AllReadOrdinary tokens.old }
         ensures { result ≡ record {
           tokens = tokens.old;
-          definitions = definitions.now;
+          numbering = scope.entry.numbering;
+          definitions = scope.entry.definitions.now;
           hidden = [];
           is_line = false;
         } }
@@ -69,17 +81,18 @@ impl<'a> ListLexer<'a> {
         ListLexer {
             tokens,
             position: 0,
-            definitions,
+            scope,
             is_line: false,
         }
     }
 
     /// The line of an `#if`, `#elif` or `#line`, in which `defined` is reserved.
-    pub fn line(tokens: &'a mut [Read], definitions: &'a Definitions) -> Self
+    pub fn line(tokens: &'a mut [Read], scope: Scope<'a>) -> Self
         requires { AllReadOrdinary tokens.old }
         ensures { result ≡ record {
           tokens = tokens.old;
-          definitions = definitions.now;
+          numbering = scope.entry.numbering;
+          definitions = scope.entry.definitions.now;
           hidden = [];
           is_line = true;
         } }
@@ -87,7 +100,7 @@ impl<'a> ListLexer<'a> {
         ListLexer {
             tokens,
             position: 0,
-            definitions,
+            scope,
             is_line: true,
         }
     }
@@ -97,7 +110,7 @@ impl<'a> ListLexer<'a> {
     pub fn definitions(&self) -> &Definitions
         ensures { result.now ≡ self.now.definitions }
     {
-        self.definitions
+        self.scope.definitions
     }
 
     /// The next token.
@@ -147,18 +160,18 @@ impl<'a> MeLexer for ListLexer<'a> {
     }
 
     fn find(&self, name: &str) -> Option<NameId> {
-        self.definitions.find(name)
+        self.scope.definitions.find(name)
     }
 
     fn get_define(&self, id: NameId) -> Option<&Rc<Macro>> {
-        let found = self.definitions.get_define(id)?;
+        let found = self.scope.definitions.get_define(id)?;
         if self.is_line && is_defined_name(found.name()) {
             return None;
         }
         Some(found)
     }
 
-    fn apply_line_offset(&self, line: u32, _location: Location) -> Step<u32> {
-        Ok(line)
+    fn shown_line(&self, line: u32) -> Option<Integer> {
+        Some(self.scope.numbering.number_of(line))
     }
 }

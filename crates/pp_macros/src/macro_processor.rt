@@ -24,6 +24,7 @@ ghost use Rattle.pp_macros.specs.inner.Expander.{step_of_outcome, taken_as};
 ghost use Rattle.pp_macros.specs.inner.Turns.{Moves};
 
 use crate::argument_lists::{ArgumentLists, Part};
+use crate::budget::Budget;
 use crate::calls::MacroCall;
 use crate::define::Macro;
 use crate::frames::{Ahead, Frame};
@@ -31,7 +32,7 @@ use crate::names::NameId;
 use crate::reader::{MeLexer, number_of};
 use crate::spares::Spares;
 use crate::step::{Step, StepExit};
-use pp_lexer::token::{Integer, Location, Token, TokenValue};
+use pp_lexer::token::{Integer, Location, PreprocessorError, Token, TokenValue};
 use pp_model::names::is_line_name;
 use pp_model::read::Read;
 use std::alloc::{AllocError, Global};
@@ -39,10 +40,11 @@ use std::marker::Model;
 use std::mem;
 use std::rc::Rc;
 
-/// The counts of a processor in which no macro is open, with their room: those of one line serve the next.
+/// What a processor in which no macro is open leaves to the next one: its counts, with their room, and the budget.
 #[derive(Drop)]
 pub struct SpareCounts {
     counts: Vec<usize>,
+    budget: Budget,
 }
 
 impl Model for SpareCounts {
@@ -58,15 +60,16 @@ impl Model for SpareCounts {
 
 impl SpareCounts {
     /// No counts. It allocates nothing.
-    pub fn none(alloc: Global) -> SpareCounts {
+    pub fn none(alloc: Global, budget: Budget) -> SpareCounts {
         SpareCounts {
             counts: Vec::new(alloc),
+            budget,
         }
     }
 
     /// Takes them out.
     pub fn take(&mut self, alloc: Global) -> SpareCounts {
-        mem::replace(self, SpareCounts::none(alloc))
+        mem::replace(self, SpareCounts::none(alloc, Budget::unbounded()))
     }
 }
 
@@ -84,6 +87,7 @@ pub struct MacroProcessor {
     // by number, how many of the frames have it; past the end none has
     counts: Vec<usize>,
     spares: Spares,
+    budget: Budget,
 }
 
 impl Model for MacroProcessor {
@@ -139,24 +143,17 @@ fn keep_lists(spares: &mut Spares, frame: Frame) {
     spares.keep_parts(parts);
 }
 
-/// A line number as an unsigned integer at this place.
-pub fn make_line_number(line: u32, location: Location) -> Token
-    ensures { result ≡ record {
-      value = value.Integer (record {
-        value = line;
-        signed = false;
-        width = pos 32;
-      });
-      location = location;
-    } }
+/// The number of a line as a token at this place, or `LineOverflow` there if it is out of range.
+pub fn line_number(location: Location, number: Option<Integer>) -> Step<Read>
+    ensures shows { result ≡ step_of_outcome (line_number location number) }
+    ensures holds { IfOk result (λ read. HoldsOrdinary read.token.value) }
 {
-    Token {
-        value: TokenValue::Integer(Integer {
-            value: line as u64,
-            signed: false,
-            width: 32,
-        }),
-        location,
+    match number {
+        Some(number) => Ok(Read::unpainted(Token {
+            value: TokenValue::Integer(number),
+            location,
+        })),
+        None => Err(StepExit::Error((PreprocessorError::LineOverflow, location))),
     }
 }
 
@@ -165,10 +162,10 @@ impl MacroProcessor {
     pub fn new(alloc: Global) -> MacroProcessor
         ensures { result ≡ record { here = nothing_open; below = [] } }
     {
-        MacroProcessor::with_counts(alloc, SpareCounts::none(alloc))
+        MacroProcessor::with_counts(alloc, SpareCounts::none(alloc, Budget::unbounded()))
     }
 
-    /// The same with counts that were used before.
+    /// The same with what another processor left.
     pub fn with_counts(alloc: Global, spare: SpareCounts) -> MacroProcessor
         ensures { result ≡ record { here = nothing_open; below = [] } }
     {
@@ -179,15 +176,41 @@ impl MacroProcessor {
             held: None,
             counts: spare.counts,
             spares: Spares::none(alloc),
+            budget: spare.budget,
         }
     }
 
-    /// Closes all macros, and gives back the counts.
+    /// Takes its steps from this budget from now on.
+    pub fn set_budget(&mut self, budget: Budget)
+        ensures { self.new ≡ self.old }
+    {
+        self.budget = budget;
+    }
+
+    /// Whether more steps were needed than there were.
+    pub fn is_over_budget(&self) -> bool {
+        self.budget.is_over()
+    }
+
+    /// Pays for this many steps. It fails if fewer are left.
+    #[inline(always)]
+    pub fn pay(&self, steps: usize) -> Result<(), AllocError> {
+        self.budget.pay(steps)
+    }
+
+    // Pays for the opening of a macro: a step, and one for each token and parameter of its body.
+    #[inline(always)]
+    fn pay_for_body(&self, opened: &Macro) -> Result<(), AllocError> {
+        self.pay(opened.len().saturating_add(1))
+    }
+
+    /// Closes all macros, and gives back the counts and the budget.
     pub fn take_counts(&mut self) -> SpareCounts {
         self.base = 0;
         self.close_all();
         SpareCounts {
             counts: mem::replace(&mut self.counts, Vec::new(self.alloc)),
+            budget: mem::replace(&mut self.budget, Budget::unbounded()),
         }
     }
 
@@ -402,6 +425,7 @@ impl MacroProcessor {
             (λ _. self.new ≡ self.old) }
         ensures holds { IfOk result (λ token. HoldsOrdinary token.value) }
     {
+        self.pay(1)?;
         match self.frames.last_mut() {
             Some(frame) => frame.make_token(self.alloc),
             None => unreachable!(),
@@ -463,8 +487,7 @@ impl MacroProcessor {
         ensures holds { IfOk result (λ read. HoldsOrdinary read.token.value) }
     {
         let line = self.outermost_line().unwrap_or(location.line);
-        let shown = lexer.apply_line_offset(line, location)?;
-        Ok(Read::unpainted(make_line_number(shown, location)))
+        line_number(location, lexer.shown_line(line))
     }
 
     /// Paints a token that is taken, if it is the name of a macro that is open, here or around.
@@ -509,6 +532,7 @@ impl MacroProcessor {
         ensures err { OnErr result (self.new ≡ self.old) }
     {
         let (opened, line) = call.into_macro();
+        self.pay_for_body(&opened)?;
         self.push(Frame::new(opened, line, arguments))
     }
 
@@ -519,6 +543,7 @@ impl MacroProcessor {
             (new_frame opened.value line [] ∷ self.old.here.frames)) }
         ensures err { OnErr result (self.new ≡ self.old) }
     {
+        self.pay_for_body(&opened)?;
         let number = opened.number().number();
         self.frames.reserve(1)?;
         make_room(&mut self.counts, number)?;

@@ -1,19 +1,17 @@
 //! Where tokens come from when no macro is open.
 
-ghost use Rattle.std.specs.Prelude.{◌≡◌, ◌++◌, ◌∷◌, [], List, IfOk, IfSome, Some, option_map, ok_or, position};
+ghost use Rattle.std.specs.Prelude.{◌≡◌, ◌++◌, ◌∷◌, [], List, IfOk, IfSome, Some, option_map, position};
 ghost use Rattle.std.specs.Str.{chars};
-ghost use Rattle.pp_lexer.specs.declared.token.PreprocessorError.TheVariants.{LineOverflow};
 ghost use Rattle.pp_model.specs.Names.{Name, is_same_name};
 ghost use Rattle.pp_model.specs.declared.read.Read.{Read};
 ghost use Rattle.pp_macros.specs.Held.{HoldsOrdinary};
-ghost use Rattle.pp_macros.specs.Item.{as_step};
 ghost use Rattle.pp_macros.specs.inner.Defined.{AreNumbered, names_in, number_in, numbered_by, opened_by};
 ghost use Rattle.pp_macros.specs.inner.Reader.{Reader, Reads, ReadsRun, nests, visible, shown_line, definitions_of};
 
 use crate::define::Macro;
 use crate::names::NameId;
 use crate::step::Step;
-use pp_lexer::token::{Location, TokenValue};
+use pp_lexer::token::{Integer, TokenValue};
 use pp_model::parentheses::{is_left_paren, is_right_paren};
 use pp_model::read::Read;
 use std::alloc::AllocError;
@@ -47,10 +45,9 @@ pub trait MeLexer {
         ensures numbered { IfSome result (λ m.
             AreNumbered (names_in (definitions_of (reader self.now))) (numbered_by m.now.value)) };
 
-    /// The number that `__LINE__` shows for a line, or `LineOverflow` at the place.
-    fn apply_line_offset(&self, line: u32, location: Location) -> Step<u32>
-        ensures { result ≡ as_step (ok_or (shown_line (reader self.now) line)
-            (LineOverflow, location)) };
+    /// The number that `__LINE__` shows for a line, or `None` if it is out of range.
+    fn shown_line(&self, line: u32) -> Option<Integer>
+        ensures { result ≡ shown_line (reader self.now) line };
 }
 
 /// The number of the name that a value is, if it is one that was ever defined.

@@ -78,4 +78,4 @@ module _ {R : Type 0} (I : Reading R) where
   }
 
 pub starts_apart : StartsApart
-starts_apart tokens visible hidden = tt
+starts_apart tokens numbering visible hidden = tt

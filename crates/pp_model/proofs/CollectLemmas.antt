@@ -10,6 +10,7 @@ use Rattle.pp_model.specs.Definitions.{Definitions}
 use Rattle.pp_model.specs.Calls.{Fault}
 use Rattle.pp_model.specs.Emitting.{Alones, Each, none, first_failed, more}
 use Rattle.pp_model.specs.inner.Emitting.{read_before, list_before}
+use Rattle.pp_model.specs.declared.numbering.Numbering.{Numbering}
 
 -- the items so far, and then what comes of the rest
 abbrev pub after_items : {X : Type 0} → List X → Result (List X) Fault → Result (List X) Fault
@@ -30,23 +31,23 @@ pub after_items-end : {X : Type 0} (items : List X) → after_items items (Ok []
 after_items-end {X} items = ap (λ (xs : List X). let r : Result (List X) Fault = Ok xs in r) (append-nil items)
 
 -- the arguments from a place on, by the one that stands there
-pub each_at-failed : (deeper : Alones) (visible : Definitions) (hidden : List Name) (arguments : List (List Read)) (i : ℕ) (x tokens : List Read)
-    (fault : Fault) → i < length arguments → x ≡ get_or arguments i x → tokens ≡ x → deeper tokens visible hidden (Err fault)
-    → Each deeper visible hidden (drop i arguments) (Err fault)
-each_at-failed deeper visible hidden arguments i x tokens fault h e s d =
-    subst (λ (xs : List (List Read)). Each deeper visible hidden xs (Err fault)) (sym (drop-item arguments i x h e))
-    (first_failed x (drop (i + 1) arguments) fault (Err fault) (subst (λ (ts : List Read). deeper ts visible hidden (Err fault)) s d) refl)
+pub each_at-failed : (deeper : Alones) (numbering : Numbering) (visible : Definitions) (hidden : List Name) (arguments : List (List Read)) (i : ℕ) (x tokens : List Read)
+    (fault : Fault) → i < length arguments → x ≡ get_or arguments i x → tokens ≡ x → deeper tokens numbering visible hidden (Err fault)
+    → Each deeper numbering visible hidden (drop i arguments) (Err fault)
+each_at-failed deeper numbering visible hidden arguments i x tokens fault h e s d =
+    subst (λ (xs : List (List Read)). Each deeper numbering visible hidden xs (Err fault)) (sym (drop-item arguments i x h e))
+    (first_failed x (drop (i + 1) arguments) fault (Err fault) (subst (λ (ts : List Read). deeper ts numbering visible hidden (Err fault)) s d) refl)
 
-pub each_at-more : (deeper : Alones) (visible : Definitions) (hidden : List Name) (arguments : List (List Read))
+pub each_at-more : (deeper : Alones) (numbering : Numbering) (visible : Definitions) (hidden : List Name) (arguments : List (List Read))
     (i : ℕ) (x tokens list : List Read) (out : Result (List (List Read)) Fault) → i < length arguments → x ≡ get_or arguments i x → tokens ≡ x
-    → deeper tokens visible hidden (Ok list) → Each deeper visible hidden (drop (i + 1) arguments) out
-    → Each deeper visible hidden (drop i arguments) (list_before list out)
-each_at-more deeper visible hidden arguments i x tokens list out h e s d each =
-    subst (λ (xs : List (List Read)). Each deeper visible hidden xs (list_before list out)) (sym (drop-item arguments i x h e))
-    (more x list (drop (i + 1) arguments) out (list_before list out) (subst (λ (ts : List Read). deeper ts visible hidden (Ok list)) s d) each refl)
+    → deeper tokens numbering visible hidden (Ok list) → Each deeper numbering visible hidden (drop (i + 1) arguments) out
+    → Each deeper numbering visible hidden (drop i arguments) (list_before list out)
+each_at-more deeper numbering visible hidden arguments i x tokens list out h e s d each =
+    subst (λ (xs : List (List Read)). Each deeper numbering visible hidden xs (list_before list out)) (sym (drop-item arguments i x h e))
+    (more x list (drop (i + 1) arguments) out (list_before list out) (subst (λ (ts : List Read). deeper ts numbering visible hidden (Ok list)) s d) each refl)
 
-pub each_at-end : (deeper : Alones) (visible : Definitions) (hidden : List Name) (arguments : List (List Read)) (i : ℕ) → length arguments ≤ i
-    → Each deeper visible hidden (drop i arguments) (Ok [])
-each_at-end deeper visible hidden arguments i h =
+pub each_at-end : (deeper : Alones) (numbering : Numbering) (visible : Definitions) (hidden : List Name) (arguments : List (List Read)) (i : ℕ) → length arguments ≤ i
+    → Each deeper numbering visible hidden (drop i arguments) (Ok [])
+each_at-end deeper numbering visible hidden arguments i h =
     let e : drop i arguments ≡ [] = drop_all i arguments h in
-    subst (λ (xs : List (List Read)). Each deeper visible hidden xs (Ok [])) (sym e) (none (Ok []) refl)
+    subst (λ (xs : List (List Read)). Each deeper numbering visible hidden xs (Ok [])) (sym e) (none (Ok []) refl)

@@ -11,13 +11,15 @@ use Rattle.pp_model.specs.Taking.{line_number, shown_token, shown_outcome, Takes
 use Rattle.pp_model.specs.Calls.{Answers, Called, no_call, Calls, alone, broken, whole}
 use Rattle.pp_model.specs.Emitting.{with_macro, Emits, itself, object, name_alone, call_refused, call}
 use Rattle.pp_model.specs.SourceReader.{SourceReader}
-use Rattle.pp_model.specs.Reads.{shown_line, source_reading}
+use Rattle.pp_model.specs.Reads.{source_reading}
 use Rattle.pp_model.specs.declared.read.Taken.{Taken}
 use Rattle.pp_model.specs.declared.read.Taken.TheVariants as taken
 use Rattle.pp_model.specs.declared.splice.Entry.{Entry}
 use Rattle.pp_model.specs.declared.splice.Entry.TheVariants.{Plain}
 use Rattle.pp_model.proofs.SearchLeadsLemmas.{called_is_a_call, call_leads}
 use Rattle.pp_model.proofs.SourceEndLemmas.{IsAtEnd, reading_ends, reading_at_end}
+use Rattle.pp_model.specs.Numbering.{text_number}
+use Rattle.pp_lexer.specs.declared.token.Integer.{Integer}
 
 -- nothing is held, listed or left of the source
 pub record IsOver (e : Expander SourceReader) : Type 0 where
@@ -33,11 +35,11 @@ HoldsLastEnd e = e.held ≡ Some taken.End → (e.list ≡ []) × IsAtEnd e.read
 pub holds_nothing : (e : Expander SourceReader) → e.held ≡ None → HoldsLastEnd e
 holds_nothing e h k = cc
 
-number_goes_on : (location : Location) (shown : Option ℕ) → line_number location shown ≡ taken.End → ⊥
+number_goes_on : (location : Location) (shown : Option Integer) → line_number location shown ≡ taken.End → ⊥
 number_goes_on location (Some n) h = cc
 number_goes_on location None h = cc
 
-taken_goes_on : (shown_line : ℕ → Option ℕ) (after : List Entry) (token : Read) → shown_token shown_line after token ≡ taken.End → ⊥
+taken_goes_on : (shown_line : ℕ → Option Integer) (after : List Entry) (token : Read) → shown_token shown_line after token ≡ taken.End → ⊥
 taken_goes_on shown_line after token h = go (is_identifier line_name token.token.value) refl
   where
     go : (b : Bool) → is_identifier line_name token.token.value ≡ b → ⊥
@@ -45,7 +47,7 @@ taken_goes_on shown_line after token h = go (is_identifier line_name token.token
     go false e = let bad = rw e at h in cc
 
 -- only the end is read as the end
-read_end : (shown_line : ℕ → Option ℕ) (x : Taken) → shown_outcome shown_line x ≡ taken.End → x ≡ taken.End
+read_end : (shown_line : ℕ → Option Integer) (x : Taken) → shown_outcome shown_line x ≡ taken.End → x ≡ taken.End
 read_end shown_line (taken.Token token) h = absurd (taken_goes_on shown_line [] token h)
 read_end shown_line (taken.Fault fault) h = cc
 read_end shown_line taken.End h = refl
@@ -65,9 +67,9 @@ module _ (A : Answers) where
   fetching_ends o e f (held o1 e1 f1 h p) last end =
       let there = last (h ∙ ap Some end) in
       record { none_held = ap (λ g. g.held) p; none_listed = ap (λ g. g.list) p ∙ there.0; at_end = rw (ap (λ g. g.reader) p) there.1 }
-  fetching_ends o e f (listed o1 token rest e1 f1 h b is p) last end = absurd (taken_goes_on (shown_line e.reader) rest token (sym is ∙ end))
+  fetching_ends o e f (listed o1 token rest e1 f1 h b is p) last end = absurd (taken_goes_on (text_number e.reader.rules e.reader.line_offset) rest token (sym is ∙ end))
   fetching_ends o e f (read x o1 reader e1 f1 h b r is p) last end =
-      let there = reading_ends A x e.reader reader r (read_end (shown_line reader) x (sym is ∙ end)) in
+      let there = reading_ends A x e.reader reader r (read_end (text_number reader.rules reader.line_offset) x (sym is ∙ end)) in
       record { none_held = ap (λ g. g.held) p ∙ h; none_listed = ap (λ g. g.list) p; at_end = rw (ap (λ g. g.reader) p) there }
 
   taking_ends : (o : Taken) (e f : Expander SourceReader) → Takes (source_reading A) e o f → HoldsLastEnd e → o ≡ taken.End → IsOver f
@@ -122,7 +124,7 @@ module _ (A : Answers) where
       cc
   fetching_when_over o e f (read x o1 reader e1 f1 h b r is p) over =
       let there = reading_at_end A x e.reader reader over.at_end r in
-      let end : shown_outcome (shown_line reader) x ≡ taken.End = ap (shown_outcome (shown_line reader)) there.0 in
+      let end : shown_outcome (text_number reader.rules reader.line_offset) x ≡ taken.End = ap (shown_outcome (text_number reader.rules reader.line_offset)) there.0 in
       let same : f.reader ≡ e.reader = ap (λ g. g.reader) p ∙ there.1 in
       (is ∙ end, record { none_held = ap (λ g. g.held) p ∙ h; none_listed = ap (λ g. g.list) p; at_end = rw same over.at_end })
 

@@ -1,7 +1,8 @@
 -- What holds of tokens and lines, in the entries of a list and in what is spliced into it.
-use Rattle.std.proofs.Common.{◌≡◌, ℕ, zero, suc, pos, false, List, [], ◌∷◌, refl, Option, Some, None}
+use Rattle.std.proofs.Common.{◌≡◌, ℕ, zero, suc, false, List, [], ◌∷◌, refl, Option, Some, None}
 use Rattle.std.specs.Prelude.{⊤, IfOk, Result, Ok, Err, Bool, true, ◌&&◌, ◌==◌, unwrap_or, slice_get, if◌then◌else◌}
 use Rattle.std.specs.List.{AllByRecursion as Each}
+use Rattle.pp_lexer.specs.declared.token.Integer.{Integer as IntegerLiteral}
 use Rattle.pp_lexer.specs.declared.token.Location.{Location}
 use Rattle.pp_lexer.specs.declared.token.Token.{Token}
 use Rattle.pp_lexer.specs.declared.token.TokenValue.TheVariants.{Integer}
@@ -14,19 +15,20 @@ use Rattle.pp_model.specs.Taking.{line_number, shown_token, shown_outcome}
 use Rattle.pp_model.specs.Calls.{Fault, Pieces, is_comma, nesting_after, cut_before, pieces, arguments_of}
 use Rattle.pp_model.specs.Emitting.{first_before}
 use Rattle.pp_model.specs.declared.read.Read.{Read}
+use Rattle.pp_model.proofs.NumberingLemmas.{IsLineLiteral}
 use Rattle.pp_model.specs.declared.read.Taken.{Taken}
 use Rattle.pp_model.specs.declared.read.Taken.TheVariants as taken
 use Rattle.pp_model.specs.declared.splice.Entry.{Entry}
 use Rattle.pp_model.specs.declared.splice.Entry.TheVariants.{Plain, End}
 
 -- a line's number as a token
-abbrev pub number_at : Location → ℕ → Token
-number_at place n = record { value = Integer (record { value = n; signed = false; width = pos 32 }); location = place }
+abbrev pub number_at : Location → IntegerLiteral → Token
+number_at place number = record { value = Integer number; location = place }
 
 -- a property of tokens and one of lines: a token that has it stands on such a line, and the number of such a line is such a token
 pub record AreClosed (Q : Token → Type 0) (L : ℕ → Type 0) : Type 0 where
   pub line : (token : Token) → Q token → L token.location.line
-  pub number : (place : Location) (n : ℕ) → L place.line → L n → Q (number_at place n)
+  pub number : (place : Location) (number : IntegerLiteral) → L place.line → IsLineLiteral number → Q (number_at place number)
 
 -- the body of each definition has it
 abbrev pub HoldInBodies : (Token → Type 0) → Definitions → Type 0
@@ -120,11 +122,12 @@ module _ (Q : Token → Type 0) (L : ℕ → Type 0) where
       let cut = pieces_hold 0 tokens all in
       (cut.0, cut.1)
 
-  module _ (closed : AreClosed Q L) (shown_line : ℕ → Option ℕ) (shown : (line n : ℕ) → L line → shown_line line ≡ Some n → L n) where
-    number_holds : (place : Location) (line : ℕ) (found : Option ℕ) → L place.line → L line → shown_line line ≡ found
+  module _ (closed : AreClosed Q L) (shown_line : ℕ → Option IntegerLiteral)
+      (shown : (line : ℕ) (number : IntegerLiteral) → shown_line line ≡ Some number → IsLineLiteral number) where
+    number_holds : (place : Location) (line : ℕ) (found : Option IntegerLiteral) → L place.line → shown_line line ≡ found
         → HoldsOfTaken Q (line_number place found)
-    number_holds place line None here l e = tt
-    number_holds place line (Some n) here l e = closed.number place n here (shown line n l e)
+    number_holds place line None here e = tt
+    number_holds place line (Some number) here e = closed.number place number here (shown line number e)
 
     -- what is taken has it where the token and the rest of the list have it
     pub taken_holds : (after : List Entry) (token : Read) → HoldInList after → Q token.token → HoldsOfTaken Q (shown_token shown_line after token)
@@ -135,8 +138,7 @@ module _ (Q : Token → Type 0) (L : ℕ → Type 0) where
 
         go : (b : Bool) → is_identifier line_name token.token.value ≡ b
             → HoldsOfTaken Q (if b then line_number token.token.location (shown_line line) else taken.Token token)
-        go true e = number_holds token.token.location line (shown_line line) (closed.line token.token q)
-            (outermost_holds after token.token.location.line all (closed.line token.token q)) refl
+        go true e = number_holds token.token.location line (shown_line line) (closed.line token.token q) refl
         go false e = q
 
     pub read_holds : (x : Taken) → HoldsOfTaken Q x → HoldsOfTaken Q (shown_outcome shown_line x)

@@ -19,14 +19,18 @@ use Rattle.pp_model.specs.declared.read.Read.{Read}
 use Rattle.pp_model.specs.declared.read.Taken.{Taken}
 use Rattle.pp_model.specs.declared.read.Taken.TheVariants as taken
 use Rattle.pp_model.specs.declared.splice.Entry.TheVariants.{Plain}
+use Rattle.pp_lexer.specs.declared.token.Integer.{Integer}
+use Rattle.pp_model.specs.Numbering.{number_of}
+use Rattle.pp_model.proofs.NumberingLemmas.{IsLineLiteral, number_is_short}
 use Rattle.pp_model.proofs.HoldingLemmas.{more_holds, HoldInLists, AreClosed, HoldInBodies, HoldsOfRead, HoldsOfTaken, HoldsOfHeld, HoldInList, after_marks_hold, spliced_holds, arguments_hold, taken_holds, read_holds, painted_holds}
+use Rattle.pp_model.specs.declared.numbering.Numbering.{Numbering}
 
 module _ (Q : Token → Type 0) (L : ℕ → Type 0) where
   -- a reader keeps it where this holds of the reader
   pub record ReaderKeeps {R : Type 0} (I : Reading R) (K : R → Type 0) : Type 0 where
     pub reads : (old new : R) (x : Taken) → I.Reads old x new → K old → HoldsOfTaken Q x × K new
     pub visible : (r : R) → K r → HoldInBodies Q (I.visible r)
-    pub shown : (r : R) → K r → (line n : ℕ) → L line → I.shown_line r line ≡ Some n → L n
+    pub shown : (r : R) (line : ℕ) (number : Integer) → I.shown_line r line ≡ Some number → IsLineLiteral number
 
   -- so does what calls come to
   abbrev pub AnswersKeep : Answers → Type 0
@@ -90,12 +94,12 @@ module _ (Q : Token → Type 0) (L : ℕ → Type 0) (closed_under : AreClosed Q
     )
     fetching_keeps o e f (listed o1 token rest e1 f1 is b q p) h =
         let all : HoldInList Q L (Plain token ∷ rest) = subst (HoldInList Q L) b (after_marks_hold Q L e.list h.list) in (
-          rw q (taken_holds Q L closed_under (I.shown_line e.reader) (keeps.shown e.reader h.reader) rest token all.1 all.0),
+          rw q (taken_holds Q L closed_under (I.shown_line e.reader) (keeps.shown e.reader) rest token all.1 all.0),
           rw p (record { held = h.held; list = all.1; reader = h.reader }),
         )
     fetching_keeps o e f (read x o1 reader e1 f1 is b r q p) h =
         let more = keeps.reads e.reader reader x r h.reader in (
-          rw q (read_holds Q L closed_under (I.shown_line reader) (keeps.shown reader more.1) x more.0),
+          rw q (read_holds Q L closed_under (I.shown_line reader) (keeps.shown reader) x more.0),
           rw p (record { held = h.held; list = tt; reader = more.1 }),
         )
 
@@ -177,8 +181,8 @@ module _ (Q : Token → Type 0) (L : ℕ → Type 0) (closed_under : AreClosed Q
   after_holds [] all = tt
   after_holds (token ∷ tokens) all = all.1
 
-  same_line : (line n : ℕ) → Some line ≡ Some n → line ≡ n
-  same_line line n e = cc
+  shown_short : (numbering : Numbering) (line : ℕ) (number : Integer) → Some (number_of numbering line) ≡ Some number → IsLineLiteral number
+  shown_short numbering line number e = let same : number_of numbering line ≡ number = cc in rw (← same) (number_is_short numbering line)
 
   listed_keeps : ReaderKeeps Q L argument_reading HoldsOfListed
   listed_keeps = record {
@@ -187,22 +191,22 @@ module _ (Q : Token → Type 0) (L : ℕ → Type 0) (closed_under : AreClosed Q
       rw is.1 (after_holds old.tokens h.0, h.1),
     );
     visible = λ r h. h.1;
-    shown = λ r h line n l e. subst L (same_line line n e) l;
+    shown = λ r line number e. shown_short r.numbering line number e;
   }
 
   -- what lists of tokens come to alone
   abbrev AloneKeeps : Alones → Type 0
-  AloneKeeps deeper = (tokens : List Read) (visible : Definitions) (hidden : List Name) (out : Result (List Read) Fault)
-      → deeper tokens visible hidden out → Each (HoldsOfRead Q) tokens → HoldInBodies Q visible → IfOk out (Each (HoldsOfRead Q))
+  AloneKeeps deeper = (tokens : List Read) (numbering : Numbering) (visible : Definitions) (hidden : List Name) (out : Result (List Read) Fault)
+      → deeper tokens numbering visible hidden out → Each (HoldsOfRead Q) tokens → HoldInBodies Q visible → IfOk out (Each (HoldsOfRead Q))
 
-  each_keeps : (deeper : Alones) → AloneKeeps deeper → (visible : Definitions) (hidden : List Name) (arguments : List (List Read))
-      (out : Result (List (List Read)) Fault) → Expanded deeper visible hidden arguments out
+  each_keeps : (deeper : Alones) → AloneKeeps deeper → (numbering : Numbering) (visible : Definitions) (hidden : List Name) (arguments : List (List Read))
+      (out : Result (List (List Read)) Fault) → Expanded deeper numbering visible hidden arguments out
       → HoldInBodies Q visible → HoldInLists Q arguments → IfOk out (HoldInLists Q)
-  each_keeps deeper keeps visible hidden arguments out (none out1 p) v all = rw p tt
-  each_keeps deeper keeps visible hidden arguments out (first_failed t ts c out1 a p) v all = rw p tt
-  each_keeps deeper keeps visible hidden arguments out (more t c ts r out1 a later p) v all =
+  each_keeps deeper keeps numbering visible hidden arguments out (none out1 p) v all = rw p tt
+  each_keeps deeper keeps numbering visible hidden arguments out (first_failed t ts c out1 a p) v all = rw p tt
+  each_keeps deeper keeps numbering visible hidden arguments out (more t c ts r out1 a later p) v all =
       rw p
-      (more_holds (Each (HoldsOfRead Q)) c r (keeps t visible hidden (Ok c) a all.0 v) (each_keeps deeper keeps visible hidden ts r later v all.1))
+      (more_holds (Each (HoldsOfRead Q)) c r (keeps t numbering visible hidden (Ok c) a all.0 v) (each_keeps deeper keeps numbering visible hidden ts r later v all.1))
 
   abbrev ExpansionKeeps : (Site → Result (List (List Read)) Fault → Type 0) → Type 0
   ExpansionKeeps Fitting = (site : Site) (out : Result (List (List Read)) Fault) → Fitting site out
@@ -219,19 +223,19 @@ module _ (Q : Token → Type 0) (L : ℕ → Type 0) (closed_under : AreClosed Q
       decided None is = keeps site out is v all
       decided (Some error) is = refused_keeps (error, site.paren) out is
 
-  collected_keeps : (A : Answers) → AnswersKeep Q L A → (tokens : List Read) (visible : Definitions) (hidden : List Name)
-      (out : Result (List Read) Fault) → Collects argument_reading A (reading_of tokens visible hidden) out
+  collected_keeps : (A : Answers) → AnswersKeep Q L A → (tokens : List Read) (numbering : Numbering) (visible : Definitions) (hidden : List Name)
+      (out : Result (List Read) Fault) → Collects argument_reading A (reading_of tokens numbering visible hidden) out
       → Each (HoldsOfRead Q) tokens → HoldInBodies Q visible
       → IfOk out (Each (HoldsOfRead Q))
-  collected_keeps A answers tokens visible hidden out c all v =
-      list_keeps argument_reading HoldsOfListed listed_keeps A answers out (reading_of tokens visible hidden) c
+  collected_keeps A answers tokens numbering visible hidden out c all v =
+      list_keeps argument_reading HoldsOfListed listed_keeps A answers out (reading_of tokens numbering visible hidden) c
       (record { held = tt; list = tt; reader = (all, v) })
 
   expansion_keeps : (level : ℕ) → ExpansionKeeps (ExpandsArguments level)
   expansion_keeps zero site out is v all = refused_keeps (RecursionLimitReached, site.paren) out is
   expansion_keeps (suc level) site out is v all =
       each_keeps (Alone level) (collected_keeps (answers_at level) (answers_by_keep (ExpandsArguments level) (expansion_keeps level)))
-      site.visible site.open_around site.arguments out is v all
+      site.numbering site.visible site.open_around site.arguments out is v all
 
   -- what calls come to has it, at every level
   pub answers_keep : (level : ℕ) → AnswersKeep Q L (answers_at level)

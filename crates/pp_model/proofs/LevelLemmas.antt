@@ -14,17 +14,17 @@ use Rattle.pp_model.proofs.CallsLemmas.{one_call}
 use Rattle.pp_model.proofs.EmittingLemmas.{one_item, one_list}
 
 pub one_each : (deeper : Alones) → OneArgument deeper → OneEach deeper
-one_each deeper one visible hidden arguments x y (none x1 p) (none y1 q) = p ∙ sym q
-one_each deeper one visible hidden arguments x y (first_failed t ts c x1 a p) (first_failed u us d y1 b q) =
-    let same = one t visible hidden (Err c) (Err d) a b in
+one_each deeper one numbering visible hidden arguments x y (none x1 p) (none y1 q) = p ∙ sym q
+one_each deeper one numbering visible hidden arguments x y (first_failed t ts c x1 a p) (first_failed u us d y1 b q) =
+    let same = one t numbering visible hidden (Err c) (Err d) a b in
     let fault : c ≡ d = cc in
     p ∙ (rw fault (sym q))
-one_each deeper one visible hidden arguments x y (first_failed t ts c x1 a p) (more u d us s y1 b w q) = let bad = one t visible hidden (Err c) (Ok d) a b in cc
-one_each deeper one visible hidden arguments x y (more t c ts r x1 a v p) (first_failed u us d y1 b q) = let bad = one t visible hidden (Ok c) (Err d) a b in cc
-one_each deeper one visible hidden arguments x y (more t c ts r x1 a v p) (more u d us s y1 b w q) =
-    let same = one t visible hidden (Ok c) (Ok d) a b in
+one_each deeper one numbering visible hidden arguments x y (first_failed t ts c x1 a p) (more u d us s y1 b w q) = let bad = one t numbering visible hidden (Err c) (Ok d) a b in cc
+one_each deeper one numbering visible hidden arguments x y (more t c ts r x1 a v p) (first_failed u us d y1 b q) = let bad = one t numbering visible hidden (Ok c) (Err d) a b in cc
+one_each deeper one numbering visible hidden arguments x y (more t c ts r x1 a v p) (more u d us s y1 b w q) =
+    let same = one t numbering visible hidden (Ok c) (Ok d) a b in
     let tokens : c ≡ d = cc in
-    let rest = one_each deeper one visible hidden ts r s v w in
+    let rest = one_each deeper one numbering visible hidden ts r s v w in
     p ∙ (rw (tokens, rest) (sym q))
 
 -- a call has one answer, if each that has the right number of arguments has one
@@ -38,14 +38,14 @@ one_answer_by Fitting one definition site x y a b = decided (misfit definition.p
     decided (Some error) a b = a ∙ sym b
 
 one_alone : (A : Answers) → OneAnswer A → OneArgument (alone_by A)
-one_alone A one tokens visible hidden x y a b = one_list argument_reading argument_reads_one A one x y (reading_of tokens visible hidden) a b
+one_alone A one tokens numbering visible hidden x y a b = one_list argument_reading argument_reads_one A one x y (reading_of tokens numbering visible hidden) a b
 
 -- the arguments of a call have one list each, or there is one fault
 one_expansion : (level : ℕ) (site : Site) (x y : Result (List (List Read)) Fault) → ExpandsArguments level site x → ExpandsArguments level site y → x ≡ y
 one_expansion zero site x y a b = a ∙ sym b
 one_expansion (suc level) site x y a b =
     one_each (Alone level) (one_alone (answers_at level) (one_answer_by (ExpandsArguments level) (one_expansion level)))
-    site.visible site.open_around site.arguments x y a b
+    site.numbering site.visible site.open_around site.arguments x y a b
 
 -- a call has one list of expanded arguments, or one fault
 pub one_answer : (level : ℕ) → OneAnswer (answers_at level)
@@ -57,13 +57,13 @@ one_argument level = one_alone (answers_at level) (one_answer level)
 
 -- what the arguments come to is what the call comes to, where their number is right
 pub answers_each : (levels : ℕ) (definition : Definition) (site : Site) (out : Result (List (List Read)) Fault) → levels ≢ 0
-    → misfit definition.parameters site.arguments ≡ None → Each (Alone (levels - 1)) site.visible site.open_around site.arguments out
+    → misfit definition.parameters site.arguments ≡ None → Each (Alone (levels - 1)) site.numbering site.visible site.open_around site.arguments out
     → answers_at levels definition site out
 answers_each zero definition site out some fits each = absurd (some refl)
 answers_each (suc levels) definition site out some fits each =
     let one : suc levels - 1 ≡ levels = omega arith in
     subst (λ (o : Option PreprocessorError). MatchOption o (ExpandsArguments (suc levels) site out) (λ error. out ≡ Err (error, site.paren))) (sym fits)
-    (subst (λ (l : ℕ). Each (Alone l) site.visible site.open_around site.arguments out) one each)
+    (subst (λ (l : ℕ). Each (Alone l) site.numbering site.visible site.open_around site.arguments out) one each)
 
 -- at the limit no call has lists of arguments
 pub none_at_limit : (definition : Definition) (site : Site) (arguments : List (List Read)) → answers_at 0 definition site (Ok arguments) → ⊥

@@ -30,6 +30,7 @@ pub mod BlockLemmas
 pub mod DeadTextLemmas
 pub mod LiveRunLemmas
 pub mod RedefinitionLemmas
+pub mod NumberingLemmas
 pub mod HoldingLemmas
 pub mod KeptTokensLemmas
 pub mod LineHoldsLemmas

@@ -11,9 +11,10 @@ use Rattle.pp_lexer.specs.declared.token.Location.{Location}
 use Rattle.pp_lexer.specs.declared.token.PreprocessorError.TheVariants.{LineOverflow}
 use Rattle.pp_model.specs.Calls.{Fault}
 use Rattle.pp_model.specs.LineWords.{Words}
-use Rattle.pp_model.specs.LineValues.{ByExpression, IsAlone, Numbers, NumberBefore, TakesExpression, as_line_number, line_of, placed_fault}
+use Rattle.pp_model.specs.LineValues.{ByExpression, IsAlone, Numbers, NumberBefore, TakesExpression, line_of, placed_fault}
 use Rattle.pp_model.specs.LineValues.{symbol_of, unwanted_word, word_from_end, words_after}
 use Rattle.pp_model.specs.declared.word.Word.{Word}
+use Rattle.pp_model.specs.Numbering.{as_line_number}
 
 get_after : {A : Type 0} (count : ℕ) (items : List A) → slice_get (drop count items) 0 ≡ slice_get items count
 get_after zero items = refl
@@ -69,6 +70,24 @@ alone_at_fault {A} {B} directive words first second fault alone = at alone.evalu
   at (Ok v) evaluated by = record { evaluation = Ok v; evaluated = evaluated; is = by_word v.value (word_from_end v.left words) by }
   at (Err found) evaluated by =
       record { evaluation = Err found; evaluated = evaluated; is = let e : fault ≡ placed_fault directive words found.kind found.left = cc in ap Err e }
+
+-- it has none of them, whatever is reported of its value
+pub alone_at_value : {A B : Type 0} (directive : Location) (words : Words) (first : ℤ → A) (x : A) (y : B)
+    → IsAlone directive words first (Ok x) → IsAlone directive words (λ value. y) (Ok y)
+alone_at_value {A} {B} directive words first x y alone = at alone.evaluation alone.evaluated alone.is where
+  by_word : (value : ℤ) (found : Option Word)
+      → (let r : Result A Fault = Ok x in r ≡ option_map_or (λ word. Err (unwanted_word word)) found (Ok (first value)))
+      → (let r : Result B Fault = Ok y in r ≡ option_map_or (λ word. Err (unwanted_word word)) found (Ok y))
+  by_word value None is = refl
+  by_word value (Some word) is = absurd cc
+
+  at : (e : Result Value Found) → Evaluates (line_of words) e
+      → (let r : Result A Fault = Ok x in MatchResult e
+      (λ v. r ≡ option_map_or (λ word. Err (unwanted_word word)) (word_from_end v.left words) (Ok (first v.value)))
+      (λ found. r ≡ Err (placed_fault directive words found.kind found.left)))
+      → IsAlone directive words (λ value. y) (Ok y)
+  at (Ok v) evaluated by = record { evaluation = Ok v; evaluated = evaluated; is = by_word v.value (word_from_end v.left words) by }
+  at (Err found) evaluated by = absurd cc
 
 module _ (directive : Location) (words after : Words) (taken : Result ℤ Fault) (takes : TakesExpression directive words taken after) where
   module _ {A : Type 0} (By : Value → Result A Fault → Type 0) where

@@ -11,11 +11,12 @@ use Rattle.pp_lexer.specs.declared.token.Location.{Location}
 use Rattle.pp_model.specs.LineWords.{Words}
 use Rattle.pp_model.specs.Calls.{Fault, Answers}
 use Rattle.pp_lexer.specs.declared.token.PreprocessorError.TheVariants.{LineOverflow}
-use Rattle.pp_model.specs.LineValues.{line_of, placed_fault, ByExpression, IsAlone, as_line_number, words_after, NumberBefore, Numbers}
+use Rattle.pp_model.specs.LineValues.{line_of, placed_fault, ByExpression, IsAlone, words_after, NumberBefore, Numbers}
 use Rattle.pp_model.specs.ExpansionLaws.{OneAnswer}
 use Rattle.pp_model.specs.RunLaws.{OneEvaluation, OneCondition, OneNumber, OneLineNumber}
 use Rattle.pp_model.specs.declared.word.LineKind.TheVariants.{Condition, LineNumber}
 use Rattle.pp_model.proofs.LineWordsLemmas.{one_line}
+use Rattle.pp_model.specs.Numbering.{as_line_number}
 
 pub one_evaluation : OneEvaluation
 one_evaluation line x y a b = one_outcome line x y a b
@@ -41,8 +42,8 @@ one_alone : {A : Type 0} (directive : Location) (words : Words) (report : ℤ �
 one_alone directive words report = one_by directive words _ (λ v x y p q. p ∙ sym q)
 
 pub one_condition : (A : Answers) → OneAnswer A → OneCondition A
-one_condition A single directive tokens definitions x y a b =
-    let words = one_line A single Condition directive a.words b.words (reading_of (map unpainted tokens) definitions []) a.read b.read in
+one_condition A single directive tokens numbering definitions x y a b =
+    let words = one_line A single Condition directive a.words b.words (reading_of (map unpainted tokens) numbering definitions []) a.read b.read in
     let there : IsAlone directive a.words (λ value. not (is_zero value)) y = rw words b.value in
     one_alone directive a.words (λ value. not (is_zero value)) x y a.value there
 
@@ -61,7 +62,7 @@ pub one_number : OneNumber
 one_number directive words = one_by directive words _ (λ v. one_given directive words v.left (as_line_number v.value))
 
 pub one_line_number : (A : Answers) → OneAnswer A → OneLineNumber A
-one_line_number A single directive tokens definitions x y a b =
-    let words = one_line A single LineNumber directive a.words b.words (reading_of (map unpainted tokens) definitions []) a.read b.read in
+one_line_number A single directive tokens numbering definitions x y a b =
+    let words = one_line A single LineNumber directive a.words b.words (reading_of (map unpainted tokens) numbering definitions []) a.read b.read in
     let there : Numbers directive a.words y = rw words b.numbers in
     one_number directive a.words x y a.numbers there

@@ -17,20 +17,21 @@ use Rattle.pp_model.specs.declared.read.Taken.{Taken}
 use Rattle.pp_model.specs.declared.read.Taken.TheVariants as taken
 use Rattle.pp_model.specs.declared.splice.Entry.{Entry}
 use Rattle.pp_model.proofs.SearchLeadsLemmas.{called_is_a_call}
+use Rattle.pp_lexer.specs.declared.token.Integer.{Integer}
 
 -- a number, or the fault of one that is out of range, is no name
-number_is_no_line : (location : Location) (shown : Option ℕ) → is_line_name (line_number location shown) ≡ false
+number_is_no_line : (location : Location) (shown : Option Integer) → is_line_name (line_number location shown) ≡ false
 number_is_no_line location (Some n) = refl
 number_is_no_line location None = refl
 
-taken_is_no_line : (shown_line : ℕ → Option ℕ) (after : List Entry) (token : Read) → is_line_name (shown_token shown_line after token) ≡ false
+taken_is_no_line : (shown_line : ℕ → Option Integer) (after : List Entry) (token : Read) → is_line_name (shown_token shown_line after token) ≡ false
 taken_is_no_line shown_line after token = go (is_identifier line_name token.token.value) refl
   where
     go : (b : Bool) → is_identifier line_name token.token.value ≡ b → is_line_name (shown_token shown_line after token) ≡ false
     go true e = rw e (number_is_no_line token.token.location _)
     go false e = rw e e
 
-read_is_no_line : (shown_line : ℕ → Option ℕ) (x : Taken) → is_line_name (shown_outcome shown_line x) ≡ false
+read_is_no_line : (shown_line : ℕ → Option Integer) (x : Taken) → is_line_name (shown_outcome shown_line x) ≡ false
 read_is_no_line shown_line (taken.Token token) = taken_is_no_line shown_line [] token
 read_is_no_line shown_line _ = refl
 
@@ -118,4 +119,4 @@ module _ {R : Type 0} (I : Reading R) where
   }
 
 pub alone_shows_no_line_name : AloneShowsNoLineName
-alone_shows_no_line_name level tokens visible hidden x c = list_shows_none argument_reading (answers_at level) x (reading_of tokens visible hidden) c tt
+alone_shows_no_line_name level tokens numbering visible hidden x c = list_shows_none argument_reading (answers_at level) x (reading_of tokens numbering visible hidden) c tt

@@ -101,4 +101,4 @@ module _ (A : Answers) where
   run_opens_once rules source e f reached passes = passes_once (source_reading A) A e f passes (leading_once (start_by rules source) e reached tt)
 
 pub reading_opens_once : (I : Reading Listed) (A : Answers) → ListOpensOnce I A
-reading_opens_once I A tokens visible hidden f apart passes = passes_once I A _ f passes apart
+reading_opens_once I A tokens numbering visible hidden f apart passes = passes_once I A _ f passes apart

@@ -17,6 +17,7 @@ use Rattle.pp_model.specs.declared.step.Step.{Step}
 use Rattle.pp_model.specs.declared.step.Step.TheVariants as step
 use Rattle.pp_model.proofs.TakingLemmas.{one_pair}
 use Rattle.pp_model.proofs.LineValueLemmas.{one_condition, one_line_number}
+use Rattle.pp_model.specs.Numbering.{list_numbering}
 
 one_define : (named : Named) (defined : Option Definition) (after : SourceReader) (x y : Option Outcome) (s t : SourceReader)
     → Defines named defined after x s → Defines named defined after y t → (x ≡ y) × (s ≡ t)
@@ -42,10 +43,10 @@ module _ (A : Answers) (single : OneAnswer A) where
   one_outcome (step.Defines named) after r x y s t a b = one_define named (r.definitions named.name) after x y s t a b
   one_outcome (step.Condition word tokens) after r x y s t a b =
       one_evaluated a.0 b.0 (λ holds. decided r.position holds after) r x y s t
-      (one_condition A single word tokens r.definitions a.0 b.0 a.1 b.1) a.2 b.2
+      (one_condition A single word tokens (list_numbering r.rules r.line_offset) r.definitions a.0 b.0 a.1 b.1) a.2 b.2
   one_outcome (step.LineNumber word tokens) after r x y s t a b =
       one_evaluated a.0 b.0 (λ n. record after { line_offset = pos n -ℤ pos (numbered_line r.rules word.line) }) r x y s t
-      (one_line_number A single word tokens r.definitions a.0 b.0 a.1 b.1) a.2 b.2
+      (one_line_number A single word tokens (list_numbering r.rules r.line_offset) r.definitions a.0 b.0 a.1 b.1) a.2 b.2
 
   pub one_step : OneStep A
   one_step r x y s t a b = one_outcome (act r).step (act r).after r x y s t a b

@@ -1,9 +1,8 @@
 -- The tokens that a run gives can be spelled, and the text that spells them gives them again.
-use Rattle.std.proofs.Common.{◌≡◌, ◌⊎◌, inl, inr, ℕ, ℤ, pos, negsuc, ◌<◌, ◌^◌, ◌-◌, Bool, true, false, if◌then◌else◌, List, [], ◌∷◌, ◌++◌, length, map, refl, sym, subst, Some, None, arith}
-use Rattle.std.specs.Prelude.{IfOk, MatchBool, Result, Ok, Err, All, nat_lt}
+use Rattle.std.proofs.Common.{◌≡◌, ◌⊎◌, inl, inr, ℕ, pos, ◌<◌, ◌^◌, ◌-◌, Bool, true, false, List, [], ◌∷◌, ◌++◌, length, map, refl, sym, subst, Some, arith}
+use Rattle.std.specs.Prelude.{IfOk, MatchBool, Result, Ok, Err, All}
 use Rattle.std.specs.List.{AllByRecursion as Each, cons_option}
 use Rattle.std.specs.Str.{encode_utf8_all, chars}
-use Rattle.std.proofs.lemmas.Bool.{ltb-true}
 use Rattle.std.proofs.lemmas.List.Elements.{All-head, All-tail, All-nil, All-cons}
 use Rattle.pp_lexer.specs.ItemLaws.{HasLineWithin}
 use Rattle.pp_lexer.specs.Items.{Lexeme, Item, items_by as lexed_items}
@@ -15,9 +14,10 @@ use Rattle.pp_lexer.specs.TokenValue.{is_ordinary}
 use Rattle.pp_lexer.specs.declared.lexer.item.Token.{Token as LexerToken}
 use Rattle.pp_lexer.specs.declared.lexer.item.TokenValue.{TokenValue as LexerTokenValue}
 use Rattle.pp_lexer.specs.declared.lexer.item.TokenValue.TheVariants.{Hash, NewLine, Punct as LexerPunct}
+use Rattle.pp_lexer.specs.declared.token.Integer.{Integer as IntegerLiteral}
 use Rattle.pp_lexer.specs.declared.token.Token.{Token}
 use Rattle.pp_lexer.specs.declared.token.TokenValue.{TokenValue}
-use Rattle.pp_lexer.specs.declared.token.TokenValue.TheVariants.{Version, Extension, Pragma}
+use Rattle.pp_lexer.specs.declared.token.TokenValue.TheVariants.{Integer, Version, Extension, Pragma}
 use Rattle.pp_lexer.proofs.spelling.RespellingLemmas.{read_back}
 use Rattle.pp_lexer.proofs.spelling.SpelledValuesLemmas.{values_spelled}
 use Rattle.pp_lexer.proofs.items.TokenLinesLemmas.{tokens_have_lines}
@@ -27,7 +27,7 @@ use Rattle.pp_model.specs.Conversions.{is_hash}
 use Rattle.pp_model.specs.Calls.{Fault}
 use Rattle.pp_model.specs.Definitions.{object_like}
 use Rattle.pp_model.specs.Emitting.{answers_at}
-use Rattle.pp_model.specs.LineValues.{as_line_number}
+use Rattle.pp_model.proofs.NumberingLemmas.{IsLineLiteral, short as short_literal}
 use Rattle.pp_model.specs.Reading.{Expander}
 use Rattle.pp_model.specs.Reads.{source_reading}
 use Rattle.pp_model.specs.RespellLaws.{IsText, HasText, token_of, given_token, given_tokens, IsReadAfresh, RunsAreReadAfresh, calls_for, replies_with}
@@ -60,8 +60,12 @@ usual_width : (takes : Bool) → MatchBool takes ((pos 32 ≡ pos 32) ⊎ ((pos 
 usual_width true = inl refl
 usual_width false = refl
 
+-- the number of a line can be spelled
+literal_spelled : (rules : Rules) (number : IntegerLiteral) → IsLineLiteral number → IsSpellableBy rules (Integer number)
+literal_spelled rules number (short_literal signed n number1 low is) = rw is (omega (arith, low), usual_width rules.takes_widths)
+
 good_closed : (rules : Rules) → AreClosed (IsGood rules) IsLine
-good_closed rules = record { line = λ token q. q.1; number = λ place n l h. (λ o. (h, usual_width rules.takes_widths), l) }
+good_closed rules = record { line = λ token q. q.1; number = λ place number l h. (λ o. literal_spelled rules number h, l) }
 
 not_both : (b : Bool) → b ≡ false → b ≡ true → ⊥
 not_both true e h = cc
@@ -69,17 +73,6 @@ not_both false e h = cc
 
 good_directives : (rules : Rules) → DirectiveItemsHold (IsGood rules) IsLine (good_closed rules)
 good_directives rules token other l = (λ o. absurd (not_both (is_ordinary token.value) other o), l)
-
-shown_in_range : (k n : ℕ) (b : Bool) → nat_lt k (2 ^ 32) ≡ b → (if b then Some k else None) ≡ Some n → IsLine n
-shown_in_range k n true e is =
-    let same : k ≡ n = cc in
-    let low : k < 2 ^ 32 = ltb-true k (2 ^ 32) e in
-    omega (arith, low, same)
-shown_in_range k n false e is = cc
-
-shown_is_line : (z : ℤ) (n : ℕ) → as_line_number z ≡ Some n → IsLine n
-shown_is_line (pos k) n e = shown_in_range k n (nat_lt k (2 ^ 32)) refl e
-shown_is_line (negsuc k) n e = cc
 
 -- each item of a text has a line within it
 abbrev HasLines : List Seen → Type 0
@@ -136,7 +129,7 @@ module _ (level : ℕ) (rules : Rules) where
   text_good text t = good_items rules (items_by rules text) (values_spelled rules text t.0) (lines rules text t)
 
   keeps : ReaderKeeps (IsGood rules) IsLine (source_reading (answers_at level)) K
-  keeps = source_keeps (IsGood rules) IsLine (good_closed rules) (good_directives rules) (answers_at level) shown_is_line
+  keeps = source_keeps (IsGood rules) IsLine (good_closed rules) (good_directives rules) (answers_at level)
 
   added_good : (content : List ℕ) (tokens : List Token) → IsText content → content_tokens (items_by rules content) ≡ Ok tokens → Each (IsGood rules) tokens
   added_good content tokens t e =

@@ -1,5 +1,5 @@
 -- What holds of each token among a source's items holds of each token that reading it gives, and of the bodies that it defines.
-use Rattle.std.proofs.Common.{◌≡◌, ℕ, ℤ, pos, ◌+ℤ◌, Bool, true, false, if◌then◌else◌, List, [], ◌∷◌, drop, zero, suc, sym, subst, Option, Some, None, inl, inr}
+use Rattle.std.proofs.Common.{◌≡◌, ℕ, Bool, true, false, if◌then◌else◌, List, [], ◌∷◌, drop, zero, suc, sym, subst, Option, Some, None, inl, inr}
 use Rattle.std.specs.Prelude.{⊤, IfOk, IfSome, Result, Ok, Err}
 use Rattle.std.specs.List.{AllByRecursion as Each}
 use Rattle.pp_lexer.specs.Items.{Lexeme}
@@ -16,7 +16,7 @@ use Rattle.pp_model.specs.Definitions.{Definition, Definitions, with_change}
 use Rattle.pp_model.specs.Calls.{Fault, Answers}
 use Rattle.pp_model.specs.Lines.{first_token}
 use Rattle.pp_model.specs.DefineLines.{defined_on}
-use Rattle.pp_model.specs.LineValues.{as_line_number}
+use Rattle.pp_model.proofs.NumberingLemmas.{text_number_is_short}
 use Rattle.pp_model.specs.Sights.{sight_of, token_sight, named_directive}
 use Rattle.pp_model.specs.inner.Sights.{item_sight, directive_sight}
 use Rattle.pp_model.specs.Blocks.{Block}
@@ -172,10 +172,10 @@ module _ (Q : Token → Type 0) (L : ℕ → Type 0) (closed : AreClosed Q L) wh
         (subst (HoldsOfTaken Q) (sym p) (unpainted_holds o there.0), there.1)
     reading_holds r t x (later x1 r1 s t1 first more) h = reading_holds s t x more (step_holds None r s first h).1
 
-    -- so reading a source keeps it, where the numbers that it shows are such lines
-    pub source_keeps : ((z : ℤ) (n : ℕ) → as_line_number z ≡ Some n → L n) → ReaderKeeps Q L (source_reading A) HoldsOfReader
-    source_keeps number = record {
+    -- so reading a source keeps it
+    pub source_keeps : ReaderKeeps Q L (source_reading A) HoldsOfReader
+    source_keeps = record {
       reads = reading_holds;
       visible = λ r h. h.1;
-      shown = λ r h line n l e. number (pos line +ℤ r.line_offset) n e;
+      shown = λ r line number e. text_number_is_short r.rules r.line_offset line number e;
     }

@@ -31,7 +31,7 @@ use Rattle.pp_model.specs.SpliceList.{outermost_line}
 use Rattle.pp_model.specs.Taking.{line_number, Takes, read, shown_token, shown_outcome}
 use Rattle.pp_model.specs.Calls.{Answers}
 use Rattle.pp_model.specs.Emitting.{Emits, itself}
-use Rattle.pp_model.specs.Reads.{Steps, Reads, here, later, source_reading, shown_line}
+use Rattle.pp_model.specs.Reads.{Steps, Reads, here, later, source_reading}
 use Rattle.pp_model.specs.Run.{by_rules, start_by, Runs, done, given}
 use Rattle.pp_model.specs.RespellLaws.{calls_for, replies_with}
 use Rattle.pp_model.specs.declared.call.Reply.TheVariants as reply
@@ -43,6 +43,8 @@ use Rattle.pp_model.specs.declared.sight.Sight.{Sight}
 use Rattle.pp_model.specs.declared.sight.Sight.TheVariants as sight
 use Rattle.pp_model.specs.declared.step.Step.TheVariants as step
 use Rattle.pp_model.proofs.ReadsLemmas.{act_does}
+use Rattle.pp_model.specs.Numbering.{text_number}
+use Rattle.pp_lexer.specs.declared.token.Integer.{Integer}
 
 -- the value of an item that is no number sign
 abbrev pub IsNoHash : Seen → Type 0
@@ -120,14 +122,14 @@ module _ (A : Answers) (rules : Rules) (items : List Seen) (all : Each IsNoHash 
   painted_none _ = refl
 
   taken_there : (position : ℕ) (x o : Taken) (after : ℕ) → Reads A (reader_at rules items position) x (reader_at rules items after)
-      → o ≡ shown_outcome (shown_line (reader_at rules items after)) x → Takes (source_reading A) (state_at rules items position) o (state_at rules items after)
+      → o ≡ shown_outcome (text_number rules (reader_at rules items after).line_offset) x → Takes (source_reading A) (state_at rules items position) o (state_at rules items after)
   taken_there position x o after r is = record {
     first = o;
     fetches = read x o (reader_at rules items after) (state_at rules items position) (state_at rules items after) refl refl r is refl;
     paints = sym (painted_none o);
   }
 
-  taken_plain : (shown : ℕ → Option ℕ) (value : TokenValue) (location : Location) → is_identifier line_name value ≡ false
+  taken_plain : (shown : ℕ → Option Integer) (value : TokenValue) (location : Location) → is_identifier line_name value ≡ false
       → taken.Token (unpainted (record { value = value; location = location }))
       ≡ shown_token shown [] (unpainted (record { value = value; location = location }))
   taken_plain shown value location e =
@@ -149,7 +151,7 @@ module _ (A : Answers) (rules : Rules) (items : List Seen) (all : Each IsNoHash 
       itself (taken.Token (unpainted token)) (state_at rules items position) (state_at rules items (position + 1))
       (taken_there position (taken.Token (unpainted token)) (taken.Token (unpainted token)) (position + 1)
       (here (outcome.Token token) (taken.Token (unpainted token)) r (reader_at rules items (position + 1)) s refl)
-      (taken_plain (shown_line (reader_at rules items (position + 1))) value location plain))
+      (taken_plain (text_number rules (reader_at rules items (position + 1)).line_offset) value location plain))
       (opens_nothing (position + 1) value location)
 
   ended_there : innermost (take 0 (blocks_at items (length items))) ≡ None

@@ -11,6 +11,7 @@ use Rattle.pp_model.specs.Emitting.{with_macro, Emits}
 use Rattle.pp_model.specs.declared.read.Read.{Read}
 use Rattle.pp_model.specs.declared.read.Taken.{Taken}
 use Rattle.pp_model.specs.declared.splice.Entry.{Entry}
+use Rattle.pp_model.specs.declared.numbering.Numbering.{Numbering}
 
 -- no name is twice in the list
 abbrev pub AreApart : List Name → Type 0
@@ -64,5 +65,5 @@ pub record KeepsMarksApart {R : Type 0} (I : Reading R) (A : Answers) : Type 0 w
 -- The reading of a list of tokens begins with a list in which the marks are apart.
 abbrev pub StartsApart : Type 0
 StartsApart =
-    (tokens : List Read) (visible : Definitions) (hidden : List Name)
-    → HasApartMarks (reading_of tokens visible hidden).list
+    (tokens : List Read) (numbering : Numbering) (visible : Definitions) (hidden : List Name)
+    → HasApartMarks (reading_of tokens numbering visible hidden).list

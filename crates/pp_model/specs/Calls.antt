@@ -13,6 +13,7 @@ use Rattle.pp_model.specs.Names.{Name}
 use Rattle.pp_model.specs.Definitions.{Definition, Definitions}
 use Rattle.pp_model.specs.Reading.{Reading, Expander, masked_names}
 use Rattle.pp_model.specs.Taking.{Takes}
+use Rattle.pp_model.specs.declared.numbering.Numbering.{Numbering}
 use Rattle.pp_model.specs.declared.read.Read.{Read}
 use Rattle.pp_model.specs.declared.read.Taken.{Taken}
 use Rattle.pp_model.specs.declared.read.Taken.TheVariants as taken
@@ -115,10 +116,12 @@ misfit parameters arguments =
     else if nat_lt (length arguments) (length parameters) then Some TooFewDefineArguments
     else None
 
--- a call whose `)` has been taken: the place of its `(`, its arguments, and what is defined and open then
+-- a call whose `)` has been taken: the place of its `(`, its arguments, how their lines are numbered, and what is
+-- defined and open then
 pub record Site : Type 0 where
   pub paren : Location
   pub arguments : List (List Read)
+  pub numbering : Numbering
   pub visible : Definitions
   pub open_around : List Name
 
@@ -127,6 +130,7 @@ site_of I expander paren tokens =
     record {
       paren = paren;
       arguments = arguments_of tokens;
+      numbering = I.numbering expander.reader;
       visible = I.visible expander.reader;
       open_around = masked_names expander;
     }

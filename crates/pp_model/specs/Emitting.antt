@@ -9,6 +9,7 @@ use Rattle.pp_model.specs.SpliceList.{macro_before}
 use Rattle.pp_model.specs.Reading.{Reading, Expander, Opening, opening, argument_reading, reading_of}
 use Rattle.pp_model.specs.Taking.{Takes}
 use Rattle.pp_model.specs.Calls.{Fault, Answers, Site, misfit, no_call, refused, fits, Calls}
+use Rattle.pp_model.specs.declared.numbering.Numbering.{Numbering}
 use Rattle.pp_model.specs.declared.read.Read.{Read}
 use Rattle.pp_model.specs.declared.read.Taken.{Taken}
 use Rattle.pp_model.specs.declared.read.Taken.TheVariants as taken
@@ -70,24 +71,25 @@ pub data Collects {R : Type 0} (I : Reading R) (A : Answers) : Expander R → Re
       → out ≡ first_before read rest
       → Collects I A e out
 
--- what a list of tokens expands to alone, if these definitions are visible and these names are open around
+-- what a list of tokens expands to alone, if its lines are numbered so, these definitions are visible and these names
+-- are open around
 abbrev pub Alones : Type 1
-Alones = List Read → Definitions → List Name → Result (List Read) Fault → Type 0
+Alones = List Read → Numbering → Definitions → List Name → Result (List Read) Fault → Type 0
 
 -- the arguments from left to right, each alone, or the first fault
-pub data Each (deeper : Alones) (visible : Definitions) (hidden : List Name)
+pub data Each (deeper : Alones) (numbering : Numbering) (visible : Definitions) (hidden : List Name)
     : List (List Read) → Result (List (List Read)) Fault → Type 0 where
-  none : (out : Result (List (List Read)) Fault) → out ≡ Ok [] → Each deeper visible hidden [] out
+  none : (out : Result (List (List Read)) Fault) → out ≡ Ok [] → Each deeper numbering visible hidden [] out
   first_failed : (argument : List Read) (arguments : List (List Read)) (fault : Fault)
       (out : Result (List (List Read)) Fault)
-      → deeper argument visible hidden (Err fault)
+      → deeper argument numbering visible hidden (Err fault)
       → out ≡ Err fault
-      → Each deeper visible hidden (argument ∷ arguments) out
+      → Each deeper numbering visible hidden (argument ∷ arguments) out
   more : (argument expanded : List Read) (arguments : List (List Read)) (rest out : Result (List (List Read)) Fault)
-      → deeper argument visible hidden (Ok expanded)
-      → Each deeper visible hidden arguments rest
+      → deeper argument numbering visible hidden (Ok expanded)
+      → Each deeper numbering visible hidden arguments rest
       → out ≡ first_before expanded rest
-      → Each deeper visible hidden (argument ∷ arguments) out
+      → Each deeper numbering visible hidden (argument ∷ arguments) out
 
 -- what calls give: a wrong number of arguments is a fault, and any other call gives what `Fitting` says
 abbrev pub answers_by : (Site → Result (List (List Read)) Fault → Type 0) → Answers
@@ -98,13 +100,15 @@ answers_by Fitting definition site out =
 
 -- what a list of tokens expands to alone, if calls have these answers
 abbrev pub alone_by : Answers → Alones
-alone_by A tokens visible hidden out = Collects argument_reading A (reading_of tokens visible hidden) out
+alone_by A tokens numbering visible hidden out =
+    Collects argument_reading A (reading_of tokens numbering visible hidden) out
 
 -- what the arguments of a call give, if arguments may be expanded inside one another this many levels deeper
 abbrev pub ExpandsArguments : ℕ → Site → Result (List (List Read)) Fault → Type 0
 ExpandsArguments zero site out = out ≡ Err (RecursionLimitReached, site.paren)
 ExpandsArguments (suc levels) site out =
-    Each (alone_by (answers_by (ExpandsArguments levels))) site.visible site.open_around site.arguments out
+    Each (alone_by (answers_by (ExpandsArguments levels))) site.numbering site.visible site.open_around site.arguments
+    out
 
 -- what calls give, if arguments may be expanded inside one another this many levels deeper
 abbrev pub answers_at : ℕ → Answers

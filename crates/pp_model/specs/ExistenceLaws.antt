@@ -23,6 +23,7 @@ use Rattle.pp_model.specs.declared.outcome.Outcome.TheVariants as outcome
 use Rattle.pp_model.specs.declared.read.Read.{Read}
 use Rattle.pp_model.specs.declared.read.Taken.{Taken}
 use Rattle.pp_model.specs.declared.word.LineKind.{LineKind}
+use Rattle.pp_model.specs.declared.numbering.Numbering.{Numbering}
 
 abbrev pub is_given_token : Outcome → Bool
 is_given_token (outcome.Token token) = true
@@ -54,8 +55,10 @@ AnAnswer A = (definition : Definition) (site : Site) → IsFinite site.visible
 
 -- An argument alone gives a list of tokens, or a fault.
 abbrev pub AnArgument : Alones → Type 0
-AnArgument deeper = (tokens : List Read) (visible : Definitions) (hidden : List Name) → IsFinite visible
-    → (x : Result (List Read) Fault) × deeper tokens visible hidden x
+AnArgument deeper =
+    (tokens : List Read) (numbering : Numbering) (visible : Definitions) (hidden : List Name)
+    → IsFinite visible
+    → (x : Result (List Read) Fault) × deeper tokens numbering visible hidden x
 
 -- The search for a call after the name of a function-like macro finds a call, none, or a fault.
 abbrev pub ACall : {R : Type 0} → Reading R → Answers → Type 0
@@ -82,13 +85,17 @@ ALine A = (kind : LineKind) (directive : Location) (e : Expander Listed) → IsF
 
 -- The condition of an `#if` or `#elif` holds or not, or has a fault.
 abbrev pub ACondition : Answers → Type 0
-ACondition A = (directive : Location) (tokens : List Token) (definitions : Definitions) → IsFinite definitions
-    → (x : Result Bool Fault) × IsCondition A directive tokens definitions x
+ACondition A =
+    (directive : Location) (tokens : List Token) (numbering : Numbering) (definitions : Definitions)
+    → IsFinite definitions
+    → (x : Result Bool Fault) × IsCondition A directive tokens numbering definitions x
 
 -- A `#line` gives a number, or a fault.
 abbrev pub ALineNumber : Answers → Type 0
-ALineNumber A = (directive : Location) (tokens : List Token) (definitions : Definitions) → IsFinite definitions
-    → (x : Result ℕ Fault) × IsLineNumber A directive tokens definitions x
+ALineNumber A =
+    (directive : Location) (tokens : List Token) (numbering : Numbering) (definitions : Definitions)
+    → IsFinite definitions
+    → (x : Result ℕ Fault) × IsLineNumber A directive tokens numbering definitions x
 
 -- One token or line of a source has an outcome, or gives nothing.
 abbrev pub AStep : Answers → Type 0

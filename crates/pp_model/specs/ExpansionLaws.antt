@@ -11,6 +11,7 @@ use Rattle.pp_model.specs.LineWords.{Operand, Words, LineWords}
 use Rattle.pp_model.specs.declared.read.Read.{Read}
 use Rattle.pp_model.specs.declared.read.Taken.{Taken}
 use Rattle.pp_model.specs.declared.word.LineKind.{LineKind}
+use Rattle.pp_model.specs.declared.numbering.Numbering.{Numbering}
 
 -- A reader gives at most one outcome, and one reader is after it.
 abbrev pub OneReads : {R : Type 0} → Reading R → Type 0
@@ -55,17 +56,19 @@ OneList {R} I A = (x y : Result (List Read) Fault) (e : Expander R) → Collects
 -- An argument alone expands to at most one list of tokens, or one fault.
 abbrev pub OneArgument : Alones → Type 0
 OneArgument deeper =
-    (tokens : List Read) (visible : Definitions) (hidden : List Name) (x y : Result (List Read) Fault)
-    → deeper tokens visible hidden x
-    → deeper tokens visible hidden y
+    (tokens : List Read) (numbering : Numbering) (visible : Definitions) (hidden : List Name)
+    (x y : Result (List Read) Fault)
+    → deeper tokens numbering visible hidden x
+    → deeper tokens numbering visible hidden y
     → x ≡ y
 
 -- Several arguments, each alone, expand to at most one list of lists, or one fault.
 abbrev pub OneEach : Alones → Type 0
 OneEach deeper =
-    (visible : Definitions) (hidden : List Name) (arguments : List (List Read)) (x y : Result (List (List Read)) Fault)
-    → Each deeper visible hidden arguments x
-    → Each deeper visible hidden arguments y
+    (numbering : Numbering) (visible : Definitions) (hidden : List Name) (arguments : List (List Read))
+    (x y : Result (List (List Read)) Fault)
+    → Each deeper numbering visible hidden arguments x
+    → Each deeper numbering visible hidden arguments y
     → x ≡ y
 
 -- The operand of a `defined` has at most one answer, or one fault.

@@ -1,4 +1,5 @@
 pub mod Names
+pub mod Numbering
 pub mod Definitions
 pub mod Painting
 pub mod SpliceList

@@ -1,7 +1,7 @@
 -- The value of an `#if`, `#elif` or `#line` line, or its first fault (GLSL ES 3.20, section 3.4, and docs/RULES.md,
 -- Expressions 3 to 7 and Directives 13). Trees, their values and the first fault of an expression are those of
 -- pp_expression.
-use Rattle.std.specs.Prelude.{◌≡◌, ℕ, zero, ℤ, pos, negsuc, ◌-◌, ◌^◌, nat_lt, Bool, not, if◌then◌else◌, List, []}
+use Rattle.std.specs.Prelude.{◌≡◌, ℕ, zero, ℤ, ◌-◌, Bool, not, if◌then◌else◌, List, []}
 use Rattle.std.specs.Prelude.{length, drop, slice_get, map, Option, Some, None, option_map, option_and_then, unwrap_or}
 use Rattle.std.specs.Prelude.{MatchOption, Result, Ok, Err, MatchResult}
 use Rattle.pp_expression.specs.declared.symbol.Symbol.{Symbol}
@@ -24,9 +24,11 @@ use Rattle.pp_lexer.specs.declared.token.TokenValue.TheVariants.{Ident, Integer,
 use Rattle.pp_model.specs.Names.{defined_name}
 use Rattle.pp_model.specs.Definitions.{Definitions}
 use Rattle.pp_model.specs.Painting.{unpainted}
+use Rattle.pp_model.specs.Numbering.{as_line_number}
 use Rattle.pp_model.specs.Reading.{reading_of}
 use Rattle.pp_model.specs.Calls.{Fault, Answers}
 use Rattle.pp_model.specs.LineWords.{Words, LineWords, unexpected}
+use Rattle.pp_model.specs.declared.numbering.Numbering.{Numbering}
 use Rattle.pp_model.specs.declared.word.LineKind.TheVariants.{Condition, LineNumber}
 use Rattle.pp_model.specs.declared.word.Word.{Word}
 use Rattle.pp_model.specs.declared.word.Word.TheVariants.{Plain, Defined}
@@ -98,16 +100,11 @@ IsAlone directive words report = ByExpression directive words (λ v result.
     result ≡ option_map_or (λ word. Err (unwanted_word word)) (word_from_end v.left words) (Ok (report v.value)))
 
 -- The condition of an `#if` or `#elif`: it holds if its value isn't 0.
-pub record IsCondition (A : Answers) (directive : Location) (tokens : List Token) (definitions : Definitions)
-    (result : Result Bool Fault) : Type 0 where
+pub record IsCondition (A : Answers) (directive : Location) (tokens : List Token) (numbering : Numbering)
+    (definitions : Definitions) (result : Result Bool Fault) : Type 0 where
   pub words : Words
-  pub read : LineWords Condition directive A (reading_of (map unpainted tokens) definitions []) words
+  pub read : LineWords Condition directive A (reading_of (map unpainted tokens) numbering definitions []) words
   pub value : IsAlone directive words (λ value. not (is_zero value)) result
-
--- a line number has 32 bits
-abbrev pub as_line_number : ℤ → Option ℕ
-as_line_number (pos n) = if nat_lt n (2 ^ 32) then Some n else None
-as_line_number (negsuc n) = None
 
 -- What the line number `n` gives with `left` words after it: they are a second expression, which has no effect unless
 -- it has a fault.
@@ -122,8 +119,8 @@ Numbers directive words = ByExpression directive words (λ v result.
     (λ n. NumberBefore directive words n v.left result))
 
 -- the line number that a `#line` gives, or its first fault
-pub record IsLineNumber (A : Answers) (directive : Location) (tokens : List Token) (definitions : Definitions)
-    (result : Result ℕ Fault) : Type 0 where
+pub record IsLineNumber (A : Answers) (directive : Location) (tokens : List Token) (numbering : Numbering)
+    (definitions : Definitions) (result : Result ℕ Fault) : Type 0 where
   pub words : Words
-  pub read : LineWords LineNumber directive A (reading_of (map unpainted tokens) definitions []) words
+  pub read : LineWords LineNumber directive A (reading_of (map unpainted tokens) numbering definitions []) words
   pub numbers : Numbers directive words result

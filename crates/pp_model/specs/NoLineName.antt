@@ -10,6 +10,7 @@ use Rattle.pp_model.specs.Emitting.{Emits, Collects, Alone}
 use Rattle.pp_model.specs.declared.read.Read.{Read}
 use Rattle.pp_model.specs.declared.read.Taken.{Taken}
 use Rattle.pp_model.specs.declared.read.Taken.TheVariants as taken
+use Rattle.pp_model.specs.declared.numbering.Numbering.{Numbering}
 
 -- whether the identifier `__LINE__` was taken
 abbrev pub is_line_name : Taken → Bool
@@ -51,6 +52,7 @@ pub record ShowsNoLineName {R : Type 0} (I : Reading R) (A : Answers) : Type 0 w
 -- No `__LINE__` is among the tokens that a list of tokens expands to alone.
 abbrev pub AloneShowsNoLineName : Type 0
 AloneShowsNoLineName =
-    (level : ℕ) (tokens : List Read) (visible : Definitions) (hidden : List Name) (items : Result (List Read) Fault)
-    → Alone level tokens visible hidden items
+    (level : ℕ) (tokens : List Read) (numbering : Numbering) (visible : Definitions) (hidden : List Name)
+    (items : Result (List Read) Fault)
+    → Alone level tokens numbering visible hidden items
     → IfOk items AreNoLineNames

@@ -15,6 +15,7 @@ use Rattle.pp_model.specs.ApartMarks.{AreApart}
 use Rattle.pp_model.specs.RunStates.{IsReached}
 use Rattle.pp_model.specs.declared.read.Read.{Read}
 use Rattle.pp_model.specs.declared.read.Taken.{Taken}
+use Rattle.pp_model.specs.declared.numbering.Numbering.{Numbering}
 
 -- The states that expansion passes: taking something leads to one, and so does each macro that opens.
 pub data Passes {R : Type 0} (I : Reading R) (A : Answers) : Expander R → Expander R → Type 0 where
@@ -53,5 +54,6 @@ RunOpensOnce A = (rules : Rules) (source : List Seen) (e f : Expander SourceRead
 
 -- The same of each state that the reading of a list of tokens alone passes, if no name is open twice around it.
 abbrev pub ListOpensOnce : Reading Listed → Answers → Type 0
-ListOpensOnce I A = (tokens : List Read) (visible : Definitions) (hidden : List Name) (f : Expander Listed)
-    → AreApart hidden → Passes I A (reading_of tokens visible hidden) f → IsOpenOnce f
+ListOpensOnce I A =
+    (tokens : List Read) (numbering : Numbering) (visible : Definitions) (hidden : List Name) (f : Expander Listed)
+    → AreApart hidden → Passes I A (reading_of tokens numbering visible hidden) f → IsOpenOnce f

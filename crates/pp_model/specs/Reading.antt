@@ -2,23 +2,27 @@
 use Rattle.std.specs.Prelude.{◌≡◌, ℕ, Bool, false, List, [], ◌++◌, ◌||◌, if◌then◌else◌, drop, slice_get, Option, Some}
 use Rattle.std.specs.Prelude.{None, option_map}
 use Rattle.std.specs.Option.{option_map_or}
+use Rattle.pp_lexer.specs.declared.token.Integer.{Integer}
 use Rattle.pp_lexer.specs.declared.token.Token.{Token}
 use Rattle.pp_lexer.specs.declared.token.TokenValue.{TokenValue}
 use Rattle.pp_lexer.specs.declared.token.TokenValue.TheVariants.{Ident}
 use Rattle.pp_model.specs.Names.{Name, is_same_name, defined_name}
 use Rattle.pp_model.specs.Definitions.{Definition, Definitions}
+use Rattle.pp_model.specs.Numbering.{number_of}
 use Rattle.pp_model.specs.SpliceList.{open_names}
+use Rattle.pp_model.specs.declared.numbering.Numbering.{Numbering}
 use Rattle.pp_model.specs.declared.read.Read.{Read}
 use Rattle.pp_model.specs.declared.read.Taken.{Taken}
 use Rattle.pp_model.specs.declared.read.Taken.TheVariants as taken
 use Rattle.pp_model.specs.declared.splice.Entry.{Entry}
 
 -- A kind of reader: what it gives next, which definitions it sees, which number `__LINE__` shows for a line, unless
--- that is out of range, and which names never open a macro in it.
+-- that is out of range, how the lines of an argument are numbered there, and which names never open a macro in it.
 pub record Reading (R : Type 0) : Type 1 where
   pub Reads : R → Taken → R → Type 0
   pub visible : R → Definitions
-  pub shown_line : R → ℕ → Option ℕ
+  pub shown_line : R → ℕ → Option Integer
+  pub numbering : R → Numbering
   pub is_reserved : Name → Bool
 
 -- An expander: an outcome that was found too early and is held, the list, the reader after it, and the names that are
@@ -55,6 +59,7 @@ opening I expander _ = None
 -- a list of tokens as a reader
 pub record Listed : Type 0 where
   pub tokens : List Read
+  pub numbering : Numbering
   pub visible : Definitions
 
 -- a list of tokens, in which these names never open a macro: its tokens in order, and then the end
@@ -65,7 +70,8 @@ listed_reading is_reserved = record {
       (given ≡ option_map_or taken.Token (slice_get old.tokens 0) taken.End)
       × (new ≡ record old { tokens = drop 1 old.tokens });
   visible = λ reader. reader.visible;
-  shown_line = λ reader line. Some line;
+  shown_line = λ reader line. Some (number_of reader.numbering line);
+  numbering = λ reader. reader.numbering;
   is_reserved = is_reserved;
 }
 
@@ -78,6 +84,7 @@ abbrev pub line_reading : Reading Listed
 line_reading = listed_reading (λ name. is_same_name name defined_name)
 
 -- the start of reading these tokens, if these names are open around
-abbrev pub reading_of : List Read → Definitions → List Name → Expander Listed
-reading_of tokens visible hidden =
-    record { held = None; list = []; reader = record { tokens = tokens; visible = visible }; hidden = hidden }
+abbrev pub reading_of : List Read → Numbering → Definitions → List Name → Expander Listed
+reading_of tokens numbering visible hidden =
+    let reader : Listed = record { tokens = tokens; numbering = numbering; visible = visible } in
+    record { held = None; list = []; reader = reader; hidden = hidden }

@@ -1,6 +1,6 @@
 -- Reading a source: what comes next, once directives have acted (GLSL ES 3.20, section 3.4,
 -- and docs/RULES.md, Directives).
-use Rattle.std.specs.Prelude.{◌≡◌, ◌⊎◌, ℕ, ◌+◌, pos, ◌+ℤ◌, ◌-ℤ◌, Bool, false, if◌then◌else◌, Option, Some, None}
+use Rattle.std.specs.Prelude.{◌≡◌, ◌⊎◌, ℕ, ◌+◌, pos, ◌-ℤ◌, Bool, false, if◌then◌else◌, Option, Some, None}
 use Rattle.std.specs.Prelude.{Result, Ok, Err}
 use Rattle.pp_lexer.specs.declared.rules.Rules.{Rules}
 use Rattle.pp_lexer.specs.declared.token.PreprocessorError.TheVariants.{DefineRedefined}
@@ -8,7 +8,8 @@ use Rattle.pp_model.specs.Definitions.{Definition, with_change, IsSameDefinition
 use Rattle.pp_model.specs.Painting.{taken_of}
 use Rattle.pp_model.specs.Reading.{Reading}
 use Rattle.pp_model.specs.Calls.{Fault, Answers}
-use Rattle.pp_model.specs.LineValues.{IsCondition, IsLineNumber, as_line_number}
+use Rattle.pp_model.specs.LineValues.{IsCondition, IsLineNumber}
+use Rattle.pp_model.specs.Numbering.{list_numbering, text_number}
 use Rattle.pp_model.specs.SourceReader.{SourceReader}
 use Rattle.pp_model.specs.Acts.{act, decided}
 use Rattle.pp_model.specs.declared.definition.Named.{Named}
@@ -21,10 +22,6 @@ use Rattle.pp_model.specs.declared.step.Step.TheVariants as step
 -- the line to which a `#line` gives its number: its own, or by GLSL's rules the one after it
 abbrev pub numbered_line : Rules → ℕ → ℕ
 numbered_line rules line = if rules.numbers_next_line then line + 1 else line
-
--- the line number that `__LINE__` shows for a line
-abbrev pub shown_line : SourceReader → ℕ → Option ℕ
-shown_line reader line = as_line_number (pos line +ℤ reader.line_offset)
 
 -- A `#define` of a name that had this definition, if it had one: a new name is defined. The same definition again gives
 -- nothing, another one is a fault, and both leave the old one.
@@ -50,10 +47,12 @@ Does A r step.Passed after o t = (o ≡ None) × (t ≡ after)
 Does A r (step.Given x) after o t = (o ≡ Some x) × (t ≡ after)
 Does A r (step.Defines named) after o t = Defines named (r.definitions named.name) after o t
 Does A r (step.Condition word tokens) after o t =
-    (condition : Result Bool Fault) × IsCondition A word tokens r.definitions condition
+    (condition : Result Bool Fault)
+    × IsCondition A word tokens (list_numbering r.rules r.line_offset) r.definitions condition
     × Evaluated condition (λ holds. decided r.position holds after) r o t
 Does A r (step.LineNumber word tokens) after o t =
-    (number : Result ℕ Fault) × IsLineNumber A word tokens r.definitions number
+    (number : Result ℕ Fault)
+    × IsLineNumber A word tokens (list_numbering r.rules r.line_offset) r.definitions number
     × Evaluated number (λ n. record after { line_offset = pos n -ℤ pos (numbered_line r.rules word.line) }) r o t
 
 -- One token or line of the source: it gives something, or nothing.
@@ -73,6 +72,7 @@ abbrev pub source_reading : Answers → Reading SourceReader
 source_reading A = record {
   Reads = Reads A;
   visible = λ reader. reader.definitions;
-  shown_line = shown_line;
+  shown_line = λ reader. text_number reader.rules reader.line_offset;
+  numbering = λ reader. list_numbering reader.rules reader.line_offset;
   is_reserved = λ name. false;
 }

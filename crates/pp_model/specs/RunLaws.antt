@@ -22,6 +22,7 @@ use Rattle.pp_model.specs.declared.definition.Named.{Named}
 use Rattle.pp_model.specs.declared.outcome.Outcome.{Outcome}
 use Rattle.pp_model.specs.declared.outcome.Outcome.TheVariants as outcome
 use Rattle.pp_model.specs.declared.step.Step.TheVariants as step
+use Rattle.pp_model.specs.declared.numbering.Numbering.{Numbering}
 
 -- A line has at most one value or first fault.
 abbrev pub OneEvaluation : Type 0
@@ -30,9 +31,10 @@ OneEvaluation = (line : Line) (x y : Result Value Found) → Evaluates line x �
 -- The condition of an `#if` or `#elif` has at most one outcome: it holds, it doesn't, or it has a fault.
 abbrev pub OneCondition : Answers → Type 0
 OneCondition A =
-    (directive : Location) (tokens : List Token) (definitions : Definitions) (x y : Result Bool Fault)
-    → IsCondition A directive tokens definitions x
-    → IsCondition A directive tokens definitions y
+    (directive : Location) (tokens : List Token) (numbering : Numbering) (definitions : Definitions)
+    (x y : Result Bool Fault)
+    → IsCondition A directive tokens numbering definitions x
+    → IsCondition A directive tokens numbering definitions y
     → x ≡ y
 
 -- The words of a `#line` give at most one number or fault.
@@ -46,9 +48,10 @@ OneNumber =
 -- A `#line` gives at most one number or fault.
 abbrev pub OneLineNumber : Answers → Type 0
 OneLineNumber A =
-    (directive : Location) (tokens : List Token) (definitions : Definitions) (x y : Result ℕ Fault)
-    → IsLineNumber A directive tokens definitions x
-    → IsLineNumber A directive tokens definitions y
+    (directive : Location) (tokens : List Token) (numbering : Numbering) (definitions : Definitions)
+    (x y : Result ℕ Fault)
+    → IsLineNumber A directive tokens numbering definitions x
+    → IsLineNumber A directive tokens numbering definitions y
     → x ≡ y
 
 -- One token or line of a source has at most one outcome, which may be nothing, and one reader after it.

@@ -1,5 +1,6 @@
 -- What is taken next, before it is looked up (docs/RULES.md, Expansion 1 to 3).
-use Rattle.std.specs.Prelude.{◌≡◌, ℕ, pos, false, if◌then◌else◌, List, [], ◌∷◌, Option, Some, None, unwrap_or}
+use Rattle.std.specs.Prelude.{◌≡◌, ℕ, if◌then◌else◌, List, [], ◌∷◌, Option, Some, None, unwrap_or}
+use Rattle.pp_lexer.specs.declared.token.Integer.{Integer as IntegerLiteral}
 use Rattle.pp_lexer.specs.declared.token.Location.{Location}
 use Rattle.pp_lexer.specs.declared.token.PreprocessorError.TheVariants.{LineOverflow}
 use Rattle.pp_lexer.specs.declared.token.TokenValue.TheVariants.{Integer}
@@ -13,24 +14,21 @@ use Rattle.pp_model.specs.declared.read.Taken.TheVariants as taken
 use Rattle.pp_model.specs.declared.splice.Entry.{Entry}
 use Rattle.pp_model.specs.declared.splice.Entry.TheVariants.{Plain}
 
--- a line number as an unsigned integer at this place, or the fault of one that is out of range
-abbrev pub line_number : Location → Option ℕ → Taken
-line_number location (Some n) =
-    taken.Token (unpainted (record {
-      value = Integer (record { value = n; signed = false; width = pos 32 });
-      location = location;
-    }))
+-- a line number at this place, or the fault of one that is out of range
+abbrev pub line_number : Location → Option IntegerLiteral → Taken
+line_number location (Some number) =
+    taken.Token (unpainted (record { value = Integer number; location = location }))
 line_number location None = taken.Fault (LineOverflow, location)
 
 -- `__LINE__` becomes a number at once: from the line of the outermost open macro, or otherwise from its own
-abbrev pub shown_token : (ℕ → Option ℕ) → List Entry → Read → Taken
+abbrev pub shown_token : (ℕ → Option IntegerLiteral) → List Entry → Read → Taken
 shown_token shown_line after read =
     if is_identifier line_name read.token.value
     then line_number read.token.location (shown_line (unwrap_or (outermost_line after) read.token.location.line))
     else taken.Token read
 
 -- what the reader gives, with `__LINE__` as a number
-abbrev pub shown_outcome : (ℕ → Option ℕ) → Taken → Taken
+abbrev pub shown_outcome : (ℕ → Option IntegerLiteral) → Taken → Taken
 shown_outcome shown_line (taken.Token read) = shown_token shown_line [] read
 shown_outcome shown_line x = x
 

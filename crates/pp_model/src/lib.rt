@@ -12,6 +12,7 @@ pub mod directive;
 pub mod laws;
 pub mod line_value;
 pub mod names;
+pub mod numbering;
 pub mod outcome;
 pub mod parentheses;
 pub mod read;

@@ -19,10 +19,11 @@ use Rattle.pp_reference.specs.declared.expander.Turn.TheVariants.{Item, Replaced
 use Rattle.pp_model.specs.declared.read.Read.{Read}
 use Rattle.pp_model.specs.declared.read.Taken.{Taken}
 use Rattle.pp_model.specs.declared.read.Taken.TheVariants as taken
+use Rattle.pp_model.specs.declared.numbering.Numbering.{Numbering}
 
 -- a call as the definitions see it
 abbrev pub site_at : {S : Type 0} → Reading S → Expander S → Site → calls.Site
-site_at I e site = record { paren = site.paren; arguments = site.arguments; visible = I.visible e.reader; open_around = masked_names e }
+site_at I e site = record { paren = site.paren; arguments = site.arguments; numbering = I.numbering e.reader; visible = I.visible e.reader; open_around = masked_names e }
 
 -- what a call goes on to, for each answer to it
 pub record Goes {S : Type 0} (I : Reading S) (A : Answers) (e : Expander S) (call : MacroCall) (f : Expander S) : Type 0 where
@@ -71,7 +72,7 @@ whole_goes {S} I A x m site gathered e f g h t w k paren gathers line cut =
     → A m.definition (site_of I h site.paren gathered.tokens) answer =
     λ answer a.
     subst (λ (arguments : List (List Read)). A m.definition
-    (record { paren = site.paren; arguments = arguments; visible = I.visible h.reader; open_around = masked_names h }) answer) cut a
+    (record { paren = site.paren; arguments = arguments; numbering = I.numbering h.reader; visible = I.visible h.reader; open_around = masked_names h }) answer) cut a
     in
     record {
       refused = λ fault a. emitting.call_refused x (taken.Fault fault) fault m e f h t w k
@@ -105,15 +106,18 @@ turns_mean I A t e f (itself o _ _ _ takes w is) =
 turns_mean I A t e g (opens x m _ _ f _ takes w at) = turns_at_mean I A x m t e f g takes w at
 
 -- the answer that is known for these names is the call's
-pub answer_known : {S : Type 0} (I : Reading S) (A : Answers) (e : Expander S) (call : MacroCall) (visible : Definitions) (around : List Name)
-    (answer : Result (List (List Read)) Fault) → visible ≡ I.visible e.reader → around ≡ masked_names e
-    → A call.opening.definition (record { paren = call.site.paren; arguments = call.site.arguments; visible = visible; open_around = around }) answer
+pub answer_known : {S : Type 0} (I : Reading S) (A : Answers) (e : Expander S) (call : MacroCall) (numbering : Numbering)
+    (visible : Definitions) (around : List Name) (answer : Result (List (List Read)) Fault) → numbering ≡ I.numbering e.reader
+    → visible ≡ I.visible e.reader → around ≡ masked_names e
+    → A call.opening.definition (record {
+      paren = call.site.paren;
+      arguments = call.site.arguments;
+      numbering = numbering;
+      visible = visible;
+      open_around = around;
+    }) answer
     → A call.opening.definition (site_at I e call.site) answer
-answer_known I A e call visible around answer v h a =
-    subst (λ (n : List Name). A call.opening.definition
-    (record { paren = call.site.paren; arguments = call.site.arguments; visible = I.visible e.reader; open_around = n }) answer) h
-    (subst (λ (d : Definitions). A call.opening.definition
-    (record { paren = call.site.paren; arguments = call.site.arguments; visible = d; open_around = around }) answer) v a)
+answer_known I A e call numbering visible around answer n v h a = rw (← n, ← v, ← h) a
 
 -- a call whose answer is a fault
 pub resolves_fault : {S : Type 0} (I : Reading S) (A : Answers) (e f h : Expander S) (call : MacroCall) (answer : Result (List (List Read)) Fault)

@@ -3,7 +3,7 @@
 ghost use Rattle.std.specs.Prelude.{◌≡◌, ◌≤◌, slice_get, IfOk};
 ghost use Rattle.pp_reference.specs.inner.Changes.{meaning_of};
 ghost use Rattle.pp_model.specs.Emitting.{answers_at};
-ghost use Rattle.pp_model.specs.LineValues.{IsAlone, IsCondition, IsLineNumber, as_line_number};
+ghost use Rattle.pp_model.specs.LineValues.{IsAlone, IsCondition, IsLineNumber};
 ghost use Rattle.pp_reference.specs.inner.Halting.{Satisfies};
 
 use crate::definitions::Definitions;
@@ -12,6 +12,7 @@ use crate::stop::{Budget, Halt};
 use pp_lexer::token::{Location, PreprocessorError};
 use pp_model::definition::TokenList;
 use pp_model::line_value::unwanted_word;
+use pp_model::numbering::{Numbering, as_line_number};
 use pp_model::word::{LineKind, Words};
 use std::alloc::Global;
 
@@ -26,24 +27,18 @@ fn value_alone(alloc: Global, directive: Location, words: &mut Words) -> Result<
     }
 }
 
-// The value as the number of a line.
-fn as_line_number(value: i64) -> Option<u32>
-    ensures { result ≡ as_line_number value }
-{
-    u32::try_from(value).ok()
-}
-
 /// Whether the condition of an `#if` or `#elif` line holds, or its first fault.
 pub fn condition(
     alloc: Global,
     directive: Location,
     tokens: TokenList,
+    numbering: Numbering,
     definitions: &Definitions,
     levels: u32,
     budget: &mut Budget,
 ) -> Result<bool, Halt>
     ensures reads { Satisfies result (IsCondition (answers_at levels) directive tokens
-        (meaning_of definitions.now)) }
+        numbering (meaning_of definitions.now)) }
     ensures budget { budget.new.steps ≤ budget.old.steps }
 {
     let kind = LineKind::Condition;
@@ -52,6 +47,7 @@ pub fn condition(
         kind,
         directive,
         tokens.items,
+        numbering,
         definitions,
         levels,
         budget,
@@ -65,12 +61,13 @@ pub fn line_number(
     alloc: Global,
     directive: Location,
     tokens: TokenList,
+    numbering: Numbering,
     definitions: &Definitions,
     levels: u32,
     budget: &mut Budget,
 ) -> Result<u32, Halt>
     ensures reads { Satisfies result (IsLineNumber (answers_at levels) directive tokens
-        (meaning_of definitions.now)) }
+        numbering (meaning_of definitions.now)) }
     ensures budget { budget.new.steps ≤ budget.old.steps }
 {
     let kind = LineKind::LineNumber;
@@ -79,6 +76,7 @@ pub fn line_number(
         kind,
         directive,
         tokens.items,
+        numbering,
         definitions,
         levels,
         budget,

@@ -15,6 +15,7 @@ use crate::lists::{ReadList, ReadLists};
 use crate::reader::{ArgumentReader, Reader};
 use crate::stop::{Budget, Stop};
 use pp_lexer::token::{PreprocessorError, Text};
+use pp_model::numbering::Numbering;
 use pp_model::outcome::Fault;
 use pp_model::read::{Read, Taken};
 use std::alloc::{AllocError, Global};
@@ -35,6 +36,7 @@ pub fn expansion_limit() -> u32
 pub fn answer(
     alloc: Global,
     call: &MacroCall,
+    numbering: Numbering,
     visible: &Definitions,
     hidden: &[Text],
     levels: u32,
@@ -44,6 +46,7 @@ pub fn answer(
         (record {
           paren = call.now.site.paren;
           arguments = call.now.site.arguments;
+          numbering = numbering;
           visible = meaning_of visible.now;
           open_around = hidden.now;
         }) answer) }
@@ -60,6 +63,7 @@ pub fn answer(
     expand_arguments(
         alloc,
         &site.arguments.items,
+        numbering,
         visible,
         hidden,
         levels - 1,
@@ -72,18 +76,27 @@ pub fn answer(
 pub fn expand_arguments(
     alloc: Global,
     arguments: &[ReadList],
+    numbering: Numbering,
     visible: &Definitions,
     hidden: &[Text],
     levels: u32,
     budget: &mut Budget,
 ) -> Result<Result<ReadLists, Fault>, Stop>
-    ensures each { IfOk result (λ answer. Each (Alone levels)
+    ensures each { IfOk result (λ answer. Each (Alone levels) numbering
         (meaning_of visible.now) hidden.now arguments.now answer) }
     ensures budget { budget.new.steps ≤ budget.old.steps }
 {
     let mut expanded = Vec::new(alloc);
     for argument in arguments {
-        match expand_argument(alloc, &argument.items, visible, hidden, levels, budget)? {
+        match expand_argument(
+            alloc,
+            &argument.items,
+            numbering,
+            visible,
+            hidden,
+            levels,
+            budget,
+        )? {
             Ok(list) => expanded.push(list)?,
             Err(fault) => return Ok(Err(fault)),
         }
@@ -96,16 +109,17 @@ pub fn expand_arguments(
 pub fn expand_argument(
     alloc: Global,
     tokens: &[Read],
+    numbering: Numbering,
     visible: &Definitions,
     hidden: &[Text],
     levels: u32,
     budget: &mut Budget,
 ) -> Result<Result<ReadList, Fault>, Stop>
-    ensures alone { IfOk result (λ expanded. Alone levels tokens.now
+    ensures alone { IfOk result (λ expanded. Alone levels tokens.now numbering
         (meaning_of visible.now) hidden.now expanded) }
     ensures budget { budget.new.steps ≤ budget.old.steps }
 {
-    let mut expander = argument_expander(alloc, tokens, visible, hidden)?;
+    let mut expander = argument_expander(alloc, tokens, numbering, visible, hidden)?;
     let expanded = collect(alloc, &mut expander, levels, budget);
     drop(expander);
     expanded
@@ -138,14 +152,16 @@ fn collect(
 fn argument_expander<'a>(
     alloc: Global,
     tokens: &[Read],
+    numbering: Numbering,
     visible: &'a Definitions,
     hidden: &[Text],
 ) -> Result<Expander<ArgumentReader<'a>>, AllocError>
     ensures { IfOk result (λ expander. seen list_state expander
-        ≡ reading_of tokens.now (meaning_of visible.now) hidden.now) }
+        ≡ reading_of tokens.now numbering (meaning_of visible.now) hidden.now) }
 {
     let reader = ArgumentReader {
         tokens: copy_reads(alloc, tokens)?,
+        numbering,
         definitions: visible,
     };
     Ok(Expander::new(alloc, reader, copy_names(alloc, hidden)?))
@@ -163,14 +179,24 @@ fn answer_alone(
         (record {
           paren = call.now.site.paren;
           arguments = call.now.site.arguments;
+          numbering = argument_reading.numbering (list_state expander.now.reader);
           visible = argument_reading.visible (list_state expander.now.reader);
           open_around = masked_names (seen list_state expander.now);
         }) answer) }
     ensures budget { budget.new.steps ≤ budget.old.steps }
 {
     let around = expander.masked()?;
+    let numbering = expander.reader.numbering();
     let visible = expander.reader.visible();
-    answer(expander.alloc, call, visible, &around, levels, budget)
+    answer(
+        expander.alloc,
+        call,
+        numbering,
+        visible,
+        &around,
+        levels,
+        budget,
+    )
 }
 
 /// The next item of an argument.
@@ -215,14 +241,24 @@ fn answer_in<R: Reader>(
         (record {
           paren = call.now.site.paren;
           arguments = call.now.site.arguments;
+          numbering = R.reading.numbering (R.state expander.now.reader);
           visible = R.reading.visible (R.state expander.now.reader);
           open_around = masked_names (seen R.state expander.now);
         }) answer) }
     ensures budget { budget.new.steps ≤ budget.old.steps }
 {
     let around = expander.masked()?;
+    let numbering = expander.reader.numbering();
     let visible = expander.reader.visible();
-    answer(expander.alloc, call, visible, &around, levels, budget)
+    answer(
+        expander.alloc,
+        call,
+        numbering,
+        visible,
+        &around,
+        levels,
+        budget,
+    )
 }
 
 /// The next item of an expander.

@@ -136,16 +136,12 @@ fn line_of(opening: &Opening) -> u32
 }
 
 /// A line number at this place.
-fn line_number(location: Location, shown: Option<u32>) -> Taken
+fn line_number(location: Location, shown: Option<Integer>) -> Taken
     ensures { result ≡ line_number location shown }
 {
     match shown {
-        Some(line) => Taken::Token(Read::unpainted(Token {
-            value: TokenValue::Integer(Integer {
-                value: line as u64,
-                signed: false,
-                width: 32,
-            }),
+        Some(number) => Taken::Token(Read::unpainted(Token {
+            value: TokenValue::Integer(number),
             location,
         })),
         None => Taken::Fault((PreprocessorError::LineOverflow, location)),

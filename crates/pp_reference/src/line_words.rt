@@ -18,6 +18,7 @@ use crate::expander::Expander;
 use crate::reader::LineReader;
 use crate::stop::{Budget, Stop};
 use pp_lexer::token::{Location, PreprocessorError, Text, Token, TokenValue};
+use pp_model::numbering::Numbering;
 use pp_model::outcome::Fault;
 use pp_model::parentheses::{is_left_paren, is_right_paren};
 use pp_model::read::{Read, Taken};
@@ -224,16 +225,18 @@ pub fn line_words(
     kind: LineKind,
     directive: Location,
     tokens: Vec<Token>,
+    numbering: Numbering,
     definitions: &Definitions,
     levels: u32,
     budget: &mut Budget,
 ) -> Result<Words, Stop>
     ensures words { IfOk result (λ words. LineWords kind directive (answers_at levels)
-        (reading_of (map unpainted tokens.items) (meaning_of definitions.now) []) words) }
+        (reading_of (map unpainted tokens.items) numbering (meaning_of definitions.now) []) words) }
     ensures budget { budget.new.steps ≤ budget.old.steps }
 {
     let reader = LineReader {
         tokens: unpainted(alloc, tokens)?,
+        numbering,
         definitions,
     };
     let mut expander = Expander::new(alloc, reader, Vec::new(alloc));

@@ -7,8 +7,9 @@ ghost use Rattle.pp_model.specs.inner.Reading.{first_listed, after_listed};
 use crate::definitions::Definitions;
 use crate::list::take_first;
 use crate::stop::{Budget, Stop};
-use pp_lexer::token::Text;
+use pp_lexer::token::{Integer, Text};
 use pp_model::names::is_defined_name;
+use pp_model::numbering::Numbering;
 use pp_model::read::{Read, Taken};
 
 /// A reader of tokens. `State` is what contracts see of it, and `reading` is its kind.
@@ -32,8 +33,12 @@ pub trait Reader {
         ensures { meaning_of result.now ≡ reading.visible (state self.now) };
 
     /// The number that `__LINE__` shows for a line, or `None` if it is out of range.
-    fn shown_line(&self, line: u32) -> Option<u32>
+    fn shown_line(&self, line: u32) -> Option<Integer>
         ensures { result ≡ reading.shown_line (state self.now) line };
+
+    /// How the lines of an argument are numbered there.
+    fn numbering(&self) -> Numbering
+        ensures { result ≡ reading.numbering (state self.now) };
 
     /// Whether the name opens no macro in this reader.
     fn is_reserved(&self, name: &Text) -> bool
@@ -56,6 +61,8 @@ fn next_listed(tokens: &mut Vec<Read>) -> Taken
 pub struct ArgumentReader<'a> {
     /// The tokens that are left.
     pub tokens: Vec<Read>,
+    /// How their lines are numbered.
+    pub numbering: Numbering,
     /// The definitions that it sees.
     pub definitions: &'a Definitions,
 }
@@ -65,7 +72,11 @@ impl Reader for ArgumentReader<'_> {
 
     ghost State = { Listed };
 
-    ghost state = { λ reader. record { tokens = reader.tokens.items; visible = meaning_of reader.definitions.now } };
+    ghost state = { λ reader. record {
+      tokens = reader.tokens.items;
+      numbering = reader.numbering;
+      visible = meaning_of reader.definitions.now;
+    } };
 
     ghost reading = { argument_reading };
 
@@ -77,8 +88,12 @@ impl Reader for ArgumentReader<'_> {
         self.definitions
     }
 
-    fn shown_line(&self, line: u32) -> Option<u32> {
-        Some(line)
+    fn shown_line(&self, line: u32) -> Option<Integer> {
+        Some(self.numbering.number_of(line))
+    }
+
+    fn numbering(&self) -> Numbering {
+        self.numbering
     }
 
     fn is_reserved(&self, _name: &Text) -> bool {
@@ -91,6 +106,8 @@ impl Reader for ArgumentReader<'_> {
 pub struct LineReader<'a> {
     /// The tokens that are left.
     pub tokens: Vec<Read>,
+    /// How their lines are numbered.
+    pub numbering: Numbering,
     /// The definitions that it sees.
     pub definitions: &'a Definitions,
 }
@@ -100,7 +117,11 @@ impl Reader for LineReader<'_> {
 
     ghost State = { Listed };
 
-    ghost state = { λ reader. record { tokens = reader.tokens.items; visible = meaning_of reader.definitions.now } };
+    ghost state = { λ reader. record {
+      tokens = reader.tokens.items;
+      numbering = reader.numbering;
+      visible = meaning_of reader.definitions.now;
+    } };
 
     ghost reading = { line_reading };
 
@@ -112,8 +133,12 @@ impl Reader for LineReader<'_> {
         self.definitions
     }
 
-    fn shown_line(&self, line: u32) -> Option<u32> {
-        Some(line)
+    fn shown_line(&self, line: u32) -> Option<Integer> {
+        Some(self.numbering.number_of(line))
+    }
+
+    fn numbering(&self) -> Numbering {
+        self.numbering
     }
 
     fn is_reserved(&self, name: &Text) -> bool {

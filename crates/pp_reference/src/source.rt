@@ -15,8 +15,9 @@ use crate::reader::Reader;
 use crate::redefinition::is_same_definition;
 use crate::source_reader::SourceReader;
 use crate::stop::{Budget, Halt, Stop};
-use pp_lexer::token::{Location, PreprocessorError, Text};
+use pp_lexer::token::{Integer, Location, PreprocessorError, Text};
 use pp_model::definition::{Named, TokenList};
+use pp_model::numbering::Numbering;
 use pp_model::outcome::{Fault, Outcome};
 use pp_model::read::Taken;
 use pp_model::step::Step;
@@ -69,11 +70,13 @@ impl<'a> Source<'a> {
             (reader_of self.old.reader) o (reader_of self.new.reader)) }
         ensures budget { budget.new.steps ≤ budget.old.steps }
     {
+        let numbering = self.reader.list_numbering();
         let definitions = &self.reader.definitions;
         match condition(
             self.alloc,
             word,
             tokens,
+            numbering,
             definitions,
             expansion_limit(),
             budget,
@@ -100,11 +103,13 @@ impl<'a> Source<'a> {
             (reader_of self.old.reader) o (reader_of self.new.reader)) }
         ensures budget { budget.new.steps ≤ budget.old.steps }
     {
+        let numbering = self.reader.list_numbering();
         let definitions = &self.reader.definitions;
         match line_number(
             self.alloc,
             word,
             tokens,
+            numbering,
             definitions,
             expansion_limit(),
             budget,
@@ -159,8 +164,12 @@ impl Reader for Source<'_> {
         &self.reader.definitions
     }
 
-    fn shown_line(&self, line: u32) -> Option<u32> {
+    fn shown_line(&self, line: u32) -> Option<Integer> {
         self.reader.shown_line(line)
+    }
+
+    fn numbering(&self) -> Numbering {
+        self.reader.list_numbering()
     }
 
     fn is_reserved(&self, _name: &Text) -> bool {

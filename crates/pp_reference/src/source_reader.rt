@@ -10,7 +10,8 @@ ghost use Rattle.pp_model.specs.inner.Acts as parts;
 ghost use Rattle.pp_model.specs.Moves as moves;
 ghost use Rattle.pp_model.specs.Blocks.{are_surroundings_live};
 ghost use Rattle.pp_reference.specs.inner.ReaderState.{reader_of};
-ghost use Rattle.pp_model.specs.Reads.{numbered_line, shown_line};
+ghost use Rattle.pp_model.specs.Numbering.{list_numbering, text_number};
+ghost use Rattle.pp_model.specs.Reads.{numbered_line};
 ghost use Rattle.pp_model.specs.inner.Reads.{after_line_number};
 ghost use Rattle.pp_model.specs.inner.Run.{after_addition};
 ghost use Rattle.pp_model.specs.Sights.{least_items};
@@ -28,10 +29,12 @@ use crate::source_text::{error_length, has_live_text_before, is_first_directive}
 use crate::stop::{Halt, Stop};
 use pp_lexer::rules::Rules;
 use pp_lexer::token::{
-    Extension, Location, Pragma, PreprocessorError, Text, Token, TokenValue, Tokens, Version,
+    Extension, Integer, Location, Pragma, PreprocessorError, Text, Token, TokenValue, Tokens,
+    Version,
 };
 use pp_model::definition::{Definition, TokenList};
 use pp_model::directive::Directive;
+use pp_model::numbering::{Numbering, text_number};
 use pp_model::outcome::Outcome;
 use pp_model::sight::Sight;
 use pp_model::step::Step;
@@ -154,10 +157,17 @@ impl<'a> SourceReader<'a> {
     }
 
     /// The number that `__LINE__` shows for a line.
-    pub fn shown_line(&self, line: u32) -> Option<u32>
-        ensures { result ≡ shown_line (reader_of self.now) line }
+    pub fn shown_line(&self, line: u32) -> Option<Integer>
+        ensures { result ≡ text_number self.now.rules self.now.line_offset line }
     {
-        u32::try_from(i128::from(line) + i128::from(self.line_offset)).ok()
+        text_number(self.rules, self.line_offset, line)
+    }
+
+    /// How the lines of an argument or of a directive's line are numbered here.
+    pub fn list_numbering(&self) -> Numbering
+        ensures { result ≡ list_numbering self.now.rules self.now.line_offset }
+    {
+        Numbering::of_list(self.rules, self.line_offset)
     }
 
     /// Defines the name as these tokens, replacing any definition of it.

@@ -8,9 +8,9 @@ use Rattle.pp_rs.specs.Comes.{State, Gives, IsRunFrom}
 use Rattle.pp_macros.specs.Item.{Fault, Item}
 use Rattle.pp_rs.specs.Kept.{Preprocessing, Stands, is_spent, most_items, errors_left, error_place, rules_of}
 use Rattle.pp_macros.specs.Held.{ItemHoldsOrdinary}
-use Rattle.pp_macros.specs.LexerErrors.{ErrorAt}
+use Rattle.pp_macros.specs.LexerErrors.{ErrorAt, PassesErrors}
 use Rattle.pp_lexer.specs.declared.token.Location.{Location}
-use Rattle.pp_rs.specs.Preprocessing.{PassesErrors, IsNextItem}
+use Rattle.pp_rs.specs.Preprocessing.{IsNextItem}
 
 -- the tokens before the first error item
 abbrev pub tokens_before_error : List Item → List Token

@@ -1,5 +1,5 @@
 -- One call of `next` (docs/RULES.md, "Runs").
-use Rattle.std.specs.Prelude.{◌≡◌, ◌<◌, ◌⊎◌, Bool, true, false, List, [], ◌∷◌, ◌++◌, Option}
+use Rattle.std.specs.Prelude.{◌≡◌, ◌<◌, ◌⊎◌, Bool, true, false, List, [], ◌∷◌, Option}
 use Rattle.std.specs.Prelude.{Some, None, Ok, Err, MatchBool, ⊤}
 use Rattle.pp_lexer.specs.PreprocessorError.{out_of_memory}
 use Rattle.pp_lexer.specs.declared.token.Location.{Location}
@@ -9,7 +9,7 @@ use Rattle.pp_model.specs.CallLine.{item_line}
 use Rattle.pp_rs.specs.Comes.{State, Comes}
 use Rattle.pp_macros.specs.Held.{AnswerHoldsOrdinary}
 use Rattle.pp_macros.specs.Item.{Fault, Item, is_out_of_memory}
-use Rattle.pp_macros.specs.LexerErrors.{ErrorAt}
+use Rattle.pp_macros.specs.LexerErrors.{ErrorAt, PassesErrors}
 use Rattle.pp_rs.specs.Kept.{Preprocessing, Stands, is_spent, most_items, errors_left, error_place, call_line, rules_of}
 
 -- the answer is the error that memory ran out
@@ -41,12 +41,6 @@ abbrev pub IsLessLeft : Option Item → Preprocessing → Preprocessing → Type
 IsLessLeft (Some item) old new = most_items new < most_items old
 IsLessLeft None old new = most_items new ≡ 0
 
--- These errors of the lexer are left of those before. If the rules pass errors in dead text, the first may be gone;
--- otherwise none is.
-abbrev pub PassesErrors : Bool → List ErrorAt → List ErrorAt → Type 0
-PassesErrors false before after = after ≡ before
-PassesErrors true before after = (passed : List ErrorAt) × (before ≡ passed ++ after)
-
 -- The true place of an error that is given, if these errors of the lexer are left. If it is the first of them, this is
 -- that error's true place, and it is reported now. Otherwise it is the place in the item.
 pub data IsErrorAt (fault : Fault) (left : List ErrorAt) (new : Preprocessing) : Type 0 where
@@ -62,7 +56,8 @@ ReportsAnswer (Some (Err fault)) left place new = IsErrorAt fault left new
 ReportsAnswer (Some (Ok token)) left place new = (errors_left new ≡ left) × (error_place new ≡ place)
 ReportsAnswer None left place new = (left ≡ []) × (errors_left new ≡ []) × (error_place new ≡ place)
 
--- the errors of the lexer in dead text are passed, if the rules say so, and then the answer reports
+-- the errors of the lexer in dead text and on skipped lines are passed, if the rules say so, and then the answer
+-- reports
 pub record ReportsError (answer : Option Item) (old new : Preprocessing) : Type 0 where
   pub left : List ErrorAt
   pub passes : PassesErrors (rules_of old).passes_dead_errors (errors_left old) left

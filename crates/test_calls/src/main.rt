@@ -7,6 +7,8 @@
 //! |---|---|
 //! | `glsl` | all is done anew, by GLSL's rules |
 //! | `NAME=CONTENT` | `add_define` |
+//! | `at-most-N` | `set_budget`, of N steps |
+//! | `budget` | `is_over_budget` and `reached` |
 //! | `next` | `next`, once |
 //! | `rest` | `next` up to the first `None`, and then twice more |
 //! | `all`, `append` | `preprocess_all`, and `append_all` to an empty list |
@@ -94,6 +96,9 @@ fn act<'a>(
     if let Some((name, content)) = word.split_once('=') {
         return session.add(rt, name, content);
     }
+    if let Some(steps) = word.strip_prefix("at-most-") {
+        return session.bound(rt, steps.parse::<u64>().unwrap_or(0));
+    }
     match word {
         "glsl" => {
             session.begin_anew(Rules::glsl(460, Profile::Core));
@@ -103,6 +108,7 @@ fn act<'a>(
             session.next(rt)?;
             Ok(())
         }
+        "budget" => session.budget(rt),
         "rest" => session.rest(rt),
         "all" => session.all(rt),
         "append" => session.append(rt),

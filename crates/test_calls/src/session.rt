@@ -83,6 +83,20 @@ impl<'a> Session<'a> {
         shown
     }
 
+    /// Bounds the steps from here on.
+    pub(crate) fn bound(&mut self, rt: &impl Print, steps: u64) -> io::Result<()> {
+        match self.pp.set_budget(steps) {
+            Ok(()) => Ok(()),
+            Err(fault) => refused(rt, self.alloc, fault),
+        }
+    }
+
+    /// Shows whether more steps were needed, and the place to which the source was read.
+    pub(crate) fn budget(&self, rt: &impl Print) -> io::Result<()> {
+        let Location { start, end, line } = self.pp.reached();
+        println!(rt; "over={} {start}..{end} L{line}", self.pp.is_over_budget())
+    }
+
     // Shows an item, and keeps it.
     fn keep(&mut self, rt: &impl Print, given: PreprocessorItem) -> io::Result<()> {
         print_item(rt, self.alloc, &given)?;

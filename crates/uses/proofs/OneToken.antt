@@ -13,9 +13,10 @@ use Rattle.pp_model.specs.Emitting.{Emits, itself}
 use Rattle.pp_model.specs.Names.{Name, is_same_name, line_name}
 use Rattle.pp_model.specs.Painting.{unpainted}
 use Rattle.pp_model.specs.Reading.{Expander}
-use Rattle.pp_model.specs.Reads.{Steps, Reads, here, later, source_reading, shown_line}
+use Rattle.pp_model.specs.Reads.{Steps, Reads, here, later, source_reading}
 use Rattle.pp_model.specs.Run.{by_rules, start, next, Runs, done, given}
 use Rattle.pp_model.specs.SourceReader.{SourceReader, reader_at_start}
+use Rattle.pp_model.specs.Numbering.{text_number}
 use Rattle.pp_model.specs.Taking.{read, line_number, shown_token}
 use Rattle.pp_model.specs.declared.call.Reply.{Reply}
 use Rattle.pp_model.specs.declared.call.Reply.TheVariants.{Given}
@@ -50,8 +51,8 @@ module _ (A : Answers) (name : Name) (place after : Location) (b f c g : Bool) (
   first = taken.Token (unpainted (token_of name place))
 
   -- it isn't `__LINE__`, and so it is shown as it is
-  shown : first ≡ shown_token (shown_line (reader_at 1)) [] (unpainted (token_of name place))
-  shown = ap (λ is_line. if is_line then line_number place (shown_line (reader_at 1) (unwrap_or None place.line)) else first) (sym other)
+  shown : first ≡ shown_token (text_number (reader_at 1).rules (reader_at 1).line_offset) [] (unpainted (token_of name place))
+  shown = ap (λ is_line. if is_line then line_number place (text_number (reader_at 1).rules (reader_at 1).line_offset (unwrap_or None place.line)) else first) (sym other)
 
   word_comes : Emits (source_reading A) A (state_at 0) first (state_at 1)
   word_comes =

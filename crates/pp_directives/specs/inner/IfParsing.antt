@@ -9,6 +9,7 @@ use Rattle.pp_model.specs.LineValues as line
 use Rattle.pp_model.specs.declared.word.LineKind.{LineKind}
 use Rattle.pp_macros.specs.inner.Defined.{Defined}
 use Rattle.pp_directives.specs.inner.ReadingWords.{AreWordsOfLine}
+use Rattle.pp_model.specs.declared.numbering.Numbering.{Numbering}
 
 -- the place of the directive's word, and the words that are left of its line
 pub record IfParser : Type 0 where
@@ -16,10 +17,11 @@ pub record IfParser : Type 0 where
   pub words : Words
 
 -- no word of the line is taken yet
-pub record IsAtFront (kind : LineKind) (directive : Location) (tokens : List Token) (definitions : List Defined)
+pub record IsAtFront (kind : LineKind) (directive : Location) (tokens : List Token) (numbering : Numbering)
+    (definitions : List Defined)
     (parser : IfParser) : Type 0 where
   pub place : parser.directive ≡ directive
-  pub words : AreWordsOfLine kind directive expansion_limit tokens definitions parser.words
+  pub words : AreWordsOfLine kind directive expansion_limit tokens numbering definitions parser.words
 
 -- an expression is taken: its value, or its first fault
 pub record TakesExpression (old : IfParser) (taken : Result ℤ Fault) (new : IfParser) : Type 0 where

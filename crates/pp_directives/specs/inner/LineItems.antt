@@ -24,6 +24,7 @@ use Rattle.pp_macros.specs.inner.Reader.{of_list, Listing}
 use Rattle.pp_macros.specs.declared.halt.Halt.{Halt}
 use Rattle.pp_macros.specs.declared.halt.Halt.TheVariants as halt
 use Rattle.pp_macros.specs.declared.step.StepExit.TheVariants.{Error, Continue, Finished}
+use Rattle.pp_model.specs.declared.numbering.Numbering.{Numbering}
 
 -- the expander of the definitions for a line that is being read
 abbrev pub expander_of : kept.Expander → Listing → Expander Listed
@@ -31,7 +32,7 @@ expander_of m l = record {
   held = option_map outcome_of_step m.held;
   list = flat m.frames;
   reader =
-      record { tokens = l.tokens; visible = meaning_of l.definitions };
+      record { tokens = l.tokens; numbering = l.numbering; visible = meaning_of l.definitions };
   hidden = [];
 }
 
@@ -43,18 +44,20 @@ IsHeld (Some (Err Finished)) = ⊤
 IsHeld (Some (Err Continue)) = ⊥
 IsHeld (Some (Err (Error fault))) = ⊥
 
--- a line is being read, with these definitions
-pub record IsOnLine (definitions : List Defined) (m : kept.Expander) (l : Listing) : Type 0 where
+-- a line is being read that is numbered so, with these definitions
+pub record IsOnLine (numbering : Numbering) (definitions : List Defined) (m : kept.Expander) (l : Listing)
+    : Type 0 where
   pub sound : IsSound m (of_list l)
   pub holds : IsHeld m.held
   pub line : l.is_line ≡ true
   pub unhidden : l.hidden ≡ []
   pub defined : l.definitions ≡ definitions
+  pub numbered : l.numbering ≡ numbering
 
 -- the line is still being read, and no more of it is left than before
-pub record ReadsOn (levels : ℕ) (definitions : List Defined) (m : kept.Expander) (l : Listing) (n : kept.Expander)
-    (k : Listing) : Type 0 where
-  pub stands : IsOnLine definitions n k
+pub record ReadsOn (levels : ℕ) (numbering : Numbering) (definitions : List Defined) (m : kept.Expander) (l : Listing)
+    (n : kept.Expander) (k : Listing) : Type 0 where
+  pub stands : IsOnLine numbering definitions n k
   pub least : work_of levels n (of_list k) ≤ work_of levels m (of_list l)
 
 -- less of the line is left
@@ -63,13 +66,13 @@ IsWorkLess levels m l n k = work_of levels n (of_list k) < work_of levels m (of_
 
 -- What is read of a line: a value, after which the line is still being read, or a fault, after which nothing is known
 -- of it. If memory runs out, this says nothing.
-abbrev pub ReadsOfLine : {T : Type 0} → ℕ → List Defined → kept.Expander → Listing
+abbrev pub ReadsOfLine : {T : Type 0} → ℕ → Numbering → List Defined → kept.Expander → Listing
     → (Result T Fault → Expander Listed → Type 0)
     → Result T Halt → kept.Expander → Listing → Type 0
-ReadsOfLine levels definitions m l P (Ok value) n k =
-    P (Ok value) (expander_of n k) × ReadsOn levels definitions m l n k
-ReadsOfLine levels definitions m l P (Err (halt.Fault fault)) n k = (f : Expander Listed) × P (Err fault) f
-ReadsOfLine levels definitions m l P (Err halt.OutOfMemory) n k = ⊤
+ReadsOfLine levels numbering definitions m l P (Ok value) n k =
+    P (Ok value) (expander_of n k) × ReadsOn levels numbering definitions m l n k
+ReadsOfLine levels numbering definitions m l P (Err (halt.Fault fault)) n k = (f : Expander Listed) × P (Err fault) f
+ReadsOfLine levels numbering definitions m l P (Err halt.OutOfMemory) n k = ⊤
 
 -- a token, or nothing at the end
 abbrev pub taken_of_read : Option Read → Taken
@@ -81,32 +84,33 @@ taken_of_item (Ok found) = taken_of_read found
 taken_of_item (Err fault) = given.Fault fault
 
 -- the next item
-abbrev pub ReadsItem : ℕ → List Defined → kept.Expander → Listing → Result (Option Read) Halt → kept.Expander
-    → Listing → Type 0
-ReadsItem levels definitions m l = ReadsOfLine levels definitions m l (λ item f.
+abbrev pub ReadsItem : ℕ → Numbering → List Defined → kept.Expander → Listing → Result (Option Read) Halt
+    → kept.Expander → Listing → Type 0
+ReadsItem levels numbering definitions m l = ReadsOfLine levels numbering definitions m l (λ item f.
     Emits line_reading (answers_at levels) (expander_of m l) (taken_of_item item) f)
 
 -- what is taken next
-abbrev pub ReadsTaken : ℕ → List Defined → kept.Expander → Listing → Result (Option Read) Halt → kept.Expander
-    → Listing → Type 0
-ReadsTaken levels definitions m l =
-    ReadsOfLine levels definitions m l (λ item f. Takes line_reading (expander_of m l) (taken_of_item item) f)
+abbrev pub ReadsTaken : ℕ → Numbering → List Defined → kept.Expander → Listing → Result (Option Read) Halt
+    → kept.Expander → Listing → Type 0
+ReadsTaken levels numbering definitions m l =
+    ReadsOfLine levels numbering definitions m l
+    (λ item f. Takes line_reading (expander_of m l) (taken_of_item item) f)
 
 -- what the operand of a `defined` gives; the same after its `(`; and after the `(` and the name
-abbrev pub ReadsOperand : LineKind → Location → ℕ → List Defined → kept.Expander → Listing
+abbrev pub ReadsOperand : LineKind → Location → ℕ → Numbering → List Defined → kept.Expander → Listing
     → Result Bool Halt → kept.Expander → Listing → Type 0
-ReadsOperand kind directive levels definitions m l =
-    ReadsOfLine levels definitions m l
+ReadsOperand kind directive levels numbering definitions m l =
+    ReadsOfLine levels numbering definitions m l
     (λ answer f. Operand kind directive (answers_at levels) (expander_of m l) answer f)
 
-abbrev pub ReadsInParentheses : LineKind → Location → ℕ → List Defined → kept.Expander → Listing
-    → Result Bool Halt → kept.Expander → Listing → Type 0
-ReadsInParentheses kind directive levels definitions m l =
-    ReadsOfLine levels definitions m l
+abbrev pub ReadsInParentheses : LineKind → Location → ℕ → Numbering → List Defined → kept.Expander
+    → Listing → Result Bool Halt → kept.Expander → Listing → Type 0
+ReadsInParentheses kind directive levels numbering definitions m l =
+    ReadsOfLine levels numbering definitions m l
     (λ answer f. InParentheses kind directive (answers_at levels) (expander_of m l) answer f)
 
-abbrev pub ReadsClosed : LineKind → Location → ℕ → List Defined → Name → kept.Expander → Listing
-    → Result Bool Halt → kept.Expander → Listing → Type 0
-ReadsClosed kind directive levels definitions name m l =
-    ReadsOfLine levels definitions m l
+abbrev pub ReadsClosed : LineKind → Location → ℕ → Numbering → List Defined → Name → kept.Expander
+    → Listing → Result Bool Halt → kept.Expander → Listing → Type 0
+ReadsClosed kind directive levels numbering definitions name m l =
+    ReadsOfLine levels numbering definitions m l
     (λ answer f. Closes kind directive (answers_at levels) name (expander_of m l) answer f)

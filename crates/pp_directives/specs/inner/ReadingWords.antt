@@ -18,6 +18,7 @@ use Rattle.pp_macros.specs.inner.Reader.{Listing}
 use Rattle.pp_macros.specs.declared.halt.Halt.{Halt}
 use Rattle.pp_directives.specs.declared.line_words.WordReader.{WordReader}
 use Rattle.pp_directives.specs.declared.line_words.LineExpander.{LineExpander}
+use Rattle.pp_model.specs.declared.numbering.Numbering.{Numbering}
 
 -- the rest of the line, as the line's processor has it
 abbrev pub rest_of : LineExpander → Listing
@@ -25,12 +26,13 @@ rest_of line = listed_in line.expander.below line.lexer
 
 -- the line is being read, with the reader's definitions
 abbrev pub IsReading : WordReader → LineExpander → Type 0
-IsReading reader line = IsOnLine reader.definitions.now line.expander.here (rest_of line)
+IsReading reader line =
+    IsOnLine reader.scope.numbering reader.scope.definitions.now line.expander.here (rest_of line)
 
 -- the next item
 abbrev pub GivesItem : WordReader → LineExpander → Result (Option Read) Halt → LineExpander → Type 0
 GivesItem reader old result new =
-    ReadsItem reader.levels reader.definitions.now old.expander.here (rest_of old)
+    ReadsItem reader.levels reader.scope.numbering reader.scope.definitions.now old.expander.here (rest_of old)
     result new.expander.here (rest_of new)
 
 -- if a token is given, less of the line is left after it
@@ -42,7 +44,7 @@ TakesOff reader old result new =
 -- what is taken next
 abbrev pub GivesTaken : WordReader → LineExpander → Result (Option Read) Halt → LineExpander → Type 0
 GivesTaken reader old result new =
-    ReadsTaken reader.levels reader.definitions.now old.expander.here (rest_of old)
+    ReadsTaken reader.levels reader.scope.numbering reader.scope.definitions.now old.expander.here (rest_of old)
     result new.expander.here (rest_of new)
 
 -- the name of an identifier, or the fault of anything else, if a part of `defined` is needed here
@@ -54,17 +56,17 @@ IsNameOrFault directive found result =
 -- what the operand of a `defined` gives; the same after its `(`; and after the `(` and the name
 abbrev pub GivesOperand : WordReader → LineExpander → Result Bool Halt → LineExpander → Type 0
 GivesOperand reader old result new =
-    ReadsOperand reader.kind reader.directive reader.levels reader.definitions.now old.expander.here (rest_of old)
-    result new.expander.here (rest_of new)
+    ReadsOperand reader.kind reader.directive reader.levels reader.scope.numbering reader.scope.definitions.now
+    old.expander.here (rest_of old) result new.expander.here (rest_of new)
 
 abbrev pub GivesInParentheses : WordReader → LineExpander → Result Bool Halt → LineExpander → Type 0
 GivesInParentheses reader old result new =
-    ReadsInParentheses reader.kind reader.directive reader.levels reader.definitions.now
+    ReadsInParentheses reader.kind reader.directive reader.levels reader.scope.numbering reader.scope.definitions.now
     old.expander.here (rest_of old) result new.expander.here (rest_of new)
 
 abbrev pub GivesClosed : WordReader → Name → LineExpander → Result Bool Halt → LineExpander → Type 0
 GivesClosed reader name old result new =
-    ReadsClosed reader.kind reader.directive reader.levels reader.definitions.now name
+    ReadsClosed reader.kind reader.directive reader.levels reader.scope.numbering reader.scope.definitions.now name
     old.expander.here (rest_of old) result new.expander.here (rest_of new)
 
 -- the words that the rest of the line gives
@@ -74,6 +76,8 @@ AreWordsOf reader line words =
     (expander_of line.expander.here (rest_of line)) words
 
 -- the words that the whole line gives
-abbrev pub AreWordsOfLine : LineKind → Location → ℕ → List Token → List Defined → Words → Type 0
-AreWordsOfLine kind directive levels tokens definitions words =
-    LineWords kind directive (answers_at levels) (reading_of (map unpainted tokens) (meaning_of definitions) []) words
+abbrev pub AreWordsOfLine : LineKind → Location → ℕ → List Token → Numbering → List Defined → Words
+    → Type 0
+AreWordsOfLine kind directive levels tokens numbering definitions words =
+    LineWords kind directive (answers_at levels)
+    (reading_of (map unpainted tokens) numbering (meaning_of definitions) []) words

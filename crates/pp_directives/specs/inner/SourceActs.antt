@@ -23,6 +23,7 @@ use Rattle.pp_macros.specs.inner.Unreported.{Reports}
 use Rattle.pp_model.specs.Moves.{Effect, fails, defines, decides, renumbers, Move, failing, directive_move}
 use Rattle.pp_model.specs.Moves.{BlockFacts, passing}
 use Rattle.pp_model.specs.inner.Moves.{taking_more}
+use Rattle.pp_directives.specs.inner.Skipping.{SkipsRest}
 use Rattle.pp_macros.specs.inner.OpenBlocks.{BlockChange, unchanged, block_change_at, facts_among, is_live_among}
 use Rattle.pp_macros.specs.inner.SourceMoves.{Note, unnoted, note_at}
 use Rattle.pp_macros.specs.inner.Turns.{as_pause}
@@ -30,6 +31,8 @@ use Rattle.pp_macros.specs.Halting.{step_of}
 use Rattle.pp_macros.specs.declared.halt.Halt.{Halt}
 use Rattle.pp_macros.specs.declared.halt.Halt.TheVariants as halt
 use Rattle.pp_macros.specs.declared.step.StepExit.TheVariants.{Continue}
+use Rattle.pp_model.specs.Numbering.{list_numbering}
+use Rattle.pp_model.specs.declared.numbering.Numbering.{Numbering}
 
 -- All that is known after a fault: the rules are the same, no more items and open blocks are left, the same names have
 -- numbers, no more tokens of bodies are defined, and memory didn't run out.
@@ -46,12 +49,12 @@ RedefinesWith named (Some before) fault =
     (IsSameDefinition before named.definition → ⊥) × (fault ≡ (DefineRedefined, named.location))
 
 -- an effect has this fault, if these names are defined
-abbrev pub FailsWith : Effect → List Defined → Fault → Type 0
-FailsWith (fails wanted) definitions fault = fault ≡ wanted
-FailsWith (defines named) definitions fault = RedefinesWith named (meaning_of definitions named.name) fault
-FailsWith (decides word tokens) definitions fault = Condition word tokens definitions (Err fault)
-FailsWith (renumbers word tokens) definitions fault = LineNumber word tokens definitions (Err fault)
-FailsWith _ definitions fault = ⊥
+abbrev pub FailsWith : Effect → Numbering → List Defined → Fault → Type 0
+FailsWith (fails wanted) numbering definitions fault = fault ≡ wanted
+FailsWith (defines named) numbering definitions fault = RedefinesWith named (meaning_of definitions named.name) fault
+FailsWith (decides word tokens) numbering definitions fault = Condition word tokens numbering definitions (Err fault)
+FailsWith (renumbers word tokens) numbering definitions fault = LineNumber word tokens numbering definitions (Err fault)
+FailsWith _ numbering definitions fault = ⊥
 
 -- A directive does what the move says, if this becomes of the blocks: with a value, the step that shows it; with a
 -- fault, the fault of the move's effect. If memory runs out, this says nothing.
@@ -59,7 +62,7 @@ abbrev pub DoesMove : {A : Type 0} → (A → Step Token) → Note → BlockChan
     → Type 0
 DoesMove shows note change move old (Ok value) new = Makes note change move old (shows value) new
 DoesMove shows note change move old (Err (halt.Fault fault)) new =
-    FailsWith move.effect old.definitions fault × HasKept old new
+    FailsWith move.effect (list_numbering old.rules old.line_offset) old.definitions fault × HasKept old new
 DoesMove shows note change move old (Err halt.OutOfMemory) new = ⊤
 
 -- A directive does so; what it gives holds ordinary tokens; and an error of the lexer that it reads is reported, unless
@@ -124,10 +127,18 @@ GivesDirective hash old result new =
     GivesNoted (word_note live first) (word_change first)
     (word_move old.rules live (facts_among old.blocks) first (drop 1 old.rest)) old result new
 
--- and this as a step
+-- after a fault of a directive what is left of its line is skipped, if the rules say so
+abbrev pub SkipsAfter : Result (Option Token) Halt → Source → Source → Type 0
+SkipsAfter (Ok given) mid new = new ≡ mid
+SkipsAfter (Err (halt.Fault fault)) mid new = SkipsRest mid new
+SkipsAfter (Err halt.OutOfMemory) mid new = ⊤
+
+-- and all this as a step
 pub record StepsDirective (hash : Location) (old : Source) (step : Step Token) (new : Source) : Type 0 where
   pub given : Result (Option Token) Halt
-  pub gives : GivesDirective hash old given new
+  pub mid : Source
+  pub gives : GivesDirective hash old given mid
+  pub skips : SkipsAfter given mid new
   pub is : step ≡ step_of given
 
 -- a `#define`, once its line is read

@@ -22,6 +22,7 @@ use crate::lines::{
 use pp_lexer::lexer;
 use pp_lexer::token::{Extension, Location, Pragma, PreprocessorError, Token, TokenValue, Version};
 use pp_macros::halt::Halt;
+use pp_macros::list_lexer::Scope;
 use pp_model::conversion::refused_token;
 use pp_model::directive::{Directive, directive_of};
 
@@ -99,13 +100,11 @@ impl<'a> DirectiveProcessor<'a> {
             (moves.renumbers word) self.old.rest) self.old result self.new }
     {
         let tokens = line_reads(self.alloc, &mut self.lexer)?;
-        match line_number(
-            self.alloc,
-            word,
-            tokens,
-            &self.definitions,
-            &mut self.counts,
-        ) {
+        let scope = Scope {
+            numbering: self.list_numbering(),
+            definitions: &self.definitions,
+        };
+        match line_number(self.alloc, word, tokens, &scope, &mut self.counts) {
             Ok(number) => {
                 self.count_from(word.line, number);
                 Ok(())

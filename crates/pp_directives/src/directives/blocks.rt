@@ -13,6 +13,7 @@ use crate::lines::{ended_line, endif_end, line_reads, line_tokens, only_name, sk
 use pp_lexer::token::{Location, PreprocessorError};
 use pp_macros::blocks::OpenBlock;
 use pp_macros::halt::Halt;
+use pp_macros::list_lexer::Scope;
 
 impl<'a> DirectiveProcessor<'a> {
     // Opens a block whose condition is that the name on the line is defined, or (if not `wanted`) that it isn't.
@@ -38,13 +39,11 @@ impl<'a> DirectiveProcessor<'a> {
             self.old result self.new }
     {
         let tokens = line_reads(self.alloc, &mut self.lexer)?;
-        let holds = condition(
-            self.alloc,
-            word,
-            tokens,
-            &self.definitions,
-            &mut self.counts,
-        )?;
+        let scope = Scope {
+            numbering: self.list_numbering(),
+            definitions: &self.definitions,
+        };
+        let holds = condition(self.alloc, word, tokens, &scope, &mut self.counts)?;
         self.blocks.push(OpenBlock::opened(word, holds))?;
         Ok(())
     }
@@ -79,13 +78,11 @@ impl<'a> DirectiveProcessor<'a> {
     {
         self.blocks.replace_last(block.skipped());
         let tokens = line_reads(self.alloc, &mut self.lexer)?;
-        let holds = condition(
-            self.alloc,
-            word,
-            tokens,
-            &self.definitions,
-            &mut self.counts,
-        )?;
+        let scope = Scope {
+            numbering: self.list_numbering(),
+            definitions: &self.definitions,
+        };
+        let holds = condition(self.alloc, word, tokens, &scope, &mut self.counts)?;
         self.blocks.replace_last(block.decided(holds));
         Ok(())
     }

@@ -19,6 +19,7 @@ use Rattle.pp_macros.specs.declared.halt.Halt.{Halt}
 use Rattle.pp_macros.specs.declared.halt.Halt.TheVariants as halt
 use Rattle.pp_macros.specs.inner.Reach.{frame_steps}
 use Rattle.pp_macros.proofs.work.ReachLemmas.{most_level, frame_steps_level}
+use Rattle.pp_model.specs.declared.numbering.Numbering.{Numbering}
 
 -- a fault is passed on, where it is the fault of the whole
 pub satisfies_exit : {A : Type 0} (r : Result A Halt) (h : Halt) (P : Result A Fault → Type 0) → r ≡ Err h
@@ -38,12 +39,12 @@ satisfies_fault {A} h fault P is passes = subst (λ (x : Halt). Satisfies {A = A
 pub fault_of : {A : Type 0} (h : Halt) (fault : Fault) (P : Result A Fault → Type 0) → h ≡ halt.Fault fault → Satisfies {A = A} (Err h) P → P (Err fault)
 fault_of {A} h fault P e s = let k : Satisfies {A = A} (Err (halt.Fault fault)) P = subst (λ (x : Halt). Satisfies {A = A} (Err x) P) e s in k
 
-pub finish_fault : (levels : ℕ) (definitions : List Defined) (hidden : List Name) (call : MacroCall) (old new : Expander) (h : Halt) (fault : Fault)
-    → h ≡ halt.Fault fault → Finishes levels definitions hidden call old (Err h) new
-    → answers_at levels call.opened.definition (site_at call definitions (names_of old.frames ++ hidden)) (Err fault)
-finish_fault levels definitions hidden call old new h fault e s =
-    let k : Finishes levels definitions hidden call old (Err (halt.Fault fault)) new =
-    subst (λ (x : Halt). Finishes levels definitions hidden call old (Err x) new) e s in k.0
+pub finish_fault : (levels : ℕ) (numbering : Numbering) (definitions : List Defined) (hidden : List Name) (call : MacroCall) (old new : Expander) (h : Halt) (fault : Fault)
+    → h ≡ halt.Fault fault → Finishes levels numbering definitions hidden call old (Err h) new
+    → answers_at levels call.opened.definition (site_at call numbering definitions (names_of old.frames ++ hidden)) (Err fault)
+finish_fault levels numbering definitions hidden call old new h fault e s =
+    let k : Finishes levels numbering definitions hidden call old (Err (halt.Fault fault)) new =
+    subst (λ (x : Halt). Finishes levels numbering definitions hidden call old (Err x) new) e s in k.0
 
 -- no piece is longer than the tokens
 pub pieces_short : (n : ℕ) (tokens : List Read) → (length (pieces n tokens).first ≤ length tokens)
@@ -63,20 +64,20 @@ pieces_short n (read ∷ tokens) = cut (is_comma read.token.value && (n == 0)) (
     cut false ps h = (let k = h.0 in omega arith, λ k d inside. let low = h.1 k d inside in omega arith)
 
 -- what the arguments come to is what the call comes to, where their number fits
-pub answers_each : (levels : ℕ) (definitions : List Defined) (around : List Name) (call : MacroCall) → levels ≢ 0
+pub answers_each : (levels : ℕ) (numbering : Numbering) (definitions : List Defined) (around : List Name) (call : MacroCall) → levels ≢ 0
     → misfit call.opened.definition.parameters (arguments_of call.tokens) ≡ None → (out : Result (List (List Read)) Fault)
-    → ExpandsEach (levels - 1) definitions around (arguments_of call.tokens) out
-    → answers_at levels call.opened.definition (site_at call definitions around) out
-answers_each levels definitions around call some fits out expands =
-    level.answers_each levels call.opened.definition (site_at call definitions around) out some fits expands.each
+    → ExpandsEach (levels - 1) numbering definitions around (arguments_of call.tokens) out
+    → answers_at levels call.opened.definition (site_at call numbering definitions around) out
+answers_each levels numbering definitions around call some fits out expands =
+    level.answers_each levels call.opened.definition (site_at call numbering definitions around) out some fits expands.each
 
 -- no argument of a call is longer than what all of its tokens may come to
-pub of_call : (levels : ℕ) (definitions : List Defined) (around : List Name) (call : MacroCall) (r : Result (List (List Read)) Halt)
-    → Satisfies r (ExpandsEach (levels - 1) definitions around (arguments_of call.tokens)) → IfOk r (AreOfCall levels definitions call)
-of_call levels definitions around call (Ok arguments) expands = let here = pieces_short 0 call.tokens in
+pub of_call : (levels : ℕ) (numbering : Numbering) (definitions : List Defined) (around : List Name) (call : MacroCall) (r : Result (List (List Read)) Halt)
+    → Satisfies r (ExpandsEach (levels - 1) numbering definitions around (arguments_of call.tokens)) → IfOk r (AreOfCall levels definitions call)
+of_call levels numbering definitions around call (Ok arguments) expands = let here = pieces_short 0 call.tokens in
     expands.least (length call.tokens) (All-cons (λ (a : List Read). length a ≤ length call.tokens) (pieces 0 call.tokens).first
     (pieces 0 call.tokens).others here.0 here.1)
-of_call levels definitions around call (Err h) expands = tt
+of_call levels numbering definitions around call (Err h) expands = tt
 
 -- what a search gives satisfies what follows from it
 pub satisfies_more : {A : Type 0} (r : Result A Halt) (P Q : Result A Fault → Type 0) → ((out : Result A Fault) → P out → Q out)
@@ -86,14 +87,14 @@ satisfies_more (Err (halt.Fault fault)) P Q follows has = follows (Err fault) ha
 satisfies_more (Err halt.OutOfMemory) P Q follows has = tt
 
 -- a call that has no arguments ends with what they ended with
-pub finishes_without : (levels : ℕ) (definitions : List Defined) (hidden : List Name) (call : MacroCall) (old new : Expander)
+pub finishes_without : (levels : ℕ) (numbering : Numbering) (definitions : List Defined) (hidden : List Name) (call : MacroCall) (old new : Expander)
     (r : Result (Unit {0}) Halt) (h : Halt) → r ≡ Err h
-    → Satisfies {A = List (List Read)} (Err h) (answers_at levels call.opened.definition (site_at call definitions (names_of old.frames ++ hidden)))
-    → new ≡ old → Finishes levels definitions hidden call old r new
-finishes_without levels definitions hidden call old new r (halt.Fault fault) is has same =
-    subst (λ (x : Result (Unit {0}) Halt). Finishes levels definitions hidden call old x new) (sym is) (has, same)
-finishes_without levels definitions hidden call old new r halt.OutOfMemory is has same =
-    subst (λ (x : Result (Unit {0}) Halt). Finishes levels definitions hidden call old x new) (sym is) tt
+    → Satisfies {A = List (List Read)} (Err h) (answers_at levels call.opened.definition (site_at call numbering definitions (names_of old.frames ++ hidden)))
+    → new ≡ old → Finishes levels numbering definitions hidden call old r new
+finishes_without levels numbering definitions hidden call old new r (halt.Fault fault) is has same =
+    subst (λ (x : Result (Unit {0}) Halt). Finishes levels numbering definitions hidden call old x new) (sym is) (has, same)
+finishes_without levels numbering definitions hidden call old new r halt.OutOfMemory is has same =
+    subst (λ (x : Result (Unit {0}) Halt). Finishes levels numbering definitions hidden call old x new) (sym is) tt
 
 -- one more list, no longer than it may be
 pub short_more : (most : ℕ) (lists more : List (List Read)) (list : List Read) → All (λ (a : List Read). length a ≤ most) lists

@@ -16,6 +16,7 @@ use Rattle.pp_macros.proofs.taking.PartLemmas.{added_is}
 use Rattle.pp_macros.specs.inner.Parts.{addition}
 use Rattle.pp_macros.proofs.taking.ListLeadsLemmas.{Reached, reached_token, token_less, reached_pause, pause_less}
 use Rattle.pp_macros.proofs.work.CallFallsLemmas.{IsLess, turn_falls}
+use Rattle.pp_model.specs.declared.numbering.Numbering.{Numbering}
 
 -- each turn lowers what is left
 pub giving_less : (levels : ℕ) (r : Reader) (m n : Expander) (items more : List Read) → IsSound m r → GivesOne r m items n more → IsLess levels m r n r
@@ -64,33 +65,33 @@ given_some r s m n read (seeks own opened c step m1 between p q r1 t s1 steps so
     record { step = Ok own; after = between; reader = t; takes = steps; goes = refl }
 
 -- what the loop over an argument has reached from here, and that no more work is left
-pub record ReachedOn (levels : ℕ) (definitions : List Defined) (hidden : List Name) (tokens : List Read)
+pub record ReachedOn (levels : ℕ) (numbering : Numbering) (definitions : List Defined) (hidden : List Name) (tokens : List Read)
     (m : Expander) (l : Listing) (n : Expander) (more : List Read) : Type 0 where
-  pub reached : Reached levels definitions hidden tokens n l more
+  pub reached : Reached levels numbering definitions hidden tokens n l more
   pub least : work_of levels n (of_list l) ≤ work_of levels m (of_list l)
 
-module _ (levels : ℕ) (definitions : List Defined) (hidden : List Name) (tokens : List Read) (m : Expander) (l : Listing) where
-  reached_one : (n : Expander) (items more : List Read) → Reached levels definitions hidden tokens m l items → GivesOne (of_list l) m items n more
-      → ReachedOn levels definitions hidden tokens m l n more
+module _ (levels : ℕ) (numbering : Numbering) (definitions : List Defined) (hidden : List Name) (tokens : List Read) (m : Expander) (l : Listing) where
+  reached_one : (n : Expander) (items more : List Read) → Reached levels numbering definitions hidden tokens m l items → GivesOne (of_list l) m items n more
+      → ReachedOn levels numbering definitions hidden tokens m l n more
   reached_one n items more r (pause turns is) =
       rw is (record {
-        reached = reached_pause levels definitions hidden tokens m l items r n l turns;
-        least = omega (arith, pause_less levels definitions hidden tokens m l items r n l turns);
+        reached = reached_pause levels numbering definitions hidden tokens m l items r n l turns;
+        least = omega (arith, pause_less levels numbering definitions hidden tokens m l items r n l turns);
       })
   reached_one n items more r (token read turns is) =
       record {
-        reached = reached_token levels definitions hidden tokens m l items r n l read more turns is;
-        least = omega (arith, token_less levels definitions hidden tokens m l items r n l read turns);
+        reached = reached_token levels numbering definitions hidden tokens m l items r n l read more turns is;
+        least = omega (arith, token_less levels numbering definitions hidden tokens m l items r n l read turns);
       }
 
-pub reached_each : (levels : ℕ) (definitions : List Defined) (hidden : List Name) (tokens : List Read) (m : Expander) (l : Listing)
-    (items : List Read) (n : Expander) (more : List Read) → Reached levels definitions hidden tokens m l items → GivesEach (of_list l) m items n more
-    → ReachedOn levels definitions hidden tokens m l n more
-reached_each levels definitions hidden tokens m l items n more r (none n1 more1 same is) =
+pub reached_each : (levels : ℕ) (numbering : Numbering) (definitions : List Defined) (hidden : List Name) (tokens : List Read) (m : Expander) (l : Listing)
+    (items : List Read) (n : Expander) (more : List Read) → Reached levels numbering definitions hidden tokens m l items → GivesEach (of_list l) m items n more
+    → ReachedOn levels numbering definitions hidden tokens m l n more
+reached_each levels numbering definitions hidden tokens m l items n more r (none n1 more1 same is) =
     rw (same, is) (record { reached = r; least = omega arith })
-reached_each levels definitions hidden tokens m l items n more r (further between n1 some more1 each one) =
-    let h = reached_each levels definitions hidden tokens m l items between some r each in
-    let k = reached_one levels definitions hidden tokens between l n some more h.reached one in
+reached_each levels numbering definitions hidden tokens m l items n more r (further between n1 some more1 each one) =
+    let h = reached_each levels numbering definitions hidden tokens m l items between some r each in
+    let k = reached_one levels numbering definitions hidden tokens between l n some more h.reached one in
     record { reached = k.reached; least = omega (arith, h.least, k.least) }
 
 -- steps put what they give after the tokens before, so none of these matters
@@ -114,20 +115,20 @@ given_after r m before given items start n more (further between p some more1 ea
     }
 
 -- what the loop has reached of a list that had tokens before
-pub record ReachedAdded (levels : ℕ) (definitions : List Defined) (hidden : List Name) (tokens : List Read)
+pub record ReachedAdded (levels : ℕ) (numbering : Numbering) (definitions : List Defined) (hidden : List Name) (tokens : List Read)
     (m : Expander) (l : Listing) (before : List Read) (n : Expander) (more : List Read) : Type 0 where
   pub keeps : more ≡ before ++ addition before more
-  pub reached : Reached levels definitions hidden tokens n l (addition before more)
+  pub reached : Reached levels numbering definitions hidden tokens n l (addition before more)
   pub least : work_of levels n (of_list l) ≤ work_of levels m (of_list l)
 
-pub reached_added : (levels : ℕ) (definitions : List Defined) (hidden : List Name) (tokens : List Read) (m : Expander) (l : Listing)
+pub reached_added : (levels : ℕ) (numbering : Numbering) (definitions : List Defined) (hidden : List Name) (tokens : List Read) (m : Expander) (l : Listing)
     (before items : List Read) (n : Expander) (more : List Read) → items ≡ before ++ addition before items
-    → Reached levels definitions hidden tokens m l (addition before items) → GivesEach (of_list l) m items n more
-    → ReachedAdded levels definitions hidden tokens m l before n more
-reached_added levels definitions hidden tokens m l before items n more keeps r each =
+    → Reached levels numbering definitions hidden tokens m l (addition before items) → GivesEach (of_list l) m items n more
+    → ReachedAdded levels numbering definitions hidden tokens m l before n more
+reached_added levels numbering definitions hidden tokens m l before items n more keeps r each =
     let h = given_after (of_list l) m before (addition before items) items keeps n more each in
     let same : addition before more ≡ h.out = added_is before more h.out h.keeps in
-    let on = reached_each levels definitions hidden tokens m l (addition before items) n h.out r h.gives in
+    let on = reached_each levels numbering definitions hidden tokens m l (addition before items) n h.out r h.gives in
     record {
       keeps = h.keeps ∙ ap (λ (out : List Read). before ++ out) (sym same);
       reached = rw same on.reached;

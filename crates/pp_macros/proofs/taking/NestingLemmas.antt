@@ -18,6 +18,7 @@ use Rattle.pp_macros.specs.inner.Nesting.{MacroProcessor, MayWait, listed_in, op
 use Rattle.pp_macros.specs.inner.Reader.{Reader, Reads, of_source, of_list, hidden_of, shown_line, definitions_of}
 use Rattle.pp_macros.specs.inner.Turns.{Moves, Opens, macro_of, macro_of_value, masks}
 use Rattle.pp_macros.proofs.taking.ExpanderLemmas.{fetches_held, fetches_step, is_idle-idle}
+use Rattle.pp_lexer.specs.declared.token.Integer.{Integer}
 
 -- what is read doesn't depend on what is around
 pub reads_seen : (below : List Frame) (r s : Reader) (step : Step Read) → Reads r step s → Reads (seen_by below r) step (seen_by below s)
@@ -86,7 +87,7 @@ shown_seen below (of_list list) line = refl
 pub taken_seen : (below frames : List Frame) (r : Reader) (step : Step Read) → taken_as step frames (seen_by below r) ≡ taken_as step frames r
 taken_seen below frames r (Err exit) = refl
 taken_seen below frames r (Ok read) =
-    ap (λ (line : Option ℕ). step_of_outcome (if is_identifier line_name read.token.value then line_number read.token.location line else given.Token read))
+    ap (λ (line : Option Integer). step_of_outcome (if is_identifier line_name read.token.value then line_number read.token.location line else given.Token read))
     (shown_seen below r (unwrap_or (outermost_frame_line frames) read.token.location.line))
 
 -- a token that comes first is taken with its paint

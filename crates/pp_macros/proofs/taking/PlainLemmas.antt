@@ -29,6 +29,7 @@ use Rattle.pp_macros.specs.inner.Reach.{frame_steps, growth}
 use Rattle.pp_macros.specs.inner.Plain.{gives_itself, is_plain, is_plain_value}
 use Rattle.pp_macros.proofs.work.IterateLemmas.{iterate_up}
 use Rattle.pp_macros.proofs.work.ReachLemmas.{grown_up}
+use Rattle.pp_model.specs.declared.numbering.Numbering.{Numbering}
 
 unopened : (token : Token) (name : Name) (o : Option Definition) → is_none o ≡ true → opening_by token name o ≡ None
 unopened token name None e = refl
@@ -71,18 +72,18 @@ plain_paint definitions hidden false value e =
     not-true (is_one_of hidden value) (and_parts (gives_itself definitions value) (not (is_one_of hidden value)) e).1
 
 -- and opens nothing
-plain_opens : (definitions : List Defined) (hidden : List Name) (rest : List Read) (read : Read) (value : TokenValue)
+plain_opens : (numbering : Numbering) (definitions : List Defined) (hidden : List Name) (rest : List Read) (read : Read) (value : TokenValue)
     → is_plain_value definitions hidden read.painted value ≡ true
-    → opening_of argument_reading (reading_of rest (meaning_of definitions) hidden) read value ≡ None
-plain_opens definitions hidden rest read (Ident name) e =
+    → opening_of argument_reading (reading_of rest numbering (meaning_of definitions) hidden) read value ≡ None
+plain_opens numbering definitions hidden rest read (Ident name) e =
     no_opening definitions hidden read.painted read.token name e
-plain_opens definitions hidden rest read _ e = refl
+plain_opens numbering definitions hidden rest read _ e = refl
 
-plain_takes : (definitions : List Defined) (hidden : List Name) (read : Read) (rest : List Read) → is_plain definitions hidden read ≡ true
-    → Takes argument_reading (reading_of (read ∷ rest) (meaning_of definitions) hidden) (given.Token read) (reading_of rest (meaning_of definitions) hidden)
-plain_takes definitions hidden read rest e =
-    let e0 : Expander Listed = reading_of (read ∷ rest) (meaning_of definitions) hidden in
-    let e1 : Expander Listed = reading_of rest (meaning_of definitions) hidden in
+plain_takes : (numbering : Numbering) (definitions : List Defined) (hidden : List Name) (read : Read) (rest : List Read) → is_plain definitions hidden read ≡ true
+    → Takes argument_reading (reading_of (read ∷ rest) numbering (meaning_of definitions) hidden) (given.Token read) (reading_of rest numbering (meaning_of definitions) hidden)
+plain_takes numbering definitions hidden read rest e =
+    let e0 : Expander Listed = reading_of (read ∷ rest) numbering (meaning_of definitions) hidden in
+    let e1 : Expander Listed = reading_of rest numbering (meaning_of definitions) hidden in
     record {
       first = given.Token read;
       fetches = taking.read (given.Token read) (given.Token read) e1.reader e0 e1 refl refl (refl, refl)
@@ -91,30 +92,30 @@ plain_takes definitions hidden read rest e =
           (sym (plain_paint definitions hidden read.painted read.token.value e));
     }
 
-plain_collects : (A : Answers) (definitions : List Defined) (hidden : List Name) (tokens : List Read)
+plain_collects : (A : Answers) (numbering : Numbering) (definitions : List Defined) (hidden : List Name) (tokens : List Read)
     → list_all (is_plain definitions hidden) tokens ≡ true
-    → Collects argument_reading A (reading_of tokens (meaning_of definitions) hidden) (Ok tokens)
-plain_collects A definitions hidden [] e =
-    let e0 : Expander Listed = reading_of [] (meaning_of definitions) hidden in
+    → Collects argument_reading A (reading_of tokens numbering (meaning_of definitions) hidden) (Ok tokens)
+plain_collects A numbering definitions hidden [] e =
+    let e0 : Expander Listed = reading_of [] numbering (meaning_of definitions) hidden in
     done e0 e0 (Ok []) (itself given.End e0 e0 (record {
       first = given.End;
       fetches = taking.read given.End given.End e0.reader e0 e0 refl refl (refl, refl) refl refl;
       paints = refl;
     }) refl) refl
-plain_collects A definitions hidden (read ∷ rest) e =
-    let e0 : Expander Listed = reading_of (read ∷ rest) (meaning_of definitions) hidden in
-    let e1 : Expander Listed = reading_of rest (meaning_of definitions) hidden in
+plain_collects A numbering definitions hidden (read ∷ rest) e =
+    let e0 : Expander Listed = reading_of (read ∷ rest) numbering (meaning_of definitions) hidden in
+    let e1 : Expander Listed = reading_of rest numbering (meaning_of definitions) hidden in
     let h = and_parts (is_plain definitions hidden read) (list_all (is_plain definitions hidden) rest) e in
     item read (Ok rest) (Ok (read ∷ rest)) e0 e1
-    (itself (given.Token read) e0 e1 (plain_takes definitions hidden read rest h.0) (plain_opens definitions hidden rest read read.token.value h.0))
-    (plain_collects A definitions hidden rest h.1) refl
+    (itself (given.Token read) e0 e1 (plain_takes numbering definitions hidden read rest h.0) (plain_opens numbering definitions hidden rest read read.token.value h.0))
+    (plain_collects A numbering definitions hidden rest h.1) refl
 
 -- tokens that give themselves, alone
-pub plain_alone : (levels : ℕ) (definitions : List Defined) (hidden : List Name) (tokens : List Read)
+pub plain_alone : (levels : ℕ) (numbering : Numbering) (definitions : List Defined) (hidden : List Name) (tokens : List Read)
     → list_all (is_plain definitions hidden) tokens ≡ true
-    → Alone levels tokens (meaning_of definitions) hidden (Ok tokens)
-plain_alone levels definitions hidden tokens e =
-    plain_collects (answers_at levels) definitions hidden tokens e
+    → Alone levels tokens numbering (meaning_of definitions) hidden (Ok tokens)
+plain_alone levels numbering definitions hidden tokens e =
+    plain_collects (answers_at levels) numbering definitions hidden tokens e
 
 -- tokens are no more than they may come to
 pub plain_short : (levels : ℕ) (definitions : List Defined) (n : ℕ) → n ≤ most_alone levels definitions n
@@ -135,14 +136,14 @@ plain_part test tokens part e =
     (and_parts (list_all test (list_of tokens part)) (list_all test (drop (part.end - part.start) (drop part.start tokens))) within).0
 
 -- parts of such tokens, each alone
-pub plain_each : (levels : ℕ) (definitions : List Defined) (hidden : List Name) (tokens : List Read) (parts : List Part)
+pub plain_each : (levels : ℕ) (numbering : Numbering) (definitions : List Defined) (hidden : List Name) (tokens : List Read) (parts : List Part)
     → list_all (is_plain definitions hidden) tokens ≡ true
-    → Each (Alone levels) (meaning_of definitions) hidden (lists_of tokens parts) (Ok (lists_of tokens parts))
-plain_each levels definitions hidden tokens [] e = none (Ok []) refl
-plain_each levels definitions hidden tokens (part ∷ parts) e =
+    → Each (Alone levels) numbering (meaning_of definitions) hidden (lists_of tokens parts) (Ok (lists_of tokens parts))
+plain_each levels numbering definitions hidden tokens [] e = none (Ok []) refl
+plain_each levels numbering definitions hidden tokens (part ∷ parts) e =
     more (list_of tokens part) (list_of tokens part) (lists_of tokens parts) (Ok (lists_of tokens parts)) (Ok (lists_of tokens (part ∷ parts)))
-    (plain_alone levels definitions hidden (list_of tokens part) (plain_part (is_plain definitions hidden) tokens part e))
-    (plain_each levels definitions hidden tokens parts e) refl
+    (plain_alone levels numbering definitions hidden (list_of tokens part) (plain_part (is_plain definitions hidden) tokens part e))
+    (plain_each levels numbering definitions hidden tokens parts e) refl
 
 -- lists that come to themselves are no longer than they may be
 pub plain_are_short : (levels : ℕ) (definitions : List Defined) (lists : List (List Read)) → AreShort levels definitions lists lists

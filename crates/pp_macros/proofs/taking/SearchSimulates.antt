@@ -28,6 +28,7 @@ use Rattle.pp_macros.proofs.open_frames.FlatLemmas.{StepsList, frame_steps, open
 use Rattle.pp_macros.proofs.taking.PauseLemmas.{PausesTo, list_pauses}
 use Rattle.pp_macros.proofs.taking.TakingLemmas.{taken_flat}
 use Rattle.pp_macros.proofs.open_frames.ReportedLemmas.{taken_reported, painted_reported}
+use Rattle.pp_lexer.specs.declared.token.Integer.{Integer}
 
 module _ {R : Type 0} (I : Reading R) (StandsR : Reader → R → Type 0) (hidden : List Name) where
   -- what a step of a reader is to the reader that it stands for; of what stands after a fault nothing is said
@@ -102,7 +103,7 @@ module _ {R : Type 0} (I : Reading R) (StandsR : Reader → R → Type 0) (hidde
     taken_no_end : (frames : List Frame) (r : Reader) (read : Read) → taken_in frames r read ≡ given.End → ⊥
     taken_no_end frames r read = go (is_identifier line_name read.token.value) (shown_line r (unwrap_or (outermost_frame_line frames) read.token.location.line))
       where
-        go : (b : Bool) (o : Option ℕ) → (if b then line_number read.token.location o else given.Token read) ≡ given.End → ⊥
+        go : (b : Bool) (o : Option Integer) → (if b then line_number read.token.location o else given.Token read) ≡ given.End → ⊥
         go true (Some n) e = cc
         go true None e = cc
         go false o e = cc

@@ -13,9 +13,10 @@ use Rattle.pp_macros.specs.inner.Reader.{Reader, shown_line}
 use Rattle.pp_macros.specs.inner.Frames.{Frame, flat, outermost_frame_line}
 use Rattle.pp_macros.specs.inner.Turns.{taken_in}
 use Rattle.pp_macros.proofs.open_frames.FlatLemmas.{outermost_flat}
+use Rattle.pp_lexer.specs.declared.token.Integer.{Integer}
 
 -- what a token becomes that is taken, whether from the list or from the reader
-pub taken_flat : (shown : ℕ → Option ℕ) (frames : List Frame) (reader : Reader) (read : Read) → ((line : ℕ) → shown line ≡ shown_line reader line)
+pub taken_flat : (shown : ℕ → Option Integer) (frames : List Frame) (reader : Reader) (read : Read) → ((line : ℕ) → shown line ≡ shown_line reader line)
     → shown_token shown (flat frames) read ≡ taken_in frames reader read
 taken_flat shown frames reader read same =
     let place = λ (line : Option ℕ). unwrap_or line read.token.location.line in

@@ -15,7 +15,7 @@ use Rattle.pp_model.specs.declared.sight.Sight.{Sight}
 use Rattle.pp_model.specs.declared.sight.Sight.TheVariants as sight
 use Rattle.pp_macros.specs.inner.OpenBlocks.{last_block, outer_blocks, with_last, facts_among, is_live_among, block_parted, block_begun, block_branched, block_change, block_change_at}
 use Rattle.pp_macros.specs.declared.blocks.OpenBlock.{OpenBlock}
-use Rattle.pp_model.specs.Moves.{BlockFacts, Effect, fails, ends, passes, Move, failing, passing, directive_move, error_length, move_at}
+use Rattle.pp_model.specs.Moves.{BlockFacts, Effect, fails, ends, Move, failing, passing, directive_move, error_length, move_at}
 use Rattle.pp_model.specs.inner.Moves.{taking_more}
 use Rattle.pp_macros.specs.inner.SourceMoves.{move_of}
 use Rattle.pp_model.proofs.MovesLemmas.{error_taken}

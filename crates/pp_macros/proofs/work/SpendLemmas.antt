@@ -33,6 +33,7 @@ use Rattle.pp_macros.proofs.work.ReachLemmas.{grown_up, grown_some, grown_steep,
 use Rattle.pp_macros.proofs.work.IterateLemmas.{steep_is_level}
 use Rattle.pp_macros.proofs.work.ShrinkLemmas.{Shrinks, source_shrinks}
 use Rattle.pp_macros.proofs.open_frames.ReportedLemmas.{taken_reported, painted_reported}
+use Rattle.pp_lexer.specs.declared.token.Integer.{Integer}
 
 -- one step more is one more of all
 pub total_one_more : (regions : List ℕ) → total (one_more regions) ≡ suc (total regions)
@@ -232,7 +233,7 @@ module _ (frame : ℕ → ℕ) (names : ℕ) (level : IsLevel frame) where
   taken_spends (Ok read) fs r before after h = go (is_identifier line_name read.token.value) (shown_line r
       (unwrap_or (outermost_frame_line fs) read.token.location.line))
     where
-      go : (b : Bool) (o : Option ℕ) → Spends frame names (step_of_outcome (if b then line_number read.token.location o else given.Token read)) before after
+      go : (b : Bool) (o : Option Integer) → Spends frame names (step_of_outcome (if b then line_number read.token.location o else given.Token read)) before after
       go true (Some n) = h
       go true None = h
       go false o = h

@@ -1,6 +1,7 @@
 -- What is done with a call once its tokens are gathered: its arguments are expanded, and its frame opens
 -- (docs/RULES.md, Expansion 7 to 9).
 use Rattle.std.specs.Prelude.{◌≡◌, ◌≤◌, ◌-◌, ℕ, false, List, [], ◌∷◌, ◌++◌, All, length, None, Result, Ok, Err, IfOk, ⊤}
+use Rattle.pp_model.specs.declared.numbering.Numbering.{Numbering}
 use Rattle.pp_model.specs.declared.read.Read.{Read}
 use Rattle.pp_model.specs.Calls.{Fault, Site, arguments_of}
 use Rattle.pp_model.specs.Emitting.{Alone, Each, answers_at}
@@ -16,12 +17,14 @@ use Rattle.pp_macros.specs.inner.Reading.{AllReadOrdinary}
 use Rattle.pp_macros.specs.declared.halt.Halt.{Halt}
 use Rattle.pp_macros.specs.declared.halt.Halt.TheVariants as halt
 
--- the site of the call: the place of its `(`, its arguments, the definitions, and the names that are open around
-abbrev pub site_at : MacroCall → List Defined → List Name → Site
-site_at call definitions around =
+-- the site of the call: the place of its `(`, its arguments, how their lines are numbered, the definitions, and the
+-- names that are open around
+abbrev pub site_at : MacroCall → Numbering → List Defined → List Name → Site
+site_at call numbering definitions around =
     record {
       paren = call.paren;
       arguments = arguments_of call.tokens;
+      numbering = numbering;
       visible = meaning_of definitions;
       open_around = around;
     }
@@ -32,49 +35,60 @@ AreOfCall levels definitions call arguments =
     All (λ argument. length argument ≤ most_alone (levels - 1) definitions (length call.tokens)) arguments
 
 -- the frame of the call is open, with its expanded arguments, none of them longer than the bound
-pub record IsOpened (levels : ℕ) (definitions : List Defined) (around : List Name) (call : MacroCall)
-    (old new : Expander) : Type 0 where
+pub record IsOpened (levels : ℕ) (numbering : Numbering) (definitions : List Defined) (around : List Name)
+    (call : MacroCall) (old new : Expander) : Type 0 where
   pub arguments : List (List Read)
-  pub answers : answers_at levels call.opened.definition (site_at call definitions around) (Ok arguments)
+  pub answers : answers_at levels call.opened.definition (site_at call numbering definitions around) (Ok arguments)
   pub least : AreOfCall levels definitions call arguments
   pub opens : new ≡ record old { frames = new_frame call.opened call.closing.line arguments ∷ old.frames }
 
 -- The frame opens, or the call has this fault and nothing changes. If memory runs out, this says nothing.
-abbrev pub Finishes : ℕ → List Defined → List Name → MacroCall → Expander → Result (Unit {0}) Halt → Expander → Type 0
-Finishes levels definitions hidden call old (Ok done) new =
-    IsOpened levels definitions (names_of old.frames ++ hidden) call old new
-Finishes levels definitions hidden call old (Err (halt.Fault fault)) new =
-    answers_at levels call.opened.definition (site_at call definitions (names_of old.frames ++ hidden)) (Err fault)
+abbrev pub Finishes : ℕ → Numbering → List Defined → List Name → MacroCall → Expander
+    → Result (Unit {0}) Halt → Expander → Type 0
+Finishes levels numbering definitions hidden call old (Ok done) new =
+    IsOpened levels numbering definitions (names_of old.frames ++ hidden) call old new
+Finishes levels numbering definitions hidden call old (Err (halt.Fault fault)) new =
+    answers_at levels call.opened.definition (site_at call numbering definitions (names_of old.frames ++ hidden))
+    (Err fault)
     × (new ≡ old)
-Finishes levels definitions hidden call old (Err halt.OutOfMemory) new = ⊤
+Finishes levels numbering definitions hidden call old (Err halt.OutOfMemory) new = ⊤
 
 -- each expanded argument is within the bound for n tokens, if no argument has more than n tokens
 abbrev pub AreShort : ℕ → List Defined → List (List Read) → List (List Read) → Type 0
 AreShort levels definitions arguments outs = (n : ℕ) → All (λ argument. length argument ≤ n) arguments
     → All (λ out. length out ≤ most_alone levels definitions n) outs
 
--- nothing is open or held, and the list is an argument with these definitions and these names hidden
-pub record IsAtStart (definitions : List Defined) (hidden : List Name) (m : Expander) (l : Listing) : Type 0 where
+-- nothing is open or held, and the list is an argument that is numbered so, with these definitions and these names
+-- hidden
+pub record IsAtStart (numbering : Numbering) (definitions : List Defined) (hidden : List Name) (m : Expander)
+    (l : Listing) : Type 0 where
   pub idle : m ≡ record { held = None; frames = [] }
-  pub argument : l ≡ record { tokens = l.tokens; definitions = definitions; hidden = hidden; is_line = false }
+  pub argument : l ≡ record {
+    tokens = l.tokens;
+    numbering = numbering;
+    definitions = definitions;
+    hidden = hidden;
+    is_line = false;
+  }
 
 -- the tokens are expanded alone, and what they come to is put after the items
-pub record IsExpandedOnto (levels : ℕ) (definitions : List Defined) (hidden : List Name)
+pub record IsExpandedOnto (levels : ℕ) (numbering : Numbering) (definitions : List Defined) (hidden : List Name)
     (tokens old new : List Read) : Type 0 where
   pub keeps : new ≡ old ++ addition old new
-  pub alone : Alone levels tokens (meaning_of definitions) hidden (Ok (addition old new))
+  pub alone : Alone levels tokens numbering (meaning_of definitions) hidden (Ok (addition old new))
   pub least : length (addition old new) ≤ most_alone levels definitions (length tokens)
   pub holds : AllReadOrdinary new
 
 -- they are, or they have this fault
-abbrev pub ExpandsOnto : ℕ → List Defined → List Name → List Read → List Read → List Read → Result (Unit {0}) Fault
-    → Type 0
-ExpandsOnto levels definitions hidden tokens old new (Ok done) = IsExpandedOnto levels definitions hidden tokens old new
-ExpandsOnto levels definitions hidden tokens old new (Err fault) =
-    Alone levels tokens (meaning_of definitions) hidden (Err fault)
+abbrev pub ExpandsOnto : ℕ → Numbering → List Defined → List Name → List Read → List Read → List Read
+    → Result (Unit {0}) Fault → Type 0
+ExpandsOnto levels numbering definitions hidden tokens old new (Ok done) =
+    IsExpandedOnto levels numbering definitions hidden tokens old new
+ExpandsOnto levels numbering definitions hidden tokens old new (Err fault) =
+    Alone levels tokens numbering (meaning_of definitions) hidden (Err fault)
 
 -- each of the arguments is expanded alone, and comes to no more than the bound, or this is the first fault
-pub record ExpandsEach (levels : ℕ) (definitions : List Defined) (hidden : List Name) (arguments : List (List Read))
-    (out : Result (List (List Read)) Fault) : Type 0 where
-  pub each : Each (Alone levels) (meaning_of definitions) hidden arguments out
+pub record ExpandsEach (levels : ℕ) (numbering : Numbering) (definitions : List Defined) (hidden : List Name)
+    (arguments : List (List Read)) (out : Result (List (List Read)) Fault) : Type 0 where
+  pub each : Each (Alone levels) numbering (meaning_of definitions) hidden arguments out
   pub least : IfOk out (AreShort levels definitions arguments)

@@ -1,13 +1,15 @@
 -- What comes after the frames: the reader, as its interface object shows it.
-use Rattle.std.specs.Prelude.{◌≡◌, ◌⊎◌, ℕ, pos, ◌+ℤ◌, Bool, true, false, ◌&&◌, ◌||◌, if◌then◌else◌, List, [], ◌∷◌, ◌++◌}
+use Rattle.std.specs.Prelude.{◌≡◌, ◌⊎◌, ℕ, Bool, true, false, ◌&&◌, ◌||◌, if◌then◌else◌, List, [], ◌∷◌, ◌++◌}
 use Rattle.std.specs.Prelude.{Option, Some, None, Ok, Err}
 use Rattle.pp_lexer.specs.PreprocessorError.{out_of_memory}
+use Rattle.pp_lexer.specs.declared.token.Integer.{Integer}
 use Rattle.pp_lexer.specs.declared.token.Token.{Token}
 use Rattle.pp_lexer.specs.declared.token.TokenValue.{TokenValue}
 use Rattle.pp_model.specs.Calls.{is_left_paren, is_right_paren}
 use Rattle.pp_model.specs.Definitions.{Definitions}
-use Rattle.pp_model.specs.LineValues.{as_line_number}
+use Rattle.pp_model.specs.Numbering.{number_of, text_number}
 use Rattle.pp_model.specs.Names.{Name, is_identifier, is_same_name, defined_name, line_name}
+use Rattle.pp_model.specs.declared.numbering.Numbering.{Numbering}
 use Rattle.pp_model.specs.declared.read.Read.{Read}
 use Rattle.pp_model.specs.inner.Reading.{after_listed}
 use Rattle.pp_macros.specs.Held.{HoldsOrdinary}
@@ -18,10 +20,11 @@ use Rattle.pp_macros.specs.inner.Source.{Source, unreported_of, StepsSource}
 use Rattle.pp_macros.specs.inner.Unreported.{StepReports}
 use Rattle.pp_macros.specs.declared.step.StepExit.TheVariants.{Error, Finished}
 
--- The tokens of an argument or of a directive's line, with the definitions there and the names that are open around. On
--- a line `defined` is an operator.
+-- The tokens of an argument or of a directive's line, how their lines are numbered, with the definitions there and the
+-- names that are open around. On a line `defined` is an operator.
 pub record Listing : Type 0 where
   pub tokens : List Read
+  pub numbering : Numbering
   pub definitions : List Defined
   pub hidden : List Name
   pub is_line : Bool
@@ -101,9 +104,9 @@ visible (of_source source) = meaning_of source.definitions
 visible (of_list list) = λ name. if is_reserved list name then None else meaning_of list.definitions name
 
 -- the number that `__LINE__` shows for a line, unless it is out of range
-abbrev pub shown_line : Reader → ℕ → Option ℕ
-shown_line (of_source source) line = as_line_number (pos line +ℤ source.line_offset)
-shown_line (of_list list) line = Some line
+abbrev pub shown_line : Reader → ℕ → Option Integer
+shown_line (of_source source) line = text_number source.rules source.line_offset line
+shown_line (of_list list) line = Some (number_of list.numbering line)
 
 -- what is defined there; on a line this includes `defined`, if it is defined
 abbrev pub definitions_of : Reader → List Defined

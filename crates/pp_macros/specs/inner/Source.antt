@@ -23,6 +23,8 @@ use Rattle.pp_model.specs.Sights.{sight_of}
 use Rattle.pp_macros.specs.inner.SourceMoves.{Note, notes_text, notes_directive, move_of, note_of}
 use Rattle.pp_macros.specs.inner.Unreported.{Unreported, unreported}
 use Rattle.pp_macros.specs.declared.step.StepExit.TheVariants.{Error, Continue, Finished}
+use Rattle.pp_model.specs.Numbering.{list_numbering}
+use Rattle.pp_model.specs.declared.numbering.Numbering.{Numbering}
 
 -- the rules by which it is read; the items that are left, with their places; the place of an error of the lexer that
 -- was read and not reported; what is defined; the open blocks, the outermost first; what `#line` adds to a line;
@@ -99,24 +101,24 @@ Pauses taken note blocks old step new =
     (step ≡ Err Continue) × IsAfter taken note blocks old new × (new.definitions ≡ old.definitions)
 
 -- the condition of an `#if` or `#elif` with this word and these tokens holds, doesn't hold, or has this fault
-abbrev pub Condition : Location → List Token → List Defined → Result Bool Fault → Type 0
-Condition word tokens definitions result =
-    IsCondition (answers_at expansion_limit) word tokens (meaning_of definitions) result
+abbrev pub Condition : Location → List Token → Numbering → List Defined → Result Bool Fault → Type 0
+Condition word tokens numbering definitions result =
+    IsCondition (answers_at expansion_limit) word tokens numbering (meaning_of definitions) result
 
 -- the number that a `#line` with this word and these tokens gives, or its fault
-abbrev pub LineNumber : Location → List Token → List Defined → Result ℕ Fault → Type 0
-LineNumber word tokens definitions result =
-    IsLineNumber (answers_at expansion_limit) word tokens (meaning_of definitions) result
+abbrev pub LineNumber : Location → List Token → Numbering → List Defined → Result ℕ Fault → Type 0
+LineNumber word tokens numbering definitions result =
+    IsLineNumber (answers_at expansion_limit) word tokens numbering (meaning_of definitions) result
 
 -- a line with a condition: the open blocks after it depend on whether the condition holds
 pub data Decides (word : Location) (tokens : List Token) (blocks : Bool → List OpenBlock) (taken : ℕ) (note : Note)
     (old : Source) (step : Step Token) (new : Source) : Type 0 where
   holds : (value : Bool)
-      → Condition word tokens old.definitions (Ok value)
+      → Condition word tokens (list_numbering old.rules old.line_offset) old.definitions (Ok value)
       → Pauses taken note (blocks value) old step new
       → Decides word tokens blocks taken note old step new
   faulty : (fault : Fault)
-      → Condition word tokens old.definitions (Err fault)
+      → Condition word tokens (list_numbering old.rules old.line_offset) old.definitions (Err fault)
       → step ≡ Err (Error fault)
       → IsAfterFault old new
       → Decides word tokens blocks taken note old step new
@@ -125,12 +127,12 @@ pub data Decides (word : Location) (tokens : List Token) (blocks : Bool → List
 pub data Renumbers (word : Location) (tokens : List Token) (taken : ℕ) (note : Note) (old : Source) (step : Step Token)
     (new : Source) : Type 0 where
   numbers : (n : ℕ)
-      → LineNumber word tokens old.definitions (Ok n)
+      → LineNumber word tokens (list_numbering old.rules old.line_offset) old.definitions (Ok n)
       → Pauses taken note old.blocks
       (record old { line_offset = pos n -ℤ pos (numbered_line old.rules word.line) }) step new
       → Renumbers word tokens taken note old step new
   unnumbered : (fault : Fault)
-      → LineNumber word tokens old.definitions (Err fault)
+      → LineNumber word tokens (list_numbering old.rules old.line_offset) old.definitions (Err fault)
       → step ≡ Err (Error fault)
       → IsAfterFault old new
       → Renumbers word tokens taken note old step new

@@ -1,9 +1,9 @@
 -- The move of the table that a source makes, and what the source remembers of it (docs/RULES.md, Directives).
-use Rattle.std.specs.Prelude.{ℕ, Bool, true, false, if◌then◌else◌, List, ◌∷◌, Option}
+use Rattle.std.specs.Prelude.{Bool, true, false, if◌then◌else◌, List}
 use Rattle.pp_lexer.specs.Lexed.{Seen}
 use Rattle.pp_lexer.specs.declared.rules.Rules.{Rules}
-use Rattle.pp_model.specs.Moves.{BlockFacts, Move, move_at}
-use Rattle.pp_model.specs.Sights.{sight_of, is_directive_hash}
+use Rattle.pp_model.specs.Moves.{Move, move_at}
+use Rattle.pp_model.specs.Sights.{sight_of}
 use Rattle.pp_model.specs.declared.sight.Sight.{Sight}
 use Rattle.pp_model.specs.declared.sight.Sight.TheVariants as sight
 use Rattle.pp_macros.specs.inner.OpenBlocks.{facts_among, is_live_among}

@@ -3,7 +3,7 @@ use Rattle.std.specs.Prelude.{◌≡◌, Bool, true, false, List, ◌∷◌, ◌
 use Rattle.pp_lexer.specs.Lexed.{Seen}
 use Rattle.pp_lexer.specs.declared.token.Location.{Location}
 use Rattle.pp_macros.specs.Item.{Fault, Step, is_out_of_memory}
-use Rattle.pp_macros.specs.LexerErrors.{ErrorAt, errors_among}
+use Rattle.pp_macros.specs.LexerErrors.{ErrorAt, errors_among, PassesErrors}
 use Rattle.pp_macros.specs.declared.halt.Halt.{Halt}
 use Rattle.pp_macros.specs.declared.halt.Halt.TheVariants as halt
 use Rattle.pp_macros.specs.declared.step.StepExit.{StepExit}
@@ -27,6 +27,11 @@ with_read fault (Some place) later = record { item = fault; place = place } ∷ 
 abbrev pub IsMet : Fault → Unreported → Unreported → Type 0
 IsMet fault old new = old.read ≡ None → old.later ≡ with_read fault new.read new.later
 
+-- The same where errors may be passed: some of those before may be gone, and then of those after the fault too.
+abbrev pub IsMetOrPassed : Bool → Fault → Unreported → Unreported → Type 0
+IsMetOrPassed passes fault old new =
+    old.read ≡ None → PassesErrors passes old.later (with_read fault new.read new.later)
+
 -- Nothing is reported. No error is read or, if errors of dead text are passed, the first of those to be read may be. If
 -- an error was read and unreported before, this says nothing then.
 abbrev pub ReportsNone : Bool → Unreported → Unreported → Type 0
@@ -41,11 +46,11 @@ Reports passes (Err (halt.Fault fault)) old new = IsMet fault old new
 Reports passes (Err halt.OutOfMemory) old new = ⊤
 
 -- The same of a step that gives nothing: a pause or the end reports none, and if memory runs out, this says nothing.
--- The end reads no error.
+-- The end reads no error. With a fault errors may be passed: what is left of its line may be skipped.
 abbrev pub ExitReports : Bool → StepExit → Unreported → Unreported → Type 0
 ExitReports passes Continue old new = ReportsNone passes old new
 ExitReports passes Finished old new = new ≡ old
-ExitReports passes (Error fault) old new = is_out_of_memory fault.0 ≡ false → IsMet fault old new
+ExitReports passes (Error fault) old new = is_out_of_memory fault.0 ≡ false → IsMetOrPassed passes fault old new
 
 abbrev pub StepReports : {A : Type 0} → Bool → Step A → Unreported → Unreported → Type 0
 StepReports passes (Ok value) old new = ReportsNone passes old new

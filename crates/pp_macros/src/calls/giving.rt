@@ -191,6 +191,7 @@ impl MacroProcessor {
             unreachable!();
         };
         if let TokenValue::Punct(punct) = &token.value {
+            self.pay(1)?;
             items.push(Read {
                 token: Token {
                     value: TokenValue::Punct(*punct),

@@ -11,12 +11,13 @@ use Rattle.pp_model.specs.Emitting.{Alones, first_before, Each, none, first_fail
 use Rattle.pp_model.specs.ExistenceLaws.{IsFinite, AnAnswer, AnArgument}
 use Rattle.pp_model.specs.declared.read.Read.{Read}
 use Rattle.pp_model.proofs.existence.ListLemmas.{a_list}
+use Rattle.pp_model.specs.declared.numbering.Numbering.{Numbering}
 
-module _ (deeper : Alones) (argument_alone : AnArgument deeper) (visible : Definitions) (hidden : List Name) (finite : IsFinite visible) where
+module _ (deeper : Alones) (argument_alone : AnArgument deeper) (numbering : Numbering) (visible : Definitions) (hidden : List Name) (finite : IsFinite visible) where
   abbrev EachOf : List (List Read) → Type 0
-  EachOf arguments = (out : Result (List (List Read)) Fault) × Each deeper visible hidden arguments out
+  EachOf arguments = (out : Result (List (List Read)) Fault) × Each deeper numbering visible hidden arguments out
 
-  and_more : (argument : List Read) (arguments : List (List Read)) (x : Result (List Read) Fault) → deeper argument visible hidden x
+  and_more : (argument : List Read) (arguments : List (List Read)) (x : Result (List Read) Fault) → deeper argument numbering visible hidden x
       → EachOf arguments → EachOf (argument ∷ arguments)
   and_more argument arguments (Ok expanded) a rest =
       (first_before expanded rest.0, more argument expanded arguments rest.0 (first_before expanded rest.0) a rest.1 refl)
@@ -25,7 +26,7 @@ module _ (deeper : Alones) (argument_alone : AnArgument deeper) (visible : Defin
   each : (arguments : List (List Read)) → EachOf arguments
   each [] = (Ok [], none (Ok []) refl)
   each (argument ∷ arguments) =
-      let first = argument_alone argument visible hidden finite in
+      let first = argument_alone argument numbering visible hidden finite in
       and_more argument arguments first.0 first.1 (each arguments)
 
 -- a call has an answer, if each that has the right number of arguments has one
@@ -39,14 +40,14 @@ an_answer_by Fitting fitting definition site finite = decided (misfit definition
     decided (Some error) = (Err (error, site.paren), refl)
 
 an_argument_by : (A : Answers) → AnAnswer A → AnArgument (alone_by A)
-an_argument_by A answers tokens visible hidden finite = a_list (λ name. false) A answers (reading_of tokens visible hidden) finite
+an_argument_by A answers tokens numbering visible hidden finite = a_list (λ name. false) A answers (reading_of tokens numbering visible hidden) finite
 
 -- the arguments of a call have a list each, or there is a fault
 an_expansion : (level : ℕ) (site : Site) → IsFinite site.visible → (out : Result (List (List Read)) Fault) × ExpandsArguments level site out
 an_expansion zero site finite = (Err (RecursionLimitReached, site.paren), refl)
 an_expansion (suc level) site finite =
     each (Alone level) (an_argument_by (answers_at level) (an_answer_by (ExpandsArguments level) (an_expansion level)))
-    site.visible site.open_around finite site.arguments
+    site.numbering site.visible site.open_around finite site.arguments
 
 -- A call gives a list of expanded arguments, or a fault.
 pub an_answer : (level : ℕ) → AnAnswer (answers_at level)

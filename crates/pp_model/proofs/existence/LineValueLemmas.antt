@@ -11,10 +11,11 @@ use Rattle.pp_model.specs.Painting.{unpainted}
 use Rattle.pp_model.specs.Reading.{reading_of}
 use Rattle.pp_model.specs.Calls.{Fault, Answers}
 use Rattle.pp_model.specs.LineWords.{Words}
-use Rattle.pp_model.specs.LineValues.{line_of, placed_fault, ByExpression, IsAlone, as_line_number, words_after, NumberBefore, Numbers}
+use Rattle.pp_model.specs.LineValues.{line_of, placed_fault, ByExpression, IsAlone, words_after, NumberBefore, Numbers}
 use Rattle.pp_model.specs.ExistenceLaws.{AnAnswer, ACondition, ALineNumber}
 use Rattle.pp_model.specs.declared.word.LineKind.TheVariants.{Condition, LineNumber}
 use Rattle.pp_model.proofs.existence.LineLemmas.{a_line}
+use Rattle.pp_model.specs.Numbering.{as_line_number}
 
 -- words give something, if each value does
 a_result : {A : Type 0} (directive : Location) (words : Words) (By : Value → Result A Fault → Type 0)
@@ -49,14 +50,14 @@ a_number directive words = a_result directive words _ (λ v. a_number_given dire
 module _ (A : Answers) (answered : AnAnswer A) where
   -- A condition holds or not, or has a fault.
   pub a_condition : ACondition A
-  a_condition directive tokens definitions finite =
-      let line = a_line A answered Condition directive (reading_of (map unpainted tokens) definitions []) finite in
+  a_condition directive tokens numbering definitions finite =
+      let line = a_line A answered Condition directive (reading_of (map unpainted tokens) numbering definitions []) finite in
       let value = an_alone directive line.0 (λ value. not (is_zero value)) in
       (value.0, record { words = line.0; read = line.1; value = value.1 })
 
   -- A `#line` gives a number, or a fault.
   pub a_line_number : ALineNumber A
-  a_line_number directive tokens definitions finite =
-      let line = a_line A answered LineNumber directive (reading_of (map unpainted tokens) definitions []) finite in
+  a_line_number directive tokens numbering definitions finite =
+      let line = a_line A answered LineNumber directive (reading_of (map unpainted tokens) numbering definitions []) finite in
       let n = a_number directive line.0 in
       (n.0, record { words = line.0; read = line.1; numbers = n.1 })

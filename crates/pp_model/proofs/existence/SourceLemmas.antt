@@ -25,6 +25,7 @@ use Rattle.pp_model.proofs.existence.DefinitionLemmas.{with_one, same_definition
 use Rattle.pp_model.proofs.existence.LineValueLemmas.{a_condition, a_line_number}
 use Rattle.pp_model.proofs.existence.MoveLemmas.{stops, moves, left, act_less_left}
 use Rattle.pp_model.proofs.ReadsLemmas.{that_does}
+use Rattle.pp_model.specs.Numbering.{list_numbering}
 
 -- reading goes on after a step with this outcome, or a token was given
 abbrev goes : Option Outcome → Bool
@@ -77,13 +78,13 @@ module _ (A : Answers) (answered : AnAnswer A) where
         by (inr other) = faulty (step.Defines named) (DefineRedefined, named.location) (act r).after p ((moves r).finite f) (rw q (refl, inr (other, refl)))
 
     decided_by : (word : Location) (tokens : List Token) → (act r).step ≡ step.Condition word tokens
-        → (x : Result Bool Fault) → IsCondition A word tokens r.definitions x → Stepped r
+        → (x : Result Bool Fault) → IsCondition A word tokens (list_numbering r.rules r.line_offset) r.definitions x → Stepped r
     decided_by word tokens p (Ok holds) c =
         passed (step.Condition word tokens) (decided r.position holds (act r).after) p refl ((moves r).finite f) refl (Ok holds, c, (refl, refl))
     decided_by word tokens p (Err fault) c = faulty (step.Condition word tokens) fault r p f (Err fault, c, (refl, refl))
 
     numbered_by : (word : Location) (tokens : List Token) → (act r).step ≡ step.LineNumber word tokens
-        → (x : Result ℕ Fault) → IsLineNumber A word tokens r.definitions x → Stepped r
+        → (x : Result ℕ Fault) → IsLineNumber A word tokens (list_numbering r.rules r.line_offset) r.definitions x → Stepped r
     numbered_by word tokens p (Ok n) c =
         let t : SourceReader = record (act r).after { line_offset = pos n -ℤ pos (numbered_line r.rules word.line) } in
         passed (step.LineNumber word tokens) t p refl ((moves r).finite f) refl (Ok n, c, (refl, refl))
@@ -100,10 +101,10 @@ module _ (A : Answers) (answered : AnAnswer A) where
     }
     step_by (step.Defines named) p = defined_by named p (r.definitions named.name) refl
     step_by (step.Condition word tokens) p =
-        let c = a_condition A answered word tokens r.definitions f in
+        let c = a_condition A answered word tokens (list_numbering r.rules r.line_offset) r.definitions f in
         decided_by word tokens p c.0 c.1
     step_by (step.LineNumber word tokens) p =
-        let c = a_line_number A answered word tokens r.definitions f in
+        let c = a_line_number A answered word tokens (list_numbering r.rules r.line_offset) r.definitions f in
         numbered_by word tokens p c.0 c.1
 
     stepped : Stepped r

@@ -10,6 +10,7 @@ use Rattle.pp_model.specs.Emitting.{Emits}
 use Rattle.pp_model.specs.ExistenceLaws.{IsFinite, AnAnswer}
 use Rattle.pp_model.specs.declared.read.Taken.{Taken}
 use Rattle.pp_model.specs.declared.read.Taken.TheVariants as taken
+use Rattle.pp_lexer.specs.declared.token.Integer.{Integer}
 
 abbrev pub is_token : Taken → Bool
 is_token (taken.Token read) = true
@@ -60,6 +61,6 @@ pub token_painted : (names : List Name) (x : Taken) → is_token (taken_among na
 token_painted names (taken.Token read) h = h
 token_painted names _ h = h
 
-pub token_shown : (shown : ℕ → Option ℕ) (x : Taken) → is_token (shown_outcome shown x) ≡ true → is_token x ≡ true
+pub token_shown : (shown : ℕ → Option Integer) (x : Taken) → is_token (shown_outcome shown x) ≡ true → is_token x ≡ true
 token_shown shown (taken.Token read) h = refl
 token_shown shown _ h = h

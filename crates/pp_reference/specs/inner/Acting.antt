@@ -15,6 +15,7 @@ use Rattle.pp_model.specs.declared.step.Step.{Step}
 use Rattle.pp_model.specs.declared.step.Step.TheVariants as step
 use Rattle.pp_reference.specs.declared.stop.Halt.{Halt}
 use Rattle.pp_reference.specs.declared.stop.Halt.TheVariants as halt
+use Rattle.pp_model.specs.Numbering.{list_numbering}
 
 -- the reader after a step; the program passes a line whose value is wanted once that is known
 abbrev pub arrived : Step → SourceReader → SourceReader
@@ -42,12 +43,12 @@ HasLineIfOk (Err h) old new = ⊤
 pub record Deciding (A : Answers) (word : Location) (tokens : List Token) (r : SourceReader) (o : Option Outcome)
     (t : SourceReader) : Type 0 where
   pub result : Result Bool Fault
-  pub is : IsCondition A word tokens r.definitions result
+  pub is : IsCondition A word tokens (list_numbering r.rules r.line_offset) r.definitions result
   pub comes : Evaluated result (after_condition r) r o t
 
 -- what a `#line` gives
 pub record Renumbering (A : Answers) (word : Location) (tokens : List Token) (r : SourceReader) (o : Option Outcome)
     (t : SourceReader) : Type 0 where
   pub result : Result ℕ Fault
-  pub is : IsLineNumber A word tokens r.definitions result
+  pub is : IsLineNumber A word tokens (list_numbering r.rules r.line_offset) r.definitions result
   pub comes : Evaluated result (after_line_number r word) r o t

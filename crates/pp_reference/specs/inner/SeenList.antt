@@ -5,7 +5,15 @@ use Rattle.pp_reference.specs.declared.reader.ArgumentReader.{ArgumentReader}
 use Rattle.pp_reference.specs.declared.reader.LineReader.{LineReader}
 
 abbrev pub list_state : ArgumentReader → Listed
-list_state reader = record { tokens = reader.tokens.items; visible = meaning_of reader.definitions.now }
+list_state reader = record {
+  tokens = reader.tokens.items;
+  numbering = reader.numbering;
+  visible = meaning_of reader.definitions.now;
+}
 
 abbrev pub line_state : LineReader → Listed
-line_state reader = record { tokens = reader.tokens.items; visible = meaning_of reader.definitions.now }
+line_state reader = record {
+  tokens = reader.tokens.items;
+  numbering = reader.numbering;
+  visible = meaning_of reader.definitions.now;
+}

@@ -17,7 +17,7 @@ use Rattle.pp_macros.specs.Held.{HoldsOrdinary}
 use Rattle.pp_macros.specs.Item.{Item, Step, is_out_of_memory, wants_memory}
 use Rattle.pp_macros.specs.inner.CallTurns.{TakesSomething}
 use Rattle.pp_macros.specs.inner.Left.{work_of}
-use Rattle.pp_macros.specs.LexerErrors.{ErrorAt}
+use Rattle.pp_macros.specs.LexerErrors.{ErrorAt, PassesErrors}
 use Rattle.pp_macros.specs.inner.Expander as kept
 use Rattle.pp_macros.specs.inner.Frames.{outermost_frame_line}
 use Rattle.pp_macros.specs.inner.Reader.{of_source}
@@ -25,10 +25,10 @@ use Rattle.pp_macros.specs.inner.Source.{Source, unreported_of}
 use Rattle.pp_rs.specs.inner.SourceTurns.{TurnsSource, StepsOver}
 use Rattle.pp_rs.specs.inner.Stands.{StandsFor}
 use Rattle.pp_rs.specs.Kept.{Preprocessing, Stands, is_spent, most_items, errors_left, error_place, kept_line, call_line, rules_of}
-use Rattle.pp_rs.specs.Preprocessing.{IsLessLeft, PassesErrors, IsErrorAt, of_lexer, of_its_own, IsRefusedItem, IsGivenItem, IsNextItem}
+use Rattle.pp_rs.specs.Preprocessing.{IsLessLeft, IsErrorAt, of_lexer, of_its_own, IsRefusedItem, IsGivenItem, IsNextItem}
 use Rattle.pp_macros.specs.inner.Unreported.{with_read}
 use Rattle.pp_macros.specs.declared.step.StepExit.TheVariants.{Error, Continue, Finished}
-use Rattle.pp_rs.proofs.runs.PassedErrorsLemmas.{passes_none}
+use Rattle.pp_directives.proofs.PassedErrorsLemmas.{passes_none}
 use Rattle.pp_rs.proofs.runs.Leads.{GivesItem, LeadsFrom, Leads, leads_then}
 use Rattle.pp_rs.proofs.runs.LeftLemmas.{SomethingLeft, some_left, left_is_work, no_work}
 use Rattle.pp_rs.proofs.runs.UnreportedTurnLemmas.{errors_of, ErrorsLeft, left_then, turn_errors}

@@ -5,10 +5,10 @@ use Rattle.pp_lexer.specs.declared.rules.Rules.{Rules}
 use Rattle.pp_lexer.specs.declared.token.Location.{Location}
 use Rattle.pp_lexer.specs.declared.token.Token.{Token}
 use Rattle.pp_macros.specs.Item.{Item}
-use Rattle.pp_macros.specs.LexerErrors.{ErrorAt}
+use Rattle.pp_macros.specs.LexerErrors.{ErrorAt, PassesErrors}
 use Rattle.pp_rs.specs.Kept.{Preprocessing, is_spent, most_items, errors_left, error_place, rules_of}
 use Rattle.pp_rs.specs.inner.NextWord.{IsPassed}
-use Rattle.pp_rs.specs.Preprocessing.{IsNextItem, IsRefusedItem, IsGivenItem, IsLessLeft, PassesErrors, ReportsAnswer, ReportsError}
+use Rattle.pp_rs.specs.Preprocessing.{IsNextItem, IsRefusedItem, IsGivenItem, IsLessLeft, ReportsAnswer, ReportsError}
 use Rattle.pp_rs.proofs.runs.PassedErrorsLemmas.{passes_then}
 
 -- what is passed goes by the same rules

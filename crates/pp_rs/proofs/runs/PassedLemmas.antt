@@ -15,14 +15,15 @@ use Rattle.pp_macros.specs.declared.step.StepExit.TheVariants.{Continue}
 use Rattle.pp_directives.specs.inner.PlainText.{IsStep}
 use Rattle.pp_rs.specs.Kept.{Preprocessing, Stands, IsAhead, is_spent, most_items, errors_left, error_place, kept_line, rules_of}
 use Rattle.pp_rs.specs.inner.NextWord.{IsPassed}
-use Rattle.pp_rs.specs.Preprocessing.{PassesErrors, IsNextItem}
+use Rattle.pp_macros.specs.LexerErrors.{PassesErrors}
+use Rattle.pp_rs.specs.Preprocessing.{IsNextItem}
 use Rattle.pp_rs.specs.inner.Fit.{IsFit, IsReported}
 use Rattle.pp_rs.specs.inner.SourceTurns.{StepsOver}
 use Rattle.pp_rs.proofs.runs.IdleLemmas.{idle_exit, idle_token}
 use Rattle.pp_macros.proofs.taking.ExpanderLemmas.{is_idle-idle}
 use Rattle.pp_rs.proofs.runs.Leads.{LeadsFrom}
 use Rattle.pp_rs.proofs.runs.UnreportedTurnLemmas.{errors_of}
-use Rattle.pp_rs.proofs.runs.PassedErrorsLemmas.{passes_none}
+use Rattle.pp_directives.proofs.PassedErrorsLemmas.{passes_none}
 use Rattle.pp_rs.proofs.runs.PausesLemmas.{given_over}
 use Rattle.pp_rs.proofs.runs.NextLemmas.{Reached, reached_first, token_fits, free_line, next_token}
 

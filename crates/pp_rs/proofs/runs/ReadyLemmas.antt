@@ -25,6 +25,7 @@ use Rattle.pp_macros.proofs.open_frames.ReportedLemmas.{wants_taken, exit_report
 use Rattle.pp_rs.proofs.source.EndLemmas.{source_end}
 use Rattle.pp_rs.proofs.source.UnpaintedLemmas.{unpainted_reported, unpainted_end}
 use Rattle.pp_rs.proofs.runs.UnspentLemmas.{steps_unspent}
+use Rattle.pp_lexer.specs.declared.token.Integer.{Integer}
 
 reads_ready : (r s : Reader) (step : Step Read) → IsReady r → Reads r step s → wants_memory step ≡ false → IsReady s
 reads_ready (of_source old) (of_source new) step ready h reported =
@@ -62,7 +63,7 @@ taken_end : (move : Step Read) (fs : List Frame) (r : Reader) → taken_as move 
 taken_end (Ok read) fs r e = absurd (go (is_identifier line_name read.token.value)
     (shown_line r (unwrap_or (outermost_frame_line fs) read.token.location.line)) e)
   where
-    go : (b : Bool) (o : Option ℕ) → step_of_outcome (if b then line_number read.token.location o else given.Token read) ≡ Err Finished → ⊥
+    go : (b : Bool) (o : Option Integer) → step_of_outcome (if b then line_number read.token.location o else given.Token read) ≡ Err Finished → ⊥
     go true (Some n) e = cc
     go true None e = cc
     go false o e = cc

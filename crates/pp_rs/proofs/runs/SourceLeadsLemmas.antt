@@ -1,6 +1,6 @@
 -- The expander with calls over a source is the definitions' expander of it.
 use Rattle.std.proofs.Common.{◌≡◌, false, ℕ, [], refl, sym, ap, None}
-use Rattle.std.specs.Prelude.{ℤ, pos, ◌+ℤ◌, if◌then◌else◌, Ok, Err}
+use Rattle.std.specs.Prelude.{if◌then◌else◌, Ok, Err}
 use Rattle.pp_lexer.specs.declared.token.Token.{Token}
 use Rattle.pp_model.specs.Names.{Name}
 use Rattle.pp_model.specs.Definitions.{Definitions}
@@ -16,7 +16,6 @@ use Rattle.pp_macros.specs.Item.{Step, wants_memory}
 use Rattle.pp_macros.specs.inner.Expander as kept
 use Rattle.pp_macros.specs.inner.Reader.{Reader, of_source, of_list, Reads, hidden_of, shown_line, visible}
 use Rattle.pp_macros.specs.inner.Reading.{unpainted_step}
-use Rattle.pp_model.specs.LineValues.{as_line_number}
 use Rattle.pp_model.specs.Reads.{here, later}
 use Rattle.pp_rs.specs.Comes.{source_rules}
 use Rattle.pp_macros.specs.inner.Source.{Source}
@@ -49,7 +48,7 @@ sources_simulate (of_source old) (of_list new) x step stands h reported = absurd
 sources_simulate (of_list old) s x step stands h reported = absurd stands
 
 pub source_shows : (s : Reader) (y : SourceReader) (line : ℕ) → IsSource s y → source_rules.shown_line y line ≡ shown_line s line
-source_shows (of_source source) y line stands = ap (λ (k : ℤ). as_line_number (pos line +ℤ k)) stands.line_offset
+source_shows (of_source source) y line stands = rw (stands.rules, stands.line_offset) refl
 source_shows (of_list l) y line stands = absurd stands
 
 pub source_hides : (s : Reader) (y : SourceReader) → IsSource s y → hidden_of s ≡ []

@@ -3,8 +3,7 @@
 use Rattle.std.proofs.Common.{◌≡◌, ◌∙◌, ◌⊎◌, inl, inr, ℕ, zero, suc, ◌-◌, ◌<◌, ◌≤◌, true, false, List, [], ◌∷◌, ◌++◌, length, refl, ap, sym, subst, arith, Option, Some, None, Ok, Err, All}
 use Rattle.pp_lexer.specs.PreprocessorError.{out_of_memory}
 use Rattle.pp_lexer.specs.declared.token.Token.{Token}
-use Rattle.pp_model.specs.Calls.{Site, arguments_of, site_of}
-use Rattle.pp_model.specs.Definitions.{Definitions}
+use Rattle.pp_model.specs.Calls.{Site, site_of}
 use Rattle.pp_model.specs.Emitting.{Emits, answers_at}
 use Rattle.pp_model.proofs.LevelLemmas.{none_at_limit}
 use Rattle.pp_model.specs.Names.{Name}
@@ -18,7 +17,7 @@ use Rattle.pp_model.specs.declared.read.Taken.TheVariants as given
 use Rattle.pp_model.specs.declared.splice.Entry.{Entry}
 use Rattle.pp_macros.specs.inner.Calling.{MacroCall}
 use Rattle.pp_macros.specs.inner.CallTurns.{TurnsTo, TurnsOrRefuses, TakesSomething}
-use Rattle.pp_macros.specs.inner.Defined.{Defined, meaning_of}
+use Rattle.pp_macros.specs.inner.Defined.{Defined}
 use Rattle.pp_macros.specs.inner.Finishing.{site_at, Finishes, IsOpened}
 use Rattle.pp_rs.specs.inner.Fit.{EndIsLast, IsFit}
 use Rattle.pp_macros.specs.inner.Frames.{Frame, new_frame, flat, names_of, outermost_frame_line}
@@ -50,13 +49,17 @@ use Rattle.pp_rs.proofs.runs.SourceLeadsLemmas.{IsSource, sources_simulate, sour
 use Rattle.pp_macros.proofs.work.SpendLemmas.{Falls, no_more_falls, one_more_falls}
 use Rattle.pp_macros.proofs.taking.TurnLeadsLemmas.{LeadsTo, line_after}
 use Rattle.pp_macros.proofs.work.WorkFallsLemmas.{frame_of, falls_work}
+use Rattle.pp_model.specs.Numbering.{list_numbering}
+use Rattle.pp_model.specs.declared.numbering.Numbering.{Numbering}
 
 -- what follows of a call that is not finished, unless memory is refused
-pub follows_halt : (levels l : ℕ) (ds es : List Defined) (hidden : List Name) (c : MacroCall) (m n : kept.Expander) (h : Halt) (step : Step Token)
-    → l ≡ levels → es ≡ ds → hidden ≡ [] → Finishes l es hidden c m (Err h) n → step ≡ Err (exit_of h)
-    → FollowsCall levels ds c m step n ⊎ (step ≡ Err (Error out_of_memory))
-follows_halt levels l ds es hidden c m n (halt.Fault fault) step e d none f is = inl (refused fault is (rw (e, d, none) at f.0) f.1)
-follows_halt levels l ds es hidden c m n halt.OutOfMemory step e d none f is = inr is
+pub follows_halt : (levels l : ℕ) (source : Source) (numbering : Numbering) (definitions : List Defined) (hidden : List Name) (c : MacroCall)
+    (m n : kept.Expander) (h : Halt) (step : Step Token) → l ≡ levels → numbering ≡ list_numbering source.rules source.line_offset
+    → definitions ≡ source.definitions → hidden ≡ [] → Finishes l numbering definitions hidden c m (Err h) n → step ≡ Err (exit_of h)
+    → FollowsCall levels source c m step n ⊎ (step ≡ Err (Error out_of_memory))
+follows_halt levels l source numbering definitions hidden c m n (halt.Fault fault) step e counts d none f is =
+    inl (refused fault is (rw (e, counts, d, none) at f.0) f.1)
+follows_halt levels l source numbering definitions hidden c m n halt.OutOfMemory step e counts d none f is = inr is
 
 -- the turns of the code
 module _ (levels : ℕ) (m n : kept.Expander) (r s : Source) where
@@ -75,7 +78,7 @@ module _ (levels : ℕ) (m n : kept.Expander) (r s : Source) where
 
   -- a call that is finished at once, unless memory is refused
   pub goes_follow : (c : MacroCall) (p : kept.Expander) (step : Step Token) → TurnsOrRefuses m (of_source r) (Ok (taken.Call c)) n (of_source s)
-      → FollowsCall levels s.definitions c n step p ⊎ (step ≡ Err (Error out_of_memory)) → StepsOver levels m r step p s
+      → FollowsCall levels s c n step p ⊎ (step ≡ Err (Error out_of_memory)) → StepsOver levels m r step p s
   goes_follow c p step (inr t) f = let bad = t.fault in cc
   goes_follow c p step (inl t) (inl f) = inl (record { taken = Ok (taken.Call c); between = n; turns = t; follows = f })
   goes_follow c p step (inl t) (inr is) =
@@ -85,7 +88,7 @@ module _ (levels : ℕ) (m n : kept.Expander) (r s : Source) where
   pub source_some : (step : Step Token) → TurnsSource levels m r step n s → (step ≡ Err Finished → ⊥) → TakesSomething m (of_source r)
   source_some step h goes = turn_some m h.between (of_source r) (of_source s) h.taken h.turns (λ e. goes (ends h.taken e h.follows))
     where
-      ends : (t : Step Taken) → t ≡ Err Finished → FollowsTurn levels s.definitions t h.between step n → step ≡ Err Finished
+      ends : (t : Step Taken) → t ≡ Err Finished → FollowsTurn levels s t h.between step n → step ≡ Err Finished
       ends (Ok token) e follows = cc
       ends (Err exit) e follows = let is = follows.0 in cc
 
@@ -104,8 +107,8 @@ module _ (levels : ℕ) (m : kept.Expander) (old new : Source) (fit : IsFit m ol
   free_last o n e = rw e tt
 
   opened_less : (levels' : ℕ) → levels' ≡ levels → (c : MacroCall) (n p : kept.Expander) → IsPending levels' m (of_source old) c n (of_source new)
-      → IsOpened levels' new.definitions (names_of n.frames ++ []) c n p → IsLess levels' m (of_source old) p (of_source new)
-  opened_less zero e c n p pend o = absurd (none_at_limit c.opened.definition (site_at c new.definitions (names_of n.frames ++ [])) o.arguments o.answers)
+      → IsOpened levels' (list_numbering new.rules new.line_offset) new.definitions (names_of n.frames ++ []) c n p → IsLess levels' m (of_source old) p (of_source new)
+  opened_less zero e c n p pend o = absurd (none_at_limit c.opened.definition (site_at c (list_numbering new.rules new.line_offset) new.definitions (names_of n.frames ++ [])) o.arguments o.answers)
   opened_less (suc lower) e c n p pend o =
       let one : suc lower - 1 ≡ lower = omega arith in
       let least : All (λ (a : List Read). length a ≤ most_alone lower new.definitions (length c.tokens)) o.arguments = rw (← one) o.least in
@@ -114,7 +117,7 @@ module _ (levels : ℕ) (m : kept.Expander) (old new : Source) (fit : IsFit m ol
       rw at (pending_opens lower m (of_source old) c n (of_source new) o.arguments pend least)
 
   call_after : (c : MacroCall) (n p : kept.Expander) (step : Step Token) → IsPending levels m (of_source old) c n (of_source new)
-      → FollowsCall levels new.definitions c n step p → IsAfter levels m old step p new
+      → FollowsCall levels new c n step p → IsAfter levels m old step p new
   call_after c n p step pend (opened is o) =
       let less = opened_less levels refl c n p pend o in
       record { less = λ goes. less.falls; sound = less.sound; last = free_last p.held p (ap (λ (x : kept.Expander). x.held) o.opens ∙ pend.free) }
@@ -137,7 +140,7 @@ module _ (levels : ℕ) (m : kept.Expander) (old new : Source) (fit : IsFit m ol
   less_after step n p same last less = rw same (record { less = λ goes. less.falls; sound = less.sound; last = last })
 
   follows_after : (step : Step Token) (n p : kept.Expander) (t : Step Taken) → TurnsTo m (of_source old) t n (of_source new)
-      → FollowsTurn levels new.definitions t n step p → wants_memory step ≡ false → IsAfter levels m old step p new
+      → FollowsTurn levels new t n step p → wants_memory step ≡ false → IsAfter levels m old step p new
   follows_after step n p (Ok (taken.Call c)) turns follows reported =
       call_after c n p step (turn_falls levels m (of_source old) fit.sound (Ok (taken.Call c)) n (of_source new) turns refl) follows
   follows_after step n p (Err (Error fault)) turns follows reported =
@@ -154,7 +157,7 @@ module _ (levels : ℕ) (m : kept.Expander) (old new : Source) (fit : IsFit m ol
       less_after step n p follows.1 (turn_last m n (of_source old) (of_source new) t fit.unspent turns)
       (turn_falls levels m (of_source old) fit.sound t n (of_source new) turns refl)
 
-  taken_reported : (step : Step Token) (n p : kept.Expander) (t : Step Taken) → FollowsTurn levels new.definitions t n step p → wants_memory step ≡ false
+  taken_reported : (step : Step Token) (n p : kept.Expander) (t : Step Taken) → FollowsTurn levels new t n step p → wants_memory step ≡ false
       → wants_taken t ≡ false
   taken_reported step n p (Err (Error fault)) follows reported = rw follows.0 at reported
   taken_reported step n p _ follows reported = refl
@@ -177,7 +180,7 @@ module _ (levels : ℕ) (m : kept.Expander) (old new : Source) (fit : IsFit m ol
   pub source_ends : (n : kept.Expander) → TurnsSource levels m old (Err Finished) n new → (n.held ≡ None) × (n.frames ≡ []) × (new.rest ≡ []) × (new.blocks ≡ [])
   source_ends n h = go h.taken h.between h.turns h.follows
     where
-      go : (t : Step Taken) (k : kept.Expander) → TurnsTo m (of_source old) t k (of_source new) → FollowsTurn levels new.definitions t k (Err Finished) n
+      go : (t : Step Taken) (k : kept.Expander) → TurnsTo m (of_source old) t k (of_source new) → FollowsTurn levels new t k (Err Finished) n
           → (n.held ≡ None) × (n.frames ≡ []) × (new.rest ≡ []) × (new.blocks ≡ [])
       go (Ok (taken.Token read)) k turns follows = let bad = follows.0 in cc
       go (Ok (taken.Call c)) k turns (opened is o) = cc
@@ -208,15 +211,14 @@ stands_for m source e h = record { held = h.holds; list = h.list; reader = held_
 
 -- where a call stands
 site_same : (c : MacroCall) (n : kept.Expander) (source : Source) (f : Expander SourceReader) → StandsIn source_rules IsSource [] n (of_source source) f
-    → n.held ≡ None → site_of source_rules f c.paren c.tokens ≡ site_at c source.definitions (names_of n.frames ++ [])
+    → n.held ≡ None → site_of source_rules f c.paren c.tokens ≡ site_at c (list_numbering source.rules source.line_offset) source.definitions (names_of n.frames ++ [])
 site_same c n source f stands free =
     let reader : StandsForReader source f.reader = subst (λ (o : Option (Step Read)). StandsHeld source_rules IsSource [] o
     (of_source source) f.reader) free stands.reader in
     let around : masked_names f ≡ names_of n.frames ++ [] =
     ap (λ (es : List Entry). open_names es ++ f.hidden) stands.list ∙ ap (λ (hs : List Name). open_names (flat n.frames) ++ hs) stands.names
     ∙ ap (λ (ns : List Name). ns ++ []) (open_flat n.frames) in
-    ap (λ (d : Definitions). record { paren = c.paren; arguments = arguments_of c.tokens; visible = d; open_around = masked_names f }) reader.definitions
-    ∙ ap (λ (ns : List Name). record { paren = c.paren; arguments = arguments_of c.tokens; visible = meaning_of source.definitions; open_around = ns }) around
+    rw (reader.definitions, reader.rules, reader.line_offset, around) refl
 
 module _ (levels : ℕ) (m : kept.Expander) (old new : Source) (fit : IsFit m old) (e : Expander SourceReader) (stands : StandsFor m old e) where
   abbrev LeadsBy : Step Taken → kept.Expander → Type 0
@@ -238,7 +240,7 @@ module _ (levels : ℕ) (m : kept.Expander) (old new : Source) (fit : IsFit m ol
   item x f emits = record { taken = x; emits = emits; is = refl }
 
   call_leads : (c : MacroCall) (n p : kept.Expander) (step : Step Token) → n.held ≡ None → LeadsBy (Ok (taken.Call c)) n
-      → FollowsCall levels new.definitions c n step p → LeadsFrom (answers_at levels) e step (outermost_frame_line m.frames) p new
+      → FollowsCall levels new c n step p → LeadsFrom (answers_at levels) e step (outermost_frame_line m.frames) p new
   call_leads c n p step free led (opened is o) =
       let f : Expander SourceReader = record led.0 { list = macro_before c.opened.name c.opened.definition c.closing.line o.arguments led.0.list } in
       let k = led.1 in
@@ -258,7 +260,7 @@ module _ (levels : ℕ) (m : kept.Expander) (old new : Source) (fit : IsFit m ol
       rw (is, same) (led.0, item (given.Fault fault) led.0 emitted.0, free_line n.held n.frames free led.0.list led.1.list ∙ sym emitted.1)
 
   follows_lead : (step : Step Token) (n p : kept.Expander) (t : Step Taken) → TurnsTo m (of_source old) t n (of_source new) → LeadsBy t n
-      → FollowsTurn levels new.definitions t n step p → LeadsFrom (answers_at levels) e step (outermost_frame_line m.frames) p new
+      → FollowsTurn levels new t n step p → LeadsFrom (answers_at levels) e step (outermost_frame_line m.frames) p new
   follows_lead step n p (Ok (taken.Token read)) turns led follows =
       rw (follows.0, follows.1) (
         led.0,

@@ -9,11 +9,11 @@ use Rattle.pp_model.specs.Calls.{Fault, Gathered, before}
 use Rattle.pp_model.specs.Names.{Name}
 use Rattle.pp_macros.specs.inner.Calling.{MacroCall}
 use Rattle.pp_macros.specs.inner.CallTurns.{Sought, no_call, sought_by, Seeks, alone, called, Finds, TurnsTo, passes, gives, object, seeks, paren_of, is_out_of_memory_step}
-use Rattle.pp_macros.specs.inner.Defined.{Macro, Defined}
+use Rattle.pp_macros.specs.inner.Defined.{Macro}
 use Rattle.pp_rs.specs.inner.Fit.{GoesBy, IsReported}
 use Rattle.pp_macros.specs.inner.Frames.{Frame}
 use Rattle.pp_macros.specs.Item.{Step, is_out_of_memory, wants_memory}
-use Rattle.pp_macros.specs.LexerErrors.{ErrorAt}
+use Rattle.pp_macros.specs.LexerErrors.{ErrorAt, PassesErrors}
 use Rattle.pp_macros.specs.inner.Expander.{Expander, StepsFetching, StepsTaking, held, moved, TakesNext, now, later, GathersNext, closed, inside, overfull, ended, failed, taken_as}
 use Rattle.pp_macros.specs.inner.Reader.{Reader, of_source, of_list, Reads}
 use Rattle.pp_macros.specs.inner.Source.{Source, unreported_of}
@@ -26,25 +26,15 @@ use Rattle.pp_macros.specs.declared.calls.Taken.TheVariants as taken
 use Rattle.pp_macros.specs.declared.step.StepExit.{StepExit}
 use Rattle.pp_macros.specs.declared.step.StepExit.TheVariants.{Error, Continue, Finished}
 use Rattle.pp_rs.proofs.runs.ReadyLemmas.{step_free, next_free, gather_free}
-use Rattle.pp_rs.specs.Preprocessing.{PassesErrors}
-use Rattle.pp_rs.proofs.runs.PassedErrorsLemmas.{passes_none, passes_then, none_passes}
+use Rattle.pp_directives.proofs.PassedErrorsLemmas.{passes_none, step_same}
+use Rattle.pp_rs.proofs.runs.PassedErrorsLemmas.{passes_then, none_passes}
 use Rattle.pp_rs.proofs.source.RulesLemmas.{reads_by}
 use Rattle.pp_rs.proofs.source.UnpaintedLemmas.{unpainted_tells}
-use Rattle.pp_directives.proofs.UnreportedLemmas.{nothing_met, same_none}
 
 -- a list of tokens has no errors of the lexer
 abbrev unreported_in : Reader → Unreported
 unreported_in (of_source source) = unreported_of source
 unreported_in (of_list list) = record { read = None; later = [] }
-
-exit_same : (passing : Bool) (exit : StepExit) (old new : Unreported) → new ≡ old → ExitReports passing exit old new
-exit_same passing (Error fault) old new same = λ reported. nothing_met fault old new same
-exit_same passing Continue old new same = same_none passing old new same
-exit_same passing Finished old new same = same
-
-step_same : (passing : Bool) (step : Step Read) (old new : Unreported) → new ≡ old → StepReports passing step old new
-step_same passing (Ok read) old new same = same_none passing old new same
-step_same passing (Err exit) old new same = exit_same passing exit old new same
 
 abbrev fault_of_exit : StepExit → Option Fault
 fault_of_exit (Error fault) = Some fault
@@ -113,7 +103,7 @@ module _ (rules : Rules) where
 
   exit_leaves : (exit : StepExit) (r s : Reader) → ExitReports passes_dead exit (unreported_in r) (unreported_in s) → (unreported_in r).read ≡ None
       → (wants_memory {T = Read} (Err exit) ≡ false → GoesBy rules s) → Leaves (fault_of_exit exit) (unreported_in r).later s
-  exit_leaves (Error fault) r s h none by = λ reported. (passes_none passes_dead _ _ (sym (h reported none)), by reported)
+  exit_leaves (Error fault) r s h none by = λ reported. (h reported none, by reported)
   exit_leaves Continue r s h none by =
       let passed = none_passes passes_dead (unreported_in r) (unreported_in s) h none in
       (passed.0, passed.1, by refl)
@@ -283,22 +273,22 @@ module _ (rules : Rules) where
       (h.0, left.0, left.1)
   exit_left exit errors n new h reported = clear_left (Err exit) errors n new (record { free = h.0; leaves = h.1 })
 
-  call_left : (levels : ℕ) (definitions : List Defined) (c : MacroCall) (errors : List ErrorAt) (k n : Expander) (new : Source) (step : Step Token)
-      → FollowsCall levels definitions c k step n → IsClear errors k (of_source new) → ErrorsLeft step errors n new
-  call_left levels definitions c errors k n new step (opened is o) clear =
+  call_left : (levels : ℕ) (source : Source) (c : MacroCall) (errors : List ErrorAt) (k n : Expander) (new : Source) (step : Step Token)
+      → FollowsCall levels source c k step n → IsClear errors k (of_source new) → ErrorsLeft step errors n new
+  call_left levels source c errors k n new step (opened is o) clear =
       rw is (clear_left (Err Continue) errors n new (record { free = ap (λ (x : Expander). x.held) o.opens ∙ clear.free; leaves = clear.leaves }))
-  call_left levels definitions c errors k n new step (call_refused fault is answers same) clear =
+  call_left levels source c errors k n new step (call_refused fault is answers same) clear =
       rw (is, same) (clear_left (Err (Error fault)) errors k new clear)
 
-  follows_left : (levels : ℕ) (definitions : List Defined) (t : Step Taken) (errors : List ErrorAt) (k n : Expander) (new : Source) (step : Step Token)
-      → FollowsTurn levels definitions t k step n → TakenLeaves t errors k (of_source new) → wants_memory step ≡ false → ErrorsLeft step errors n new
-  follows_left levels definitions (Ok (taken.Token read)) errors k n new step f h reported = rw (f.0, f.1) h
-  follows_left levels definitions (Ok (taken.Call call)) errors k n new step f h reported = call_left levels definitions call errors k n new step f h
-  follows_left levels definitions (Err exit) errors k n new step f h reported = rw (f.0, f.1) (exit_left exit errors k new h (rw f.0 at reported))
+  follows_left : (levels : ℕ) (source : Source) (t : Step Taken) (errors : List ErrorAt) (k n : Expander) (new : Source) (step : Step Token)
+      → FollowsTurn levels source t k step n → TakenLeaves t errors k (of_source new) → wants_memory step ≡ false → ErrorsLeft step errors n new
+  follows_left levels source (Ok (taken.Token read)) errors k n new step f h reported = rw (f.0, f.1) h
+  follows_left levels source (Ok (taken.Call call)) errors k n new step f h reported = call_left levels source call errors k n new step f h
+  follows_left levels source (Err exit) errors k n new step f h reported = rw (f.0, f.1) (exit_left exit errors k new h (rw f.0 at reported))
 
   -- one turn over a source
   pub turn_errors : (levels : ℕ) (m n : Expander) (old new : Source) (step : Step Token) → TurnsSource levels m old step n new
       → wants_memory step ≡ false → IsReported rules m old → ErrorsLeft step (errors_of m old) n new
   turn_errors levels m n old new step h wants reported =
-      follows_left levels new.definitions h.taken (errors_of m old) h.between n new step h.follows
+      follows_left levels new h.taken (errors_of m old) h.between n new step h.follows
       (turn_leaves m h.between (of_source old) (of_source new) h.taken h.turns reported) wants

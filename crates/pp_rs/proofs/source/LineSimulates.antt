@@ -139,12 +139,12 @@ module _ {old : Source} {r : SourceReader} (s : StandsForReader old r) (move : S
       let offset = λ (rules : Rules). pos n -ℤ pos (numbered_line rules word.line) in
       rw pauses.0 (record {
         after = after_line_number r word n;
-        steps = steps_by (step.LineNumber word tokens) None (after_line_number r word n) there (Ok n, rw s.definitions number, (refl, refl));
+        steps = steps_by (step.LineNumber word tokens) None (after_line_number r word n) there (Ok n, rw (s.definitions, s.rules, s.line_offset) number, (refl, refl));
         stands = line_stays (stands_with old r s old.definitions r.definitions (offset old.rules) (offset r.rules) s.definitions (ap offset s.rules)) e its pauses.1 pauses.2;
       })
   number_simulates its tokens a (faulty_number fault number failed left) =
       let there = line_here s (λ n. record { step = step.LineNumber word tokens; after = advanced_by n r }) a in
-      rw failed (record { after = r; steps = steps_by (step.LineNumber word tokens) _ r there (Err fault, rw s.definitions number, (refl, refl)) })
+      rw failed (record { after = r; steps = steps_by (step.LineNumber word tokens) _ r there (Err fault, rw (s.definitions, s.rules, s.line_offset) number, (refl, refl)) })
 
   -- a line whose condition holds or not, or is at fault
   condition_simulates : (tokens : List Token) → ActsBy (decides word tokens)
@@ -156,12 +156,12 @@ module _ {old : Source} {r : SourceReader} (s : StandsForReader old r) (move : S
       let there = stands value pauses in
       rw there.0 (record {
         after = after_condition r value;
-        steps = steps_by (step.Condition word tokens) None (after_condition r value) acts (Ok value, rw s.definitions condition, (refl, refl));
+        steps = steps_by (step.Condition word tokens) None (after_condition r value) acts (Ok value, rw (s.definitions, s.rules, s.line_offset) condition, (refl, refl));
         stands = there.1;
       })
   condition_simulates tokens a stands (faulty fault condition failed left) =
       let acts = line_here s (λ n. record { step = step.Condition word tokens; after = advanced_by n r }) a in
-      rw failed (record { after = r; steps = steps_by (step.Condition word tokens) _ r acts (Err fault, rw s.definitions condition, (refl, refl)) })
+      rw failed (record { after = r; steps = steps_by (step.Condition word tokens) _ r acts (Err fault, rw (s.definitions, s.rules, s.line_offset) condition, (refl, refl)) })
 
   -- lines of blocks: a block opens,
   ask_simulates : is_live_in (last_block old.blocks) ≡ true → part_of directive ≡ Some part.Opens → (asked : Bool → Bool) (name : Name)

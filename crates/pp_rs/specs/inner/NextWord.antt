@@ -12,11 +12,12 @@ use Rattle.pp_macros.specs.inner.Defined.{Defined, Macro, AreNumbered, meaning_o
 use Rattle.pp_macros.specs.inner.Expander.{Expander}
 use Rattle.pp_macros.specs.inner.Frames.{new_frame}
 use Rattle.pp_macros.specs.Item.{Item}
+use Rattle.pp_macros.specs.LexerErrors.{PassesErrors}
 use Rattle.pp_model.specs.CallLine.{item_line}
 use Rattle.pp_rs.specs.Comes.{State, Comes}
 use Rattle.pp_rs.specs.Kept.{Preprocessing, Stands, IsAhead, is_spent, most_items, errors_left, error_place, call_line}
 use Rattle.pp_rs.specs.Kept.{rules_of}
-use Rattle.pp_rs.specs.Preprocessing.{PassesErrors, IsNextItem}
+use Rattle.pp_rs.specs.Preprocessing.{IsNextItem}
 use Rattle.pp_rs.specs.inner.Fit.{IsInLiveText}
 
 -- the preprocessor stands for a state, and what comes next in that state also comes next in this one, from the same

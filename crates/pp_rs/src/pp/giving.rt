@@ -78,6 +78,7 @@ impl<'a> Preprocessor<'a> {
             return Ok(false);
         }
         'words: while let Some(word) = self.next_word()? {
+            self.pay()?;
             sink.take(TokenRef::of_word(&word))?;
         }
         Ok(self.call_line().is_some())
@@ -94,7 +95,9 @@ impl<'a> Preprocessor<'a> {
         ensures rules { rules_of self.new ≡ rules_of self.old }
     {
         'tokens: while self.advance()? {
-            sink.take(self.front())?;
+            let token = self.front();
+            self.pay()?;
+            sink.take(token)?;
             self.pass();
         }
         Ok(())

@@ -29,6 +29,7 @@ use crate::rules::Rules;
 use crate::token::{Location, NOWHERE, PreprocessorError, Token, out_of_memory};
 use pp_directives::convert::word_token;
 use pp_directives::directives::DirectiveProcessor;
+use pp_macros::budget::Budget;
 use pp_macros::halt::Halt;
 use pp_macros::macro_processor::MacroProcessor;
 use pp_macros::names::{Definitions, NameId};
@@ -236,6 +237,22 @@ impl<'a> Preprocessor<'a> {
         }
     }
 
+    // Pays for a word of live text. It fails if no step is left.
+    #[inline(always)]
+    pub(crate) fn pay(&self) -> Result<(), AllocError> {
+        self.expander.pay(1)
+    }
+
+    // The token of a word that is paid for.
+    #[inline(always)]
+    fn paid_token(&self, word: PlainItem<'a>) -> Result<Token, AllocError>
+        requires { IsPlain word }
+        ensures { IfOk result (λ token. token ≡ word_token word.entry) }
+    {
+        self.pay()?;
+        word_token(self.alloc, word)
+    }
+
     // The token of the word that `next_word` returned, as an item.
     #[inline(always)]
     fn word_item(&mut self, word: PlainItem<'a>) -> PreprocessorItem
@@ -243,7 +260,7 @@ impl<'a> Preprocessor<'a> {
         ensures token { IfOk result (λ token. (token ≡ word_token word.entry) × (self.new ≡ self.old)) }
         ensures refused { IfErr result (λ e. (e ≡ out_of_memory) × (self.new ≡ record self.old { spent = true })) }
     {
-        match word_token(self.alloc, word) {
+        match self.paid_token(word) {
             Ok(token) => Ok(token),
             Err(_) => {
                 self.spend();
@@ -406,6 +423,46 @@ impl<'a> Preprocessor<'a> {
     {
         self.in_text = false;
         self.expander.pass_token();
+    }
+
+    /// Bounds the work from here on to this many steps, in place of any bound before.
+    ///
+    /// A step is a token that is read, put on a list, or passed in the body or an argument of a macro, wherever that
+    /// happens. If an item needs more steps than are left, `next` returns `OutOfMemory`, and `None` from then on, as if
+    /// memory had run out; [`Preprocessor::is_over_budget`] tells the two apart. So the time and the memory that a
+    /// source takes are bounded by the number, and by the length of its longest token. Without this call there is no
+    /// bound. The only error is `OutOfMemory`, if an allocation fails; then the bound is as before.
+    pub fn set_budget(&mut self, steps: u64) -> Result<(), (PreprocessorError, Location)>
+        ensures same { self.new ≡ self.old }
+        ensures refused { IfErr result (λ fault. fault ≡ out_of_memory) }
+    {
+        if self.share_budget(steps).is_err() {
+            return Err(out_of_memory());
+        }
+        Ok(())
+    }
+
+    // Does the same.
+    fn share_budget(&mut self, steps: u64) -> Result<(), AllocError>
+        ensures { self.new ≡ self.old }
+    {
+        let budget = Budget::of_steps(self.alloc, steps)?;
+        self.source.set_budget(&budget)?;
+        self.expander.set_budget(budget);
+        Ok(())
+    }
+
+    /// Returns whether `next` returned `OutOfMemory` since more steps were needed than `set_budget` allowed.
+    pub fn is_over_budget(&self) -> bool
+        ensures { IsTrue result → is_spent self.now ≡ true }
+    {
+        self.is_spent() && self.expander.is_over_budget()
+    }
+
+    /// Returns the place of the word, newline or lexer's error of the source that was read last, on the line of a
+    /// directive and in dead text too. Before the first it is [`NOWHERE`].
+    pub fn reached(&self) -> Location {
+        self.source.reached()
     }
 
     /// Returns the place of the last error that `next` returned, in byte offsets and a 1-based line of the source.

@@ -21,7 +21,8 @@ use pp_directives::directives::DirectiveProcessor;
 use pp_directives::limit::expansion_limit;
 use pp_macros::arguments::finish_call;
 use pp_macros::calls::{MacroCall, Taken};
-use pp_macros::macro_processor::{MacroProcessor, make_line_number};
+use pp_macros::list_lexer::Scope;
+use pp_macros::macro_processor::{MacroProcessor, line_number};
 use pp_macros::names::gives_itself;
 use pp_macros::reader::MeLexer;
 use pp_macros::step::{Step, StepExit};
@@ -40,18 +41,16 @@ fn follow_call(
     requires alone { expander.old.below ≡ [] }
     requires free { expander.old.here.held ≡ None }
     requires known { AreKnown (names_in source.now.definitions) expander.old }
-    ensures follows { FollowsCall expansion_limit source.now.definitions call expander.old.here result
+    ensures follows { FollowsCall expansion_limit source.now call expander.old.here result
         expander.new.here ⊎ (result ≡ Err (Error out_of_memory)) }
     ensures below { expander.new.below ≡ expander.old.below }
     ensures holds { IfOk result (λ token. HoldsOrdinary token.value) }
 {
-    finish_call(
-        alloc,
-        expander,
-        call,
-        source.definitions(),
-        expansion_limit(),
-    )?;
+    let scope = Scope {
+        numbering: source.list_numbering(),
+        definitions: source.definitions(),
+    };
+    finish_call(alloc, expander, call, &scope, expansion_limit())?;
     Err(StepExit::Continue)
 }
 
@@ -90,8 +89,7 @@ fn take_in(source: &DirectiveProcessor<'_>, token: Token) -> Step<Token>
     }
     let location = token.location;
     drop(token);
-    let shown = source.apply_line_offset(location.line, location)?;
-    Ok(make_line_number(shown, location))
+    Ok(line_number(location, source.shown_line(location.line))?.token)
 }
 
 // Holds a token of the source that is `__LINE__` or may open a macro, while no macro is open. The next step of the

@@ -37,7 +37,7 @@ expand_list-items-init t c =
     let none_added : addition c.args.items.now.items c.args.items.now.items ≡ [] = added_is c.args.items.now.items c.args.items.now.items [] (sym (append-nil c.args.items.now.items)) in
     record {
       keeps = sym (append-nil c.args.items.now.items) ∙ ap (λ (out : List Read). c.args.items.now.items ++ out) (sym none_added);
-      reached = reached_start _ _ _ _ _ _ _ c.requires.start.idle c.requires.start.argument none_added;
+      reached = reached_start _ _ _ _ _ _ _ _ c.requires.start.idle c.requires.start.argument none_added;
       holds = c.requires.before;
       below = refl;
       same = ap (λ (l : Listing). l.definitions) c.requires.start.argument;
@@ -45,28 +45,28 @@ expand_list-items-init t c =
 
 pub expand_list-give_frames-requires-clause-known : goal.expand_list-give_frames-requires-clause-known
 expand_list-give_frames-requires-clause-known t c =
-    list_known c.args.processor.now c.items.processor c.items.processor.below c.items.lexer c.args.definitions.now c.items.invariant.reached.sound
+    list_known c.args.processor.now c.items.processor c.items.processor.below c.items.lexer c.args.scope.now.definitions.now c.items.invariant.reached.sound
     c.items.invariant.same c.items.invariant.below c.requires.known
 
 pub expand_list-step_list-requires : goal.expand_list-step_list-requires
 expand_list-step_list-requires t c =
-    let on = reached_added _ _ _ _ _ _ c.args.items.now.items _ _ _ c.items.invariant.keeps c.items.invariant.reached c.in_ok-give_frames.ensures.gives in
-    list_known c.args.processor.now c.give_frames.new.self c.items.processor.below c.items.lexer c.args.definitions.now on.reached.sound
+    let on = reached_added _ _ _ _ _ _ _ c.args.items.now.items _ _ _ c.items.invariant.keeps c.items.invariant.reached c.in_ok-give_frames.ensures.gives in
+    list_known c.args.processor.now c.give_frames.new.self c.items.processor.below c.items.lexer c.args.scope.now.definitions.now on.reached.sound
     c.items.invariant.same (c.in_ok-give_frames.ensures.below ∙ c.items.invariant.below) c.requires.known
 
-pub expand_list-items-smaller-in-Continue-branch-2 : goal.expand_list-items-smaller-in-Continue-branch-2
-expand_list-items-smaller-in-Continue-branch-2 t c =
-    let on = reached_added _ _ _ _ _ _ c.args.items.now.items _ _ _ c.items.invariant.keeps c.items.invariant.reached c.in_ok-give_frames.ensures.gives in
+pub expand_list-items-smaller-in-Continue-branch-3 : goal.expand_list-items-smaller-in-Continue-branch-3
+expand_list-items-smaller-in-Continue-branch-3 t c =
+    let on = reached_added _ _ _ _ _ _ _ c.args.items.now.items _ _ _ c.items.invariant.keeps c.items.invariant.reached c.in_ok-give_frames.ensures.gives in
     omega (
       arith,
       on.least,
-      token_less _ _ _ _ _ _ _ on.reached _ _ c.in-Ok-Token.read (turned _ _ _ _ _
+      token_less _ _ _ _ _ _ _ _ on.reached _ _ c.in-Ok-Token.read (turned _ _ _ _ _
           (rw (c.in-Ok-Token.field-0-is, c.in_ok-give_frames.ensures.below) at c.in-Ok-Token.ensures.turns) refl),
     )
 
-pub expand_list-items-preserved-in-Continue-branch-2 : goal.expand_list-items-preserved-in-Continue-branch-2
-expand_list-items-preserved-in-Continue-branch-2 t c =
-    let on = reached_added _ _ _ _ _ _ c.args.items.now.items _ _ _ c.items.invariant.keeps c.items.invariant.reached c.in_ok-give_frames.ensures.gives in
+pub expand_list-items-preserved-in-Continue-branch-3 : goal.expand_list-items-preserved-in-Continue-branch-3
+expand_list-items-preserved-in-Continue-branch-3 t c =
+    let on = reached_added _ _ _ _ _ _ _ c.args.items.now.items _ _ _ c.items.invariant.keeps c.items.invariant.reached c.in_ok-give_frames.ensures.gives in
     let put = added_push c.args.items.now.items c.give_frames.new.items.items c.push.new.self.items c.in-Ok-Token.read on.keeps
     c.in_ok-push-in-Ok-Token.ensures.items in
     let one_more : addition c.args.items.now.items c.push.new.self.items ≡ addition c.args.items.now.items c.give_frames.new.items.items ++ c.in-Ok-Token.read ∷ [] =
@@ -74,71 +74,71 @@ expand_list-items-preserved-in-Continue-branch-2 t c =
     record {
       keeps = put ∙ ap (λ (out : List Read). c.args.items.now.items ++ out) (sym one_more);
       reached =
-          reached_token _ _ _ _ _ _ _ on.reached _ _ c.in-Ok-Token.read _
+          reached_token _ _ _ _ _ _ _ _ on.reached _ _ c.in-Ok-Token.read _
           (turned _ _ _ _ _ (rw (c.in-Ok-Token.field-0-is, c.in_ok-give_frames.ensures.below) at c.in-Ok-Token.ensures.turns) refl) one_more;
       holds =
           rw c.in_ok-push-in-Ok-Token.ensures.items (All-push (λ (read : Read). HoldsOrdinary read.token.value) _ _ c.in_ok-give_frames.ensures.holds
           (rw c.in-Ok-Token.field-0-is at c.in-Ok-Token.ensures.holds));
       below = c.step_list.ensures.below ∙ c.in_ok-give_frames.ensures.below ∙ c.items.invariant.below;
-      same = list_kept c.args.definitions.now _ _ _ _ _ c.items.lexer c.step_list.new.list
+      same = list_kept c.args.scope.now.definitions.now _ _ _ _ _ c.items.lexer c.step_list.new.list
           (turned _ _ _ _ _ (rw (c.in-Ok-Token.field-0-is, c.in_ok-give_frames.ensures.below) at c.in-Ok-Token.ensures.turns) refl) refl c.items.invariant.same;
     }
 
-pub expand_list-items-smaller-in-Continue-branch-3 : goal.expand_list-items-smaller-in-Continue-branch-3
-expand_list-items-smaller-in-Continue-branch-3 t c =
-    let on = reached_added _ _ _ _ _ _ c.args.items.now.items _ _ _ c.items.invariant.keeps c.items.invariant.reached c.in_ok-give_frames.ensures.gives in
+pub expand_list-items-smaller-in-Continue-branch-4 : goal.expand_list-items-smaller-in-Continue-branch-4
+expand_list-items-smaller-in-Continue-branch-4 t c =
+    let on = reached_added _ _ _ _ _ _ _ c.args.items.now.items _ _ _ c.items.invariant.keeps c.items.invariant.reached c.in_ok-give_frames.ensures.gives in
     omega (
       arith,
       on.least,
-      call_less _ _ _ _ _ _ _ on.reached _ _ c.in-Ok-Call.call (turned _ _ _ _ _
+      call_less _ _ _ _ _ _ _ _ on.reached _ _ c.in-Ok-Call.call (turned _ _ _ _ _
           (rw (c.in-Ok-Call.field-0-is, c.in_ok-give_frames.ensures.below) at c.in-Ok-Call.ensures.turns) refl) _ (rw (c.step_list.ensures.below ∙ c.in_ok-give_frames.ensures.below ∙ c.items.invariant.below) at c.in_ok-finish_call-in-Ok-Call.ensures.finishes),
     )
 
-pub expand_list-items-preserved-in-Continue-branch-3 : goal.expand_list-items-preserved-in-Continue-branch-3
-expand_list-items-preserved-in-Continue-branch-3 t c =
-    let on = reached_added _ _ _ _ _ _ c.args.items.now.items _ _ _ c.items.invariant.keeps c.items.invariant.reached c.in_ok-give_frames.ensures.gives in
+pub expand_list-items-preserved-in-Continue-branch-4 : goal.expand_list-items-preserved-in-Continue-branch-4
+expand_list-items-preserved-in-Continue-branch-4 t c =
+    let on = reached_added _ _ _ _ _ _ _ c.args.items.now.items _ _ _ c.items.invariant.keeps c.items.invariant.reached c.in_ok-give_frames.ensures.gives in
     record {
       keeps = on.keeps;
       reached =
-          rw c.in_ok-finish_call-in-Ok-Call.ensures.below (reached_call _ _ _ _ _ _ _ on.reached _ _ c.in-Ok-Call.call
+          rw c.in_ok-finish_call-in-Ok-Call.ensures.below (reached_call _ _ _ _ _ _ _ _ on.reached _ _ c.in-Ok-Call.call
           (turned _ _ _ _ _ (rw (c.in-Ok-Call.field-0-is, c.in_ok-give_frames.ensures.below) at c.in-Ok-Call.ensures.turns) refl) _ (rw (c.step_list.ensures.below ∙ c.in_ok-give_frames.ensures.below ∙ c.items.invariant.below) at c.in_ok-finish_call-in-Ok-Call.ensures.finishes));
       holds = c.in_ok-give_frames.ensures.holds;
       below = c.in_ok-finish_call-in-Ok-Call.ensures.below ∙ c.step_list.ensures.below ∙ c.in_ok-give_frames.ensures.below ∙ c.items.invariant.below;
-      same = list_kept c.args.definitions.now _ _ _ _ _ c.items.lexer c.step_list.new.list
+      same = list_kept c.args.scope.now.definitions.now _ _ _ _ _ c.items.lexer c.step_list.new.list
           (turned _ _ _ _ _ (rw (c.in-Ok-Call.field-0-is, c.in_ok-give_frames.ensures.below) at c.in-Ok-Call.ensures.turns) refl) refl c.items.invariant.same;
     }
 
 pub expand_list-items-smaller : goal.expand_list-items-smaller
 expand_list-items-smaller t c =
-    let on = reached_added _ _ _ _ _ _ c.args.items.now.items _ _ _ c.items.invariant.keeps c.items.invariant.reached c.in_ok-give_frames.ensures.gives in
+    let on = reached_added _ _ _ _ _ _ _ c.args.items.now.items _ _ _ c.items.invariant.keeps c.items.invariant.reached c.in_ok-give_frames.ensures.gives in
     omega (
       arith,
       on.least,
-      pause_less _ _ _ _ _ _ _ on.reached _ _ (turned _ _ _ _ _
+      pause_less _ _ _ _ _ _ _ _ on.reached _ _ (turned _ _ _ _ _
           (rw (c.in-Err-Continue.field-0-is, c.in_ok-give_frames.ensures.below) at c.in-Err-Continue.ensures.turns) refl),
     )
 
 pub expand_list-items-preserved : goal.expand_list-items-preserved
 expand_list-items-preserved t c =
-    let on = reached_added _ _ _ _ _ _ c.args.items.now.items _ _ _ c.items.invariant.keeps c.items.invariant.reached c.in_ok-give_frames.ensures.gives in
+    let on = reached_added _ _ _ _ _ _ _ c.args.items.now.items _ _ _ c.items.invariant.keeps c.items.invariant.reached c.in_ok-give_frames.ensures.gives in
     record {
       keeps = on.keeps;
-      reached = reached_pause _ _ _ _ _ _ _ on.reached _ _
+      reached = reached_pause _ _ _ _ _ _ _ _ on.reached _ _
           (turned _ _ _ _ _ (rw (c.in-Err-Continue.field-0-is, c.in_ok-give_frames.ensures.below) at c.in-Err-Continue.ensures.turns) refl);
       holds = c.in_ok-give_frames.ensures.holds;
       below = c.step_list.ensures.below ∙ c.in_ok-give_frames.ensures.below ∙ c.items.invariant.below;
-      same = list_kept c.args.definitions.now _ _ _ _ _ c.items.lexer c.step_list.new.list
+      same = list_kept c.args.scope.now.definitions.now _ _ _ _ _ c.items.lexer c.step_list.new.list
           (turned _ _ _ _ _ (rw (c.in-Err-Continue.field-0-is, c.in_ok-give_frames.ensures.below) at c.in-Err-Continue.ensures.turns) refl) refl c.items.invariant.same;
     }
 
 pub expand_list-returns-in-Err-Finished : goal.expand_list-returns-in-Err-Finished
 expand_list-returns-in-Err-Finished t c =
-    let on = reached_added _ _ _ _ _ _ c.args.items.now.items _ _ _ c.items.invariant.keeps c.items.invariant.reached c.in_ok-give_frames.ensures.gives in
+    let on = reached_added _ _ _ _ _ _ _ c.args.items.now.items _ _ _ c.items.invariant.keeps c.items.invariant.reached c.in_ok-give_frames.ensures.gives in
     record {
       below = c.step_list.ensures.below ∙ c.in_ok-give_frames.ensures.below ∙ c.items.invariant.below;
       expands = record {
         keeps = on.keeps;
-        alone = reached_end _ _ _ _ _ _ _ on.reached _ _
+        alone = reached_end _ _ _ _ _ _ _ _ on.reached _ _
             (turned _ _ _ _ _ (rw (c.in-Err-Finished.field-0-is, c.in_ok-give_frames.ensures.below) at c.in-Err-Finished.ensures.turns) refl);
         least = omega (arith, on.reached.least);
         holds = c.in_ok-give_frames.ensures.holds;
@@ -147,21 +147,21 @@ expand_list-returns-in-Err-Finished t c =
 
 pub expand_list-returns-in-Err-Error-clause-expands : goal.expand_list-returns-in-Err-Error-clause-expands
 expand_list-returns-in-Err-Error-clause-expands t c =
-    let on = reached_added _ _ _ _ _ _ c.args.items.now.items _ _ _ c.items.invariant.keeps c.items.invariant.reached c.in_ok-give_frames.ensures.gives in
+    let on = reached_added _ _ _ _ _ _ _ c.args.items.now.items _ _ _ c.items.invariant.keeps c.items.invariant.reached c.in_ok-give_frames.ensures.gives in
     satisfies_fault c.halt_of.result c.in-Err-Error.fault _ c.halt_of.ensures
-    (λ reported. reached_fault _ _ _ _ _ _ _ on.reached _ _ c.in-Err-Error.fault
+    (λ reported. reached_fault _ _ _ _ _ _ _ _ on.reached _ _ c.in-Err-Error.fault
     (turned _ _ _ _ (Err (Error c.in-Err-Error.fault)) (rw (c.in-Err-Error.field-0-is, c.in_ok-give_frames.ensures.below) at c.in-Err-Error.ensures.turns) reported) reported)
 
 pub expand_list-returns-in_err-finish_call-in-Ok-Call-clause-expands : goal.expand_list-returns-in_err-finish_call-in-Ok-Call-clause-expands
 expand_list-returns-in_err-finish_call-in-Ok-Call-clause-expands t c =
     let e = err_from_is_err_and c.from_residual-in_err-finish_call-in-Ok-Call.result c.from_residual-in_err-finish_call-in-Ok-Call.ensures.1 in
-    let on = reached_added _ _ _ _ _ _ c.args.items.now.items _ _ _ c.items.invariant.keeps c.items.invariant.reached c.in_ok-give_frames.ensures.gives in
+    let on = reached_added _ _ _ _ _ _ _ c.args.items.now.items _ _ _ c.items.invariant.keeps c.items.invariant.reached c.in_ok-give_frames.ensures.gives in
     satisfies_exit _ c.in_err-finish_call-in-Ok-Call.field-0.0 _ (e.1 ∙ ap Err e.2)
-    (λ fault is. reached_call_fault _ _ _ _ _ _ _ on.reached _ _ c.in-Ok-Call.call fault
+    (λ fault is. reached_call_fault _ _ _ _ _ _ _ _ on.reached _ _ c.in-Ok-Call.call fault
     (turned _ _ _ _ _ (rw (c.in-Ok-Call.field-0-is, c.in_ok-give_frames.ensures.below) at c.in-Ok-Call.ensures.turns) refl)
-    (finish_fault c.args.levels c.args.definitions.now (names_of c.args.processor.now.below) c.in-Ok-Call.call c.step_list.new.processor.here c.finish_call.new.processor.here
+    (finish_fault c.args.levels c.args.scope.now.numbering c.args.scope.now.definitions.now (names_of c.args.processor.now.below) c.in-Ok-Call.call c.step_list.new.processor.here c.finish_call.new.processor.here
     c.in_err-finish_call-in-Ok-Call.field-0.0 fault is
-    (subst (λ (hidden : List Name). Finishes c.args.levels c.args.definitions.now hidden c.in-Ok-Call.call c.step_list.new.processor.here
+    (subst (λ (hidden : List Name). Finishes c.args.levels c.args.scope.now.numbering c.args.scope.now.definitions.now hidden c.in-Ok-Call.call c.step_list.new.processor.here
     (Err c.in_err-finish_call-in-Ok-Call.field-0.0) c.finish_call.new.processor.here)
     (ap names_of (c.step_list.ensures.below ∙ c.in_ok-give_frames.ensures.below ∙ c.items.invariant.below)) c.in_err-finish_call-in-Ok-Call.ensures.finishes)))
 
@@ -170,9 +170,9 @@ expand_argument-returns-then-are_plain-clause-expands t c =
     let all_added = added_is c.args.items.now.items c.append.new.items.items c.args.tokens.now c.in_ok-append.ensures in
     record {
       keeps = rw all_added c.in_ok-append.ensures;
-      alone = rw all_added (plain_alone c.args.levels c.args.definitions.now (open_names c.args.processor.now) c.args.tokens.now
+      alone = rw all_added (plain_alone c.args.levels c.args.scope.now.numbering c.args.scope.now.definitions.now (open_names c.args.processor.now) c.args.tokens.now
           (sym c.are_plain.ensures ∙ c.if-are_plain.true));
-      least = rw all_added (plain_short c.args.levels c.args.definitions.now (length c.args.tokens.now));
+      least = rw all_added (plain_short c.args.levels c.args.scope.now.definitions.now (length c.args.tokens.now));
       holds = rw c.in_ok-append.ensures (All-append (λ (read : Read). HoldsOrdinary read.token.value) _ _ c.requires.before c.requires.ordinary);
     }
 
@@ -239,7 +239,7 @@ expand_parts-loop-part-preserved t c =
           (c.loop-part.invariant.goes_on (list_before out next)
           (rw here (more (list_of c.args.tokens.now part) out _ next (list_before out next) (rw same at (rw c.loop-part.invariant.same at c.in_ok-expand_argument.ensures.expands.alone)) h refl)));
       short = λ n all. short_more _ (lists_of c.loop-part.items.items c.loop-part.expanded.items) _ out (c.loop-part.invariant.short n all)
-          (short_list c.args.levels c.args.definitions.now n (list_of c.args.tokens.now part) out
+          (short_list c.args.levels c.args.scope.now.definitions.now n (list_of c.args.tokens.now part) out
           (part_has (λ (list : List Read). length list ≤ n) c.args.tokens.now c.args.parts.now c.loop-part.part-index (record { start = 0; end = 0 }) (omega arith) all)
           (rw same at c.in_ok-expand_argument.ensures.expands.least)) lists;
       order = rw put (in_order_push 0 (length c.loop-part.items.items) (length c.expand_argument.new.items.items) c.loop-part.expanded.items _
@@ -262,8 +262,8 @@ expand_parts-returns-clause-expands t c = record {
 pub expand_arguments-returns-then-are_plain-clause-expands : goal.expand_arguments-returns-then-are_plain-clause-expands
 expand_arguments-returns-then-are_plain-clause-expands t c = record {
   each = rw (c.new.ensures, ← c.into_parts-tokens.ensures.is)
-      (plain_each c.args.levels c.args.definitions.now (open_names c.args.processor.now) _ _ (rw c.deref.ensures.value at (sym c.are_plain.ensures ∙ c.if-are_plain.true)));
-  least = rw (c.new.ensures, c.into_parts-tokens.ensures.is) (plain_are_short c.args.levels c.args.definitions.now c.args.arguments);
+      (plain_each c.args.levels c.args.scope.now.numbering c.args.scope.now.definitions.now (open_names c.args.processor.now) _ _ (rw c.deref.ensures.value at (sym c.are_plain.ensures ∙ c.if-are_plain.true)));
+  least = rw (c.new.ensures, c.into_parts-tokens.ensures.is) (plain_are_short c.args.levels c.args.scope.now.definitions.now c.args.arguments);
 }
 
 pub expand_call-returns : goal.expand_call-returns
@@ -278,11 +278,11 @@ expand_call-returns t c =
     let around = open_names c.arguments_of.new.processor in
     record {
       answers = subst (λ (p : MacroProcessor). Satisfies c.expand_arguments.result
-          (λ out. answers_at c.args.levels c.args.call.now.opened.definition (site_at c.args.call.now c.args.definitions.now (open_names p)) out))
+          (λ out. answers_at c.args.levels c.args.call.now.opened.definition (site_at c.args.call.now c.args.scope.now.numbering c.args.scope.now.definitions.now (open_names p)) out))
           c.arguments_of.ensures.same
-          (satisfies_more c.expand_arguments.result _ _ (answers_each c.args.levels c.args.definitions.now around c.args.call.now some fits)
+          (satisfies_more c.expand_arguments.result _ _ (answers_each c.args.levels c.args.scope.now.numbering c.args.scope.now.definitions.now around c.args.call.now some fits)
           (rw cut at c.expand_arguments.ensures.expands));
-      least = of_call c.args.levels c.args.definitions.now around c.args.call.now c.expand_arguments.result (rw cut at c.expand_arguments.ensures.expands);
+      least = of_call c.args.levels c.args.scope.now.numbering c.args.scope.now.definitions.now around c.args.call.now c.expand_arguments.result (rw cut at c.expand_arguments.ensures.expands);
       same = c.expand_arguments.ensures.same ∙ c.arguments_of.ensures.same;
       left = left;
     }
@@ -290,11 +290,11 @@ expand_call-returns t c =
 -- after a call nothing is held
 pub expand_list-finish_call-requires : goal.expand_list-finish_call-requires
 expand_list-finish_call-requires t c =
-    let on = reached_added _ _ _ _ _ _ c.args.items.now.items _ _ _ c.items.invariant.keeps c.items.invariant.reached c.in_ok-give_frames.ensures.gives in (
+    let on = reached_added _ _ _ _ _ _ _ c.args.items.now.items _ _ _ c.items.invariant.keeps c.items.invariant.reached c.in_ok-give_frames.ensures.gives in (
       omega arith,
       (
         call_free _ _ _ _ _ c.in-Ok-Call.call refl (rw c.in-Ok-Call.field-0-is at c.in-Ok-Call.ensures.turns),
-        call_known 0 c.args.processor.now c.step_list.new.processor c.give_frames.new.self _ _ c.items.lexer c.step_list.new.list c.args.definitions.now
+        call_known 0 c.args.processor.now c.step_list.new.processor c.give_frames.new.self _ _ c.items.lexer c.step_list.new.list c.args.scope.now.definitions.now
             c.in-Ok-Call.call on.reached.sound
             (turned _ _ _ _ _ (rw (c.in-Ok-Call.field-0-is, c.in_ok-give_frames.ensures.below) at c.in-Ok-Call.ensures.turns) refl)
             c.items.invariant.same (c.step_list.ensures.below ∙ c.in_ok-give_frames.ensures.below ∙ c.items.invariant.below) c.requires.known,
@@ -317,7 +317,7 @@ expand_argument-returns-clause-same t c =
 pub finish_call-returns-in_err-expanded-clause-finishes : goal.finish_call-returns-in_err-expanded-clause-finishes
 finish_call-returns-in_err-expanded-clause-finishes t c =
     let e = err_from_is_err_and c.from_residual.result c.from_residual.ensures.1 in
-    finishes_without c.args.levels c.args.definitions.now (names_of c.args.processor.now.below) c.args.call c.args.processor.now.here
+    finishes_without c.args.levels c.args.scope.now.numbering c.args.scope.now.definitions.now (names_of c.args.processor.now.below) c.args.call c.args.processor.now.here
     c.expand_call.new.processor.here _ c.in_err-expanded.field-0.0 (e.1 ∙ ap Err e.2) c.in_err-expanded.ensures.answers
     (ap (λ (m : MacroProcessor). m.here) c.in_err-expanded.ensures.same)
 

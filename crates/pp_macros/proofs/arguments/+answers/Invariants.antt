@@ -38,11 +38,11 @@ decreases-expand_arguments l = 8 * l.levels + 6
 abbrev pub invariant-expand_list-items : goal.invariant-expand_list-items
 invariant-expand_list-items l = record {
   keeps : l.items.items ≡ l.fn.items.items ++ addition l.fn.items.items l.items.items;
-  reached : Reached l.levels l.definitions (names_of l.fn.processor.below) l.fn.lexer.tokens l.processor.here (listed_in l.processor.below l.lexer)
+  reached : Reached l.levels l.scope.numbering l.scope.definitions.now (names_of l.fn.processor.below) l.fn.lexer.tokens l.processor.here (listed_in l.processor.below l.lexer)
       (addition l.fn.items.items l.items.items);
   holds : AllReadOrdinary l.items.items;
   below : l.processor.below ≡ l.fn.processor.below;
-  same : l.lexer.definitions ≡ l.definitions;
+  same : l.lexer.definitions ≡ l.scope.definitions.now;
 }
 
 abbrev pub decreases-expand_list-items : goal.decreases-expand_list-items
@@ -52,9 +52,9 @@ decreases-expand_list-items l = work_of l.levels l.processor.here (seen_by l.pro
 abbrev pub invariant-expand_parts-loop-part : goal.invariant-expand_parts-loop-part
 invariant-expand_parts-loop-part l = record {
   goes_on : (out : Result (List (List Read)) Fault)
-      → Each (Alone l.levels) (meaning_of l.definitions) (open_names l.fn.processor) (lists_of l.fn.tokens (drop l.part-index l.parts)) out
-      → Each (Alone l.levels) (meaning_of l.definitions) (open_names l.fn.processor) (lists_of l.fn.tokens l.parts) (after_items (lists_of l.items.items l.expanded.items) out);
-  short : AreShort l.levels l.definitions (lists_of l.fn.tokens l.parts) (lists_of l.items.items l.expanded.items);
+      → Each (Alone l.levels) l.scope.numbering (meaning_of l.scope.definitions.now) (open_names l.fn.processor) (lists_of l.fn.tokens (drop l.part-index l.parts)) out
+      → Each (Alone l.levels) l.scope.numbering (meaning_of l.scope.definitions.now) (open_names l.fn.processor) (lists_of l.fn.tokens l.parts) (after_items (lists_of l.items.items l.expanded.items) out);
+  short : AreShort l.levels l.scope.definitions.now (lists_of l.fn.tokens l.parts) (lists_of l.items.items l.expanded.items);
   order : AreInOrder 0 l.expanded.items (length l.items.items);
   left : AreLeft l.fn.tokens l.tokens (drop l.part-index l.parts);
   holds : AllReadOrdinary l.items.items;

@@ -1,9 +1,9 @@
 use Rattle.std.proofs.Common.{rules, ◌≡◌, ◌∙◌, ap, sym, subst, is_none, not, Bool, w64, FitsSigned}
 use Rattle.std.proofs.lemmas.Int.{to_z-of_z}
-use Rattle.std.specs.Prelude.{Result, Err}
+use Rattle.std.specs.Prelude.{Result, Ok, Err}
 use Rattle.std.proofs.lemmas.Result.{err_from_is_err_and}
 use Rattle.pp_model.specs.Calls.{Fault}
-use Rattle.pp_model.proofs.LineExpressionLemmas.{alone_at_fault, none_copied, numbers_alone, numbers_followed}
+use Rattle.pp_model.proofs.LineExpressionLemmas.{alone_at_fault, alone_at_value, none_copied, numbers_alone, numbers_followed}
 use Rattle.pp_reference.specs.declared.stop.Halt.{Halt}
 use Rattle.pp_reference.specs.declared.stop.Halt.TheVariants as halt
 use Rattle.pp_reference.specs.inner.Halting.{Satisfies}
@@ -39,3 +39,15 @@ returns-in_err-value_alone-clause-reads c =
       numbers = numbers_followed c.args.directive c.in_ok-words.words _ _ c.in_ok-take_expression.ensures.takes c.in_ok-value.value c.in-Some.number
           c.in_ok-value.was some (Err fault) more (alone_at_fault c.args.directive _ _ _ fault alone);
     })
+
+pub returns-clause-reads : goal.returns-clause-reads
+returns-clause-reads c =
+    let fits : FitsSigned w64 c.in_ok-value.value = search rules in
+    let some = rw (to_z-of_z w64 c.in_ok-value.value fits) at (sym c.as_line_number.ensures ∙ c.in-Some.is) in
+    let more = ap is_none (sym c.peek.ensures) ∙ none_copied c.peek.result ∙ ap not c.is_none.ensures ∙ ap (λ (b : Bool). not (not b)) c.if-is_none.false in
+    record {
+      words = c.in_ok-words.words;
+      read = rw (← c.tokens.view_is) c.in_ok-words.ensures.words;
+      numbers = numbers_followed c.args.directive c.in_ok-words.words _ _ c.in_ok-take_expression.ensures.takes c.in_ok-value.value c.in-Some.number
+          c.in_ok-value.was some (Ok c.in-Some.number) more (alone_at_value c.args.directive _ _ _ _ c.in_ok-value_alone.ensures);
+    }

@@ -20,18 +20,18 @@ pub answer-returns-clause-answers : goal.answer-returns-clause-answers
 answer-returns-clause-answers t c =
     let definition = c.args.call.now.opening.definition in
     let arguments = c.args.call.now.site.arguments in
-    let site : Site = record { paren = c.args.call.now.site.paren; arguments = arguments; visible = meaning_of c.args.visible.now; open_around = c.args.hidden.now } in
+    let site : Site = record { paren = c.args.call.now.site.paren; arguments = arguments; numbering = c.args.numbering; visible = meaning_of c.args.visible.now; open_around = c.args.hidden.now } in
     let fits : misfit definition.parameters arguments ≡ None = search rules in
     let same : c.deref.result.now ≡ arguments = search rules in
     IfOk-weaker c.expand_arguments.result _ _
     (λ out h. answers_each c.args.levels definition site out c.if-levels-eq0.false fits
-    (subst (λ (lists : List (List Read)). Each (Alone (c.args.levels - 1)) (meaning_of c.args.visible.now) c.args.hidden.now lists out) same h))
+    (subst (λ (lists : List (List Read)). Each (Alone (c.args.levels - 1)) c.args.numbering (meaning_of c.args.visible.now) c.args.hidden.now lists out) same h))
     c.expand_arguments.ensures.each
 
 pub answer_alone-returns-clause-answers : goal.answer_alone-returns-clause-answers
 answer_alone-returns-clause-answers t c =
     IfOk-weaker c.answer.result _ _ (λ answer h. answer_known argument_reading (answers_at c.args.levels) (seen list_state c.args.expander.now) c.args.call.now
-    (meaning_of c.visible-visible.result.now) c.deref.result.now answer c.visible-visible.ensures
+    c.numbering-numbering.result (meaning_of c.visible-visible.result.now) c.deref.result.now answer c.numbering-numbering.ensures c.visible-visible.ensures
     (c.deref.ensures.value ∙ c.in_ok-around.ensures) h) c.answer.ensures.answers
 
 pub emit_alone-returns-in-Item-clause-emits : goal.emit_alone-returns-in-Item-clause-emits
@@ -96,7 +96,7 @@ expand_argument-returns-clause-alone t c =
 pub expand_arguments-returns-in-Err-clause-each : goal.expand_arguments-returns-in-Err-clause-each
 expand_arguments-returns-in-Err-clause-each t c =
     c.loop-argument.invariant.goes_on (Err c.in-Err.fault) (each_at-failed (Alone c.args.levels)
-    (meaning_of c.args.visible.now) c.args.hidden.now c.args.arguments.now c.loop-argument.argument-index c.argument-item.result
+    c.args.numbering (meaning_of c.args.visible.now) c.args.hidden.now c.args.arguments.now c.loop-argument.argument-index c.argument-item.result
     c.deref.result.now c.in-Err.fault c.loop-argument-test.true c.argument-item.is (c.deref.ensures.value ∙ c.argument.view_is)
     (rw c.in-Err.is at c.in_ok-list.ensures.alone))
 
@@ -106,7 +106,7 @@ expand_arguments-loop-argument-preserved t c = record {
       rw (c.in_ok-push-in-Ok.ensures.items, ← after_lists-before c.loop-argument.expanded.items c.in-Ok.list out)
       (c.loop-argument.invariant.goes_on (list_before c.in-Ok.list out)
       (each_at-more (Alone c.args.levels)
-      (meaning_of c.args.visible.now) c.args.hidden.now c.args.arguments.now c.loop-argument.argument-index c.argument-item.result
+      c.args.numbering (meaning_of c.args.visible.now) c.args.hidden.now c.args.arguments.now c.loop-argument.argument-index c.argument-item.result
       c.deref.result.now c.in-Ok.list out c.loop-argument-test.true c.argument-item.is (c.deref.ensures.value ∙ c.argument.view_is)
       (rw c.in-Ok.is at c.in_ok-list.ensures.alone) h));
   spent = omega arith;
@@ -116,4 +116,4 @@ pub expand_arguments-returns-clause-each : goal.expand_arguments-returns-clause-
 expand_arguments-returns-clause-each t c =
     rw (← after_items-end c.loop-argument.expanded.items)
     (c.loop-argument.invariant.goes_on (Ok []) (each_at-end (Alone c.args.levels)
-    (meaning_of c.args.visible.now) c.args.hidden.now c.args.arguments.now c.loop-argument.argument-index c.loop-argument-test.false))
+    c.args.numbering (meaning_of c.args.visible.now) c.args.hidden.now c.args.arguments.now c.loop-argument.argument-index c.loop-argument-test.false))

@@ -51,7 +51,7 @@ decreases-collect-items l = l.budget.steps
 
 abbrev pub invariant-expand_arguments-loop-argument : goal.invariant-expand_arguments-loop-argument
 invariant-expand_arguments-loop-argument l = record {
-  goes_on : (out : Result (List (List Read)) Fault) → Each (Alone l.levels) (meaning_of l.visible) l.hidden (drop l.argument-index l.arguments) out
-      → Each (Alone l.levels) (meaning_of l.visible) l.hidden l.arguments (after_items l.expanded.items out);
+  goes_on : (out : Result (List (List Read)) Fault) → Each (Alone l.levels) l.numbering (meaning_of l.visible) l.hidden (drop l.argument-index l.arguments) out
+      → Each (Alone l.levels) l.numbering (meaning_of l.visible) l.hidden l.arguments (after_items l.expanded.items out);
   spent : l.budget.steps ≤ l.initial.budget.steps;
 }

@@ -10,5 +10,5 @@ pub returns-clause-answers : goal.returns-clause-answers
 returns-clause-answers g c =
     IfOk-weaker c.answer.result _ _ (λ answer h. answer_known g.R.Reader.reading (answers_at c.args.levels)
     (seen g.R.Reader.state c.args.expander.now) c.args.call.now
-    (meaning_of c.visible-visible.result.now) c.deref.result.now answer c.visible-visible.ensures
+    c.numbering-numbering.result (meaning_of c.visible-visible.result.now) c.deref.result.now answer c.numbering-numbering.ensures c.visible-visible.ensures
     (c.deref.ensures.value ∙ c.in_ok-around.ensures) h) c.answer.ensures.answers

@@ -1,9 +1,11 @@
-use Rattle.std.proofs.Common.{◌≡◌, false, Ok, sym, ◌∙◌, ap, subst}
+use Rattle.std.proofs.Common.{◌≡◌, false, Option, Ok, sym, ◌∙◌, ap, subst, rules}
+use Rattle.pp_lexer.specs.declared.lexer.item.Token.{Token as LexerToken}
 use Rattle.pp_model.specs.Conversions.{is_newline}
 use Rattle.pp_macros.specs.inner.LineReading.{HasTaken, LeavesSome, next_token}
 use Rattle.pp_macros.specs.inner.SourceLexed.{unreported_at}
 use Rattle.pp_macros.specs.inner.Unreported.{IsMet}
 use Rattle.pp_directives.proofs.NotedLemmas.{and_second}
+use Rattle.pp_directives.proofs.PassedErrorsLemmas.{halt_reported, step_same}
 use Rattle.pp_directives.proofs.SourceStepLemmas.{step_directive, step_errs}
 use Rattle.pp_directives.proofs.UnreportedLemmas.{met_none}
 use Rattle.pp_directives.proofs.directives.DirectiveProcessor.step_any.Goals as goal
@@ -43,3 +45,15 @@ returns-in-Err-Fault-clause-errors c =
     let passed = and_second _ p.rules.passes_dead_errors (sym c.passes_errors.ensures ∙ c.if-passes_errors.true) in
     rw (← c.self.view_is, passed)
     (met_none c.in-Err-Fault.fault _ _ _ met (ap unreported_at c.take_error_place.ensures.others))
+
+pub returns-in-Err-clause-errors : goal.returns-in-Err-clause-errors
+returns-in-Err-clause-errors c =
+    let p = c.self.inside in
+    rw (← c.self.view_is)
+    (halt_reported (Option LexerToken) p.rules.passes_dead_errors c.in-Err.halt c.from.result _ _ (search rules) (search rules))
+
+pub returns-in_err-token-in_default-clause-errors : goal.returns-in_err-token-in_default-clause-errors
+returns-in_err-token-in_default-clause-errors c =
+    let p = c.self.inside in
+    rw (← c.self.view_is)
+    (step_same p.rules.passes_dead_errors c.from_residual.result _ _ (c.in-Ok-Some.ensures.errors ∙ ap unreported_at c.if-pass_newline.ensures))

@@ -8,4 +8,4 @@ use Rattle.pp_directives.proofs.line_words.WordReader.words_of_line.Goals as goa
 
 pub line-lexer-requires : goal.line-lexer-requires
 line-lexer-requires c = subst AllReadOrdinary (sym (c.deref_mut.ensures.value ∙ c.into_reads-reads.ensures))
-    (All-map (λ (read : Read). HoldsOrdinary read.token.value) unpainted c.args.tokens c.requires.holds)
+    (All-map (λ (read : Read). HoldsOrdinary read.token.value) unpainted c.args.tokens c.requires)

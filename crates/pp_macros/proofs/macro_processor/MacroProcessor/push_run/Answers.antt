@@ -28,6 +28,11 @@ returns-in_err-found-clause-takes g c =
     let e = err_from_is_err_and c.from_residual.result c.from_residual.ensures.1 in
     rw (e.1 ∙ ap Err e.2) (run_refused _ _ _ _ _ _)
 
+pub returns-in_err-pay-clause-takes : goal.returns-in_err-pay-clause-takes
+returns-in_err-pay-clause-takes g c =
+    let e = err_from_is_err_and c.from_residual-in_err-pay.result c.from_residual-in_err-pay.ensures.1 in
+    rw (e.1 ∙ ap Err e.2) (run_refused _ _ _ _ _ _)
+
 pub paint_from-requires : goal.paint_from-requires
 paint_from-requires g c =
     record { known = known_more _ _ c.args.self.now (run_grow c.args.tokens.now.items _ _ c.in_ok-found.found _ (c.in_ok-found.ensures {u = tt})) c.requires.known }

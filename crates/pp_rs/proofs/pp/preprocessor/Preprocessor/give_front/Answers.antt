@@ -11,8 +11,8 @@ pub tokens-preserved : goal.tokens-preserved
 tokens-preserved g c =
     let before = c.tokens.invariant in
     let passed = (c.in_ok-advance.ensures {u = tt}).passed in
-    let token = c.front.result in
-    let next = c.pass.ensures.gives (token_of token) c.front.ensures.ahead in
+    let token = c.front-token.result in
+    let next = c.pass.ensures.gives (token_of token) c.front-token.ensures.ahead in
     let fresh = passed.spent ∙ before.unspent in
     record {
       unspent = token_unspent _ _ (token_of token) fresh next;
@@ -20,7 +20,7 @@ tokens-preserved g c =
       rules = next.rules ∙ passed.rules ∙ before.rules;
       giving = λ start first p.
           giving_takes _ start _ first _ (giving_passes _ start _ first _ (before.giving start first p) _ passed) fresh token _ _ next
-          (c.pass.ensures.line _ c.front.ensures.line) (c.in_ok-take.ensures {u = tt});
+          (c.pass.ensures.line _ c.front-token.ensures.line) (c.in_ok-take.ensures {u = tt});
     }
 
 -- no more tokens
@@ -40,4 +40,12 @@ returns-in_err-take-clause-refused g c = on_err c.from_residual-in_err-take.resu
     let before = c.tokens.invariant in
     let passed = (c.in_ok-advance.ensures {u = tt}).passed in
     giving_refused _ start _ first _ (giving_passes _ start _ first _ (before.giving start first p) _ passed) (passed.spent ∙ before.unspent)
-    c.front.ensures.some_left)
+    c.front-token.ensures.some_left)
+
+-- no step is left for it
+pub returns-in_err-pay-clause-refused : goal.returns-in_err-pay-clause-refused
+returns-in_err-pay-clause-refused g c = on_err c.from_residual-in_err-pay.result (λ start first p.
+    let before = c.tokens.invariant in
+    let passed = (c.in_ok-advance.ensures {u = tt}).passed in
+    giving_refused _ start _ first _ (giving_passes _ start _ first _ (before.giving start first p) _ passed) (passed.spent ∙ before.unspent)
+    c.front-token.ensures.some_left)

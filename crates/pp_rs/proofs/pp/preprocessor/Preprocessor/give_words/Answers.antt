@@ -73,3 +73,11 @@ returns-in_err-take-clause-refused g c = on_err c.from_residual-in_err-take.resu
     let before = c.words.invariant in
     let word = rw c.in-Some.is at (c.in_ok-word.ensures {u = tt}).gives in
     giving_refused _ start _ first _ (before.giving start first p) before.reads.unspent (omega (arith, word.next.less_left)))
+
+-- no step is left for it
+pub returns-in_err-pay-clause-refused : goal.returns-in_err-pay-clause-refused
+unfolding is_spent
+returns-in_err-pay-clause-refused g c = on_err c.from_residual-in_err-pay.result (λ start first p.
+    let before = c.words.invariant in
+    let word = rw c.in-Some.is at (c.in_ok-word.ensures {u = tt}).gives in
+    giving_refused _ start _ first _ (before.giving start first p) before.reads.unspent (omega (arith, word.next.less_left)))
