@@ -79,6 +79,7 @@ def unescaped(text):
 
 # What a binding can't do, or what changes what comes after it.
 OTHERS = ("glsl", "all", "drain")
+BOUND = "at-most-"
 
 
 def calls_of(case, answers):
@@ -88,7 +89,7 @@ def calls_of(case, answers):
     for word, lines in answers:
         if word == "lexer":
             case.lexed = lines[:-1]
-        elif word in OTHERS:
+        elif word in OTHERS or word.startswith(BOUND):
             is_open = False
         elif not is_open:
             continue

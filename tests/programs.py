@@ -3,6 +3,7 @@
 import concurrent.futures
 import functools
 import os
+import re
 import shutil
 import signal
 import subprocess
@@ -74,6 +75,25 @@ def program(name):
 def library():
     """The path of the C library."""
     return found("libpp_c.a")
+
+
+def names_shown():
+    """The source that docs/GUIDE.md shows, and what it says that its programs print of that."""
+    found = re.search(r"^```sh\nprintf '([^']*)' \| names\n((?:# .*\n)+)```$", text_of("docs/GUIDE.md"), re.M)
+    return found[1].replace("\\n", "\n"), found[2].replace("# ", "")
+
+
+def folder_with(library, folder):
+    """A folder for PP_LIB_DIR, below another, in which this library is."""
+    os.makedirs(f"{folder}/library")
+    shutil.copy2(library, f"{folder}/library/libpp_c.a")
+    return f"{folder}/library"
+
+
+def shared_library(folder):
+    """A folder for PP_LIB_DIR, below another, in which ./install put libpp.so.1."""
+    command([os.path.join(TOP, "install"), "--shared", f"{folder}/installed"])
+    return f"{folder}/installed/lib"
 
 
 def command(words, **given):
