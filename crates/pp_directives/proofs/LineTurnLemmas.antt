@@ -296,13 +296,13 @@ module _ (levels : ℕ) (numbering : Numbering) (definitions : List Defined) (m 
     call_read p opened =
         let less : IsLess levels m (of_list l) p (of_list k) =
         opened_less true numbering definitions [] levels m n l k c p pending (stands_listed true numbering definitions [] n k led.0 led.1 pending.free).3 opened in
-        let f : Expander Listed = record led.0 { list = macro_before c.opened.name c.opened.definition c.closing.line opened.arguments led.0.list } in
+        let f : Expander Listed = record led.0 { list = macro_before c.opened.name c.opened.definition c.call opened.arguments led.0.list } in
         let stood : StandsListed true numbering definitions [] n k led.0 = led.1 in
         let stands : StandsListed true numbering definitions [] p k f =
         subst (λ (q : kept.Expander). StandsListed true numbering definitions [] q k f) (sym opened.opens)
         (record {
           holds = stood.holds;
-          list = ap (macro_before c.opened.name c.opened.definition c.closing.line opened.arguments) stood.list;
+          list = ap (macro_before c.opened.name c.opened.definition c.call opened.arguments) stood.list;
           reader = stood.reader;
           names = stood.names;
         }) in

@@ -12,7 +12,7 @@ pub mod NestingLemmas
 pub mod PaintedRunLemmas
 pub mod IdleListLemmas
 pub mod SearchSimulates
-pub mod LineStaysLemmas
+pub mod CallStaysLemmas
 pub mod TurnLeadsLemmas
 pub mod ListedLeadsLemmas
 pub mod ListLeadsLemmas

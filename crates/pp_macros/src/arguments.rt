@@ -145,7 +145,7 @@ fn expand_arguments(
         (open_names processor.old) arguments) }
 {
     let (mut tokens, parts) = arguments.into_parts();
-    processor.pay(tokens.len())?;
+    processor.pay(tokens.len().saturating_mul(2))?;
     if are_plain(&tokens, scope.definitions, &*processor) {
         return Ok(ArgumentLists::new(tokens, parts));
     }
@@ -255,7 +255,7 @@ fn expand_list(
         (names_of processor.old.below) lexer.old.tokens items.old.items items.new.items) }
 {
     'items: loop {
-        processor.pay(1)?;
+        processor.pay(2)?;
         processor.give_frames(&*lexer, items)?;
         match step_list(&mut *processor, &mut *lexer) {
             Ok(Taken::Token(read)) => items.push(read)?,

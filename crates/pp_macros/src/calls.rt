@@ -27,6 +27,7 @@ use crate::step::{Step, StepExit, is_out_of_memory};
 use pp_lexer::token::{Location, PreprocessorError, Text, Token, TokenValue, out_of_memory};
 use pp_model::parentheses::{Nesting, is_left_paren, nesting_of};
 use pp_model::read::Read;
+use pp_model::splice::CallPlace;
 use std::alloc::{AllocError, Global};
 use std::marker::Model;
 use std::mem;
@@ -36,8 +37,8 @@ use std::rc::Rc;
 #[derive(Drop)]
 pub struct MacroCall {
     opened: Rc<Macro>,
+    call: CallPlace,
     paren: Location,
-    closing: Location,
     tokens: Vec<Read>,
 }
 
@@ -49,8 +50,8 @@ impl Model for MacroCall {
 
     ghost view = { λ c. record {
       opened = c.opened.value;
+      call = c.call;
       paren = c.paren;
-      closing = c.closing;
       tokens = c.tokens.items;
     } };
 
@@ -81,12 +82,12 @@ impl MacroCall {
         self.paren
     }
 
-    /// Its macro, and the line of its `)`.
-    pub fn into_macro(self) -> (Rc<Macro>, u32)
+    /// Its macro, and where that is called.
+    pub fn into_macro(self) -> (Rc<Macro>, CallPlace)
         ensures opened { result.0.value ≡ self.opened }
-        ensures line { result.1 ≡ self.closing.line }
+        ensures call { result.1 ≡ self.call }
     {
-        (self.opened, self.closing.line)
+        (self.opened, self.call)
     }
 }
 
@@ -258,11 +259,12 @@ impl MacroProcessor {
         ensures waits { OnOk result (MayWait self.new.below (reader lexer.new)) }
     {
         if !self.is_idle() {
+            self.pay(1)?;
             return self.push_next(lexer, tokens);
         }
         let start = tokens.len();
         let found = lexer.push_flat(tokens)?;
-        self.pay(tokens.len().saturating_sub(start))?;
+        self.pay(tokens.len().saturating_sub(start).saturating_add(1))?;
         self.paint_from(&*lexer, tokens, start);
         if found {
             return Ok(());
@@ -335,13 +337,17 @@ impl MacroProcessor {
             return Ok(Taken::Token(read));
         };
         drop(next);
+        let name = read.token.location;
         drop(read);
         let mut tokens = self.take_tokens(room_for(&opened))?;
         let closing = self.gather(lexer, paren, &mut tokens)?;
         Ok(Taken::Call(MacroCall {
             opened,
+            call: CallPlace {
+                name,
+                line: closing.line,
+            },
             paren,
-            closing,
             tokens,
         }))
     }
@@ -363,9 +369,9 @@ impl MacroProcessor {
         if opened.is_function_like() {
             return self.enter_call(lexer, read, opened);
         }
-        let line = read.token.location.line;
+        let name = read.token.location;
         drop(read);
-        self.open_bare(opened, line)?;
+        self.open_bare(opened, name)?;
         Err(StepExit::Continue)
     }
 

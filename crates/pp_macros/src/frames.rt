@@ -16,6 +16,7 @@ use crate::define::{BodyEntry, Macro};
 use crate::names::NameId;
 use pp_lexer::token::{Token, TokenValue};
 use pp_model::read::Read;
+use pp_model::splice::CallPlace;
 use std::alloc::{AllocError, Global};
 use std::marker::Model;
 use std::rc::Rc;
@@ -35,7 +36,7 @@ pub struct Ahead<'a> {
 #[derive(Drop)]
 pub struct Frame {
     opened: Rc<Macro>,
-    line: u32,
+    call: CallPlace,
     position: usize,
     arguments: OpenArguments,
 }
@@ -50,7 +51,7 @@ impl Model for Frame {
       name = f.opened.value.name;
       number = f.opened.value.number;
       noted = f.opened.value.noted;
-      line = f.line;
+      call = f.call;
       parameters = f.opened.value.definition.parameters;
       body = drop f.position f.opened.value.definition.body;
       arguments = f.arguments.lists;
@@ -91,12 +92,12 @@ fn copy_of_other(alloc: Global, token: &Token) -> Result<Token, AllocError>
 impl Frame {
     /// The frame of a macro that opens.
     #[inline(always)]
-    pub fn new(opened: Rc<Macro>, line: u32, arguments: ArgumentLists) -> Frame
-        ensures { result ≡ new_frame opened.value line arguments }
+    pub fn new(opened: Rc<Macro>, call: CallPlace, arguments: ArgumentLists) -> Frame
+        ensures { result ≡ new_frame opened.value call arguments }
     {
         Frame {
             opened,
-            line,
+            call,
             position: 0,
             arguments: OpenArguments::new(arguments),
         }
@@ -104,12 +105,12 @@ impl Frame {
 
     /// The frame of a macro without arguments that opens.
     #[inline(always)]
-    pub fn bare(alloc: Global, opened: Rc<Macro>, line: u32) -> Frame
-        ensures { result ≡ new_frame opened.value line [] }
+    pub fn bare(alloc: Global, opened: Rc<Macro>, call: CallPlace) -> Frame
+        ensures { result ≡ new_frame opened.value call [] }
     {
         Frame {
             opened,
-            line,
+            call,
             position: 0,
             arguments: OpenArguments::nothing(alloc),
         }
@@ -131,11 +132,11 @@ impl Frame {
         self.opened.number().number()
     }
 
-    /// The line that `__LINE__` shows in it.
-    pub fn line(&self) -> u32
-        ensures { result ≡ self.now.line }
+    /// Where its macro was called.
+    pub fn call(&self) -> CallPlace
+        ensures { result ≡ self.now.call }
     {
-        self.line
+        self.call
     }
 
     /// The token that its next step gives. The step is a pause at a parameter, at the end of an

@@ -9,7 +9,7 @@ ghost use Rattle.pp_model.specs.Names.{Name};
 ghost use Rattle.pp_model.specs.Painting.{is_one_of, painted_among, unpainted};
 ghost use Rattle.pp_model.specs.Taking.{line_number};
 ghost use Rattle.pp_macros.specs.inner.Frames as spec;
-ghost use Rattle.pp_macros.specs.inner.Frames.{new_frame, outermost_frame_line};
+ghost use Rattle.pp_macros.specs.inner.Frames.{bare_call, new_frame, outermost_frame_call, outermost_frame_line};
 ghost use Rattle.pp_macros.specs.Held.{HoldsOrdinary};
 ghost use Rattle.pp_macros.specs.inner.Ahead.{read_of, given_next};
 ghost use Rattle.pp_macros.specs.inner.Bodies.{noted_by};
@@ -35,6 +35,7 @@ use crate::step::{Step, StepExit};
 use pp_lexer::token::{Integer, Location, PreprocessorError, Token, TokenValue};
 use pp_model::names::is_line_name;
 use pp_model::read::Read;
+use pp_model::splice::CallPlace;
 use std::alloc::{AllocError, Global};
 use std::marker::Model;
 use std::mem;
@@ -266,9 +267,9 @@ impl MacroProcessor {
     /// Whether a macro is open here.
     #[inline(always)]
     pub fn has_frames(&self) -> bool
-        ensures { result ≡ is_some (outermost_frame_line self.now.here.frames) }
+        ensures { result ≡ is_some (outermost_frame_call self.now.here.frames) }
     {
-        self.outermost_line().is_some()
+        self.outermost_call().is_some()
     }
 
     /// Whether nothing is open or held. The next token then comes from the reader.
@@ -352,13 +353,13 @@ impl MacroProcessor {
         self.frames.is_empty()
     }
 
-    /// The line of the outermost macro that is open here: the line of its name, or of the `)` of its call.
+    /// Where the outermost macro that is open here was called.
     #[inline(always)]
-    pub fn outermost_line(&self) -> Option<u32>
-        ensures { result ≡ outermost_frame_line self.now.here.frames }
+    pub fn outermost_call(&self) -> Option<CallPlace>
+        ensures { result ≡ outermost_frame_call self.now.here.frames }
     {
         match self.frames.get(self.base) {
-            Some(frame) => Some(frame.line()),
+            Some(frame) => Some(frame.call()),
             None => None,
         }
     }
@@ -366,7 +367,7 @@ impl MacroProcessor {
     // Closes the innermost frame: its macro is open once less, and its lists are kept to be used again.
     #[inline(always)]
     fn close(&mut self)
-        requires { is_some (outermost_frame_line self.old.here.frames) ≡ true }
+        requires { is_some (outermost_frame_call self.old.here.frames) ≡ true }
         ensures { self.new ≡ with_frames self.old (drop 1 self.old.here.frames) }
     {
         let Some(frame) = self.frames.pop() else {
@@ -404,7 +405,7 @@ impl MacroProcessor {
     /// Passes the pause that the innermost frame has next. A frame at its end is closed.
     #[inline(always)]
     pub fn pass_pause(&mut self)
-        requires open { is_some (outermost_frame_line self.old.here.frames) ≡ true }
+        requires open { is_some (outermost_frame_call self.old.here.frames) ≡ true }
         requires pauses { given_next self.old.here.frames ≡ None }
         ensures { self.new ≡ stepped self.old }
     {
@@ -486,7 +487,10 @@ impl MacroProcessor {
             (unwrap_or (outermost_frame_line self.now.here.frames) location.line))) }
         ensures holds { IfOk result (λ read. HoldsOrdinary read.token.value) }
     {
-        let line = self.outermost_line().unwrap_or(location.line);
+        let line = match self.outermost_call() {
+            Some(call) => call.line,
+            None => location.line,
+        };
         line_number(location, lexer.shown_line(line))
     }
 
@@ -528,27 +532,31 @@ impl MacroProcessor {
     /// Opens the frame of a call with these arguments.
     pub fn open_call(&mut self, call: MacroCall, arguments: ArgumentLists) -> Result<(), AllocError>
         ensures ok { OnOk result (self.new ≡ with_frames self.old
-            (new_frame call.opened call.closing.line arguments ∷ self.old.here.frames)) }
+            (new_frame call.opened call.call arguments ∷ self.old.here.frames)) }
         ensures err { OnErr result (self.new ≡ self.old) }
     {
-        let (opened, line) = call.into_macro();
+        let (opened, call) = call.into_macro();
         self.pay_for_body(&opened)?;
-        self.push(Frame::new(opened, line, arguments))
+        self.push(Frame::new(opened, call, arguments))
     }
 
-    /// Opens the frame of a macro without parentheses. `line` is the line that `__LINE__` shows in it.
+    /// Opens the frame of a macro without parentheses, whose name is at this place.
     #[inline(always)]
-    pub fn open_bare(&mut self, opened: Rc<Macro>, line: u32) -> Result<(), AllocError>
+    pub fn open_bare(&mut self, opened: Rc<Macro>, name: Location) -> Result<(), AllocError>
         ensures ok { OnOk result (self.new ≡ with_frames self.old
-            (new_frame opened.value line [] ∷ self.old.here.frames)) }
+            (new_frame opened.value (bare_call name) [] ∷ self.old.here.frames)) }
         ensures err { OnErr result (self.new ≡ self.old) }
     {
         self.pay_for_body(&opened)?;
         let number = opened.number().number();
         self.frames.reserve(1)?;
         make_room(&mut self.counts, number)?;
+        let call = CallPlace {
+            name,
+            line: name.line,
+        };
         self.frames
-            .push_reserved(Frame::bare(self.alloc, opened, line));
+            .push_reserved(Frame::bare(self.alloc, opened, call));
         self.counts[number] += 1;
         Ok(())
     }

@@ -6,7 +6,7 @@ use Rattle.pp_model.specs.SpliceList.{after_marks, open_names}
 use Rattle.pp_model.specs.Reading.{Reading, Expander, Opening, opening}
 use Rattle.pp_model.specs.Taking.{Takes, Fetches, held, listed, read}
 use Rattle.pp_model.specs.Calls.{Answers, Called, Calls}
-use Rattle.pp_model.specs.Emitting.{with_macro, Emits, itself, object, name_alone, call_refused, call}
+use Rattle.pp_model.specs.Emitting.{with_macro, Emits, itself, object, name_alone, call_refused, call, called_at}
 use Rattle.pp_model.specs.ApartMarks.{AreApart, HasApartMarks, IsRest, OnlyTakesEntries, OpensNew, KeepsMarksApart, StartsApart}
 use Rattle.pp_model.specs.declared.read.Taken.{Taken}
 use Rattle.pp_model.specs.declared.splice.Entry.TheVariants.{Plain}
@@ -47,7 +47,7 @@ module _ {R : Type 0} (I : Reading R) where
       → IsRest e.list f.list → HasApartMarks f.list → HasApartMarks (with_macro m line arguments f).list
   opened_is_apart o m line arguments d e f t h r apart =
       let both : AreApart (m.name ∷ open_names f.list) = (opens_new o m d e f.list t h r, apart) in
-      rw (open_spliced m.name m.definition line arguments f.list) both
+      rw (open_spliced m.name m.definition (called_at m.token line) arguments f.list) both
 
   pub item_keeps_apart : (A : Answers) (o : Taken) (e f : Expander R) → Emits I A e o f → HasApartMarks e.list → HasApartMarks f.list
   item_keeps_apart A o e f (itself o1 e1 f1 t h) apart = rest_is_apart e.list f.list (taking_leaves_rest o e f t) apart

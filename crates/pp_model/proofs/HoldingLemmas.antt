@@ -8,7 +8,7 @@ use Rattle.pp_lexer.specs.declared.token.Token.{Token}
 use Rattle.pp_lexer.specs.declared.token.TokenValue.TheVariants.{Integer}
 use Rattle.pp_model.specs.Names.{Name, is_identifier, line_name}
 use Rattle.pp_model.specs.Definitions.{Definition, Definitions}
-use Rattle.pp_model.specs.SpliceList.{after_marks, outermost_line, parameter_of, replacement, body_before, macro_before}
+use Rattle.pp_model.specs.SpliceList.{after_marks, outermost_line, parameter_of, replacement, body_before, macro_before, outermost_call}
 use Rattle.pp_model.specs.inner.SpliceList.{followed_by}
 use Rattle.pp_model.specs.Painting.{taken_among}
 use Rattle.pp_model.specs.Taking.{line_number, shown_token, shown_outcome}
@@ -20,6 +20,7 @@ use Rattle.pp_model.specs.declared.read.Taken.{Taken}
 use Rattle.pp_model.specs.declared.read.Taken.TheVariants as taken
 use Rattle.pp_model.specs.declared.splice.Entry.{Entry}
 use Rattle.pp_model.specs.declared.splice.Entry.TheVariants.{Plain, End}
+use Rattle.pp_model.specs.declared.splice.CallPlace.{CallPlace}
 
 -- a line's number as a token
 abbrev pub number_at : Location → IntegerLiteral → Token
@@ -59,7 +60,7 @@ module _ (Q : Token → Type 0) (L : ℕ → Type 0) where
   -- an entry has it: a token, or the line of an end mark
   abbrev pub HoldsOfEntry : Entry → Type 0
   HoldsOfEntry (Plain read) = Q read.token
-  HoldsOfEntry (End mark) = L mark.line
+  HoldsOfEntry (End mark) = L mark.call.line
 
   abbrev pub HoldInList : List Entry → Type 0
   HoldInList entries = Each HoldsOfEntry entries
@@ -69,9 +70,14 @@ module _ (Q : Token → Type 0) (L : ℕ → Type 0) where
   after_marks_hold (End mark ∷ entries) all = after_marks_hold entries all.1
   after_marks_hold (Plain token ∷ entries) all = all
 
+  outermost_call_holds : (entries : List Entry) (call : CallPlace) → HoldInList entries → L call.line → L (unwrap_or (outermost_call entries) call).line
+  outermost_call_holds [] call all h = h
+  outermost_call_holds (End mark ∷ entries) call all h = outermost_call_holds entries mark.call all.1 all.0
+  outermost_call_holds (Plain token ∷ entries) call all h = outermost_call_holds entries call all.1 h
+
   pub outermost_holds : (entries : List Entry) (line : ℕ) → HoldInList entries → L line → L (unwrap_or (outermost_line entries) line)
   outermost_holds [] line all h = h
-  outermost_holds (End mark ∷ entries) line all h = outermost_holds entries mark.line all.1 all.0
+  outermost_holds (End mark ∷ entries) line all h = outermost_call_holds entries mark.call all.1 all.0
   outermost_holds (Plain token ∷ entries) line all h = outermost_holds entries line all.1 h
 
   pub followed_hold : (tokens : List Read) (entries : List Entry) → Each (HoldsOfRead Q) tokens → HoldInList entries → HoldInList (followed_by tokens entries)
@@ -97,11 +103,11 @@ module _ (Q : Token → Type 0) (L : ℕ → Type 0) where
       (replaced_holds parameters arguments body entries all q.1 h)
 
   -- a macro's replacement has it where its body, its arguments and its line have it
-  pub spliced_holds : (name : Name) (definition : Definition) (line : ℕ) (arguments : List (List Read)) (entries : List Entry)
-      → Each Q definition.body → L line → HoldInLists Q arguments → HoldInList entries
-      → HoldInList (macro_before name definition line arguments entries)
-  spliced_holds name definition line arguments entries body l all h =
-      replaced_holds definition.parameters arguments definition.body (End (record { name = name; line = line }) ∷ entries) all body (l, h)
+  pub spliced_holds : (name : Name) (definition : Definition) (call : CallPlace) (arguments : List (List Read)) (entries : List Entry)
+      → Each Q definition.body → L call.line → HoldInLists Q arguments → HoldInList entries
+      → HoldInList (macro_before name definition call arguments entries)
+  spliced_holds name definition call arguments entries body l all h =
+      replaced_holds definition.parameters arguments definition.body (End (record { name = name; call = call }) ∷ entries) all body (l, h)
 
   cut_holds : (parts : Bool) (token : Read) (cut : Pieces) → Q token.token → Each (HoldsOfRead Q) cut.first
       → HoldInLists Q cut.others

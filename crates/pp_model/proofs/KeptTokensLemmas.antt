@@ -14,7 +14,7 @@ use Rattle.pp_model.specs.Reading.{Reading, Expander, Opening, opening_of, openi
 use Rattle.pp_model.specs.inner.Reading.{first_listed, opening_by, after_listed}
 use Rattle.pp_model.specs.Taking.{Takes, Fetches, held, listed, read}
 use Rattle.pp_model.specs.Calls.{Gathered, before, Fault, Gathers, closed, inside, overfull, ended, failed, Answers, Site, misfit, Called, no_call, refused, fits, called_by, Calls, alone, broken, whole}
-use Rattle.pp_model.specs.Emitting.{with_macro, Emits, itself, object, name_alone, call_refused, call, Collects, done, failed as failing, item, Alones, Each as Expanded, none, first_failed, more, answers_by, ExpandsArguments, answers_at, Alone}
+use Rattle.pp_model.specs.Emitting.{with_macro, Emits, itself, object, name_alone, call_refused, call, Collects, done, failed as failing, item, Alones, Each as Expanded, none, first_failed, more, answers_by, ExpandsArguments, answers_at, Alone, called_at}
 use Rattle.pp_model.specs.declared.read.Read.{Read}
 use Rattle.pp_model.specs.declared.read.Taken.{Taken}
 use Rattle.pp_model.specs.declared.read.Taken.TheVariants as taken
@@ -137,7 +137,7 @@ module _ (Q : Token → Type 0) (L : ℕ → Type 0) (closed_under : AreClosed Q
           → HoldInLists Q arguments → HoldsOf Q L K e → HoldsOf Q L K (with_macro m line arguments e)
       opening_keeps m line arguments e body l all h = record {
         held = h.held;
-        list = spliced_holds Q L m.name m.definition line arguments e.list body l all h.list;
+        list = spliced_holds Q L m.name m.definition (called_at m.token line) arguments e.list body l all h.list;
         reader = h.reader;
       }
 

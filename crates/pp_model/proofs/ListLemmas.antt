@@ -8,8 +8,8 @@ pub drop-item : {X : Type 0} (xs : List X) (i : ℕ) (x : X) → i < length xs �
 drop-item xs i x h e = rw (add-one, drop-cons xs i x) (ap (λ y. y ∷ drop (suc i) xs) (sym e))
 
 -- what is found in the rest, or else before it
-abbrev pub rest_or : Option ℕ → Option ℕ → Option ℕ
-rest_or (Some line) before = Some line
+abbrev pub rest_or : {A : Type 0} → Option A → Option A → Option A
+rest_or (Some value) before = Some value
 rest_or None before = before
 
 -- one more of a list is mapped

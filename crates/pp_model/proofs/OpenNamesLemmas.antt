@@ -20,6 +20,7 @@ use Rattle.pp_model.specs.declared.read.Taken.TheVariants as taken
 use Rattle.std.proofs.lemmas.List.Folds.{list_any-append}
 use Rattle.pp_model.specs.declared.splice.Entry.{Entry}
 use Rattle.pp_model.specs.declared.splice.Entry.TheVariants.{Plain, End}
+use Rattle.pp_model.specs.declared.splice.CallPlace.{CallPlace}
 
 -- what is left of a rest is left
 pub rest_of_rest : (a b c : List Entry) → IsRest a b → IsRest b c → IsRest a c
@@ -87,10 +88,10 @@ open_replaced parameters arguments (token ∷ body) entries =
     open_replacement arguments token (parameter_of parameters token.value) (body_before parameters arguments body entries)
     ∙ open_replaced parameters arguments body entries
 
-pub open_spliced : (name : Name) (definition : Definition) (line : ℕ) (arguments : List (List Read)) (entries : List Entry)
-    → open_names (macro_before name definition line arguments entries) ≡ name ∷ open_names entries
-open_spliced name definition line arguments entries = open_replaced definition.parameters arguments definition.body
-    (End (record { name = name; line = line }) ∷ entries)
+pub open_spliced : (name : Name) (definition : Definition) (call : CallPlace) (arguments : List (List Read)) (entries : List Entry)
+    → open_names (macro_before name definition call arguments entries) ≡ name ∷ open_names entries
+open_spliced name definition call arguments entries = open_replaced definition.parameters arguments definition.body
+    (End (record { name = name; call = call }) ∷ entries)
 
 -- what is known of a token that was taken and opens a macro
 pub record IsOpening {R : Type 0} (I : Reading R) (e : Expander R) (o : Taken) (m : Opening) : Type 0 where

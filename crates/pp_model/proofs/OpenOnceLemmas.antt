@@ -6,7 +6,7 @@ use Rattle.pp_model.specs.SpliceList.{open_names}
 use Rattle.pp_model.specs.Reading.{Reading, Expander, Listed, Opening, masked_names}
 use Rattle.pp_model.specs.Taking.{Takes, Fetches, held, listed, read}
 use Rattle.pp_model.specs.Calls.{Answers, Called, Calls}
-use Rattle.pp_model.specs.Emitting.{with_macro, Emits}
+use Rattle.pp_model.specs.Emitting.{with_macro, Emits, called_at}
 use Rattle.pp_model.specs.Emitting as emits
 use Rattle.pp_model.specs.SourceReader.{SourceReader}
 use Rattle.pp_model.specs.Reads.{source_reading}
@@ -42,7 +42,7 @@ opened_once : {R : Type 0} (m : Opening) (line : ℕ) (arguments : List (List Re
     → IsOpenOnce (with_macro m line arguments f)
 opened_once m line arguments f apart once =
     let both : AreApart (m.name ∷ (open_names f.list ++ f.hidden)) = (apart, once) in
-    subst (λ (names : List Name). AreApart (names ++ f.hidden)) (sym (open_spliced m.name m.definition line arguments f.list)) both
+    subst (λ (names : List Name). AreApart (names ++ f.hidden)) (sym (open_spliced m.name m.definition (called_at m.token line) arguments f.list)) both
 
 module _ {R : Type 0} (I : Reading R) where
   fetching_around : (o : Taken) (e f : Expander R) → Fetches I e o f → f.hidden ≡ e.hidden

@@ -2,6 +2,7 @@
 use Rattle.std.specs.Prelude.{◌≡◌, ℕ, zero, suc, true, false, List, [], ◌∷◌, Some, None, MatchOption, Result}
 use Rattle.std.specs.Prelude.{Ok, Err}
 use Rattle.pp_lexer.specs.declared.token.PreprocessorError.TheVariants.{RecursionLimitReached}
+use Rattle.pp_lexer.specs.declared.token.Token.{Token}
 use Rattle.pp_expression.specs.Answers.{◌>>=◌}
 use Rattle.pp_model.specs.Names.{Name}
 use Rattle.pp_model.specs.Definitions.{Definitions}
@@ -13,11 +14,16 @@ use Rattle.pp_model.specs.declared.numbering.Numbering.{Numbering}
 use Rattle.pp_model.specs.declared.read.Read.{Read}
 use Rattle.pp_model.specs.declared.read.Taken.{Taken}
 use Rattle.pp_model.specs.declared.read.Taken.TheVariants as taken
+use Rattle.pp_model.specs.declared.splice.CallPlace.{CallPlace}
+
+-- where the macro is called whose name this token is, if `__LINE__` gives this line within it
+abbrev pub called_at : Token → ℕ → CallPlace
+called_at token line = record { name = token.location; line = line }
 
 -- the macro's replacement before the list
 abbrev pub with_macro : {R : Type 0} → Opening → ℕ → List (List Read) → Expander R → Expander R
 with_macro m line arguments expander =
-    record expander { list = macro_before m.name m.definition line arguments expander.list }
+    record expander { list = macro_before m.name m.definition (called_at m.token line) arguments expander.list }
 
 -- The next item: a token that opens no macro, an error or the end. `A` says what calls give.
 pub data Emits {R : Type 0} (I : Reading R) (A : Answers) : Expander R → Taken → Expander R → Type 0 where

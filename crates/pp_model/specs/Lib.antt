@@ -8,7 +8,7 @@ pub mod Taking
 pub mod Calls
 pub mod CallNesting
 pub mod Emitting
-pub mod CallLine
+pub mod ItemCall
 pub mod LineWords
 pub mod WordReadings
 pub mod Conversions

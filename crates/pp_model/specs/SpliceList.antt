@@ -1,5 +1,6 @@
 -- The list of tokens to read, into which macros are spliced (docs/RULES.md, Expansion 1, 4 and 9).
-use Rattle.std.specs.Prelude.{ℕ, List, [], ◌∷◌, ◌++◌, map, Option, Some, None, unwrap_or, slice_get, position}
+use Rattle.std.specs.Prelude.{ℕ, List, [], ◌∷◌, ◌++◌, map, Option, Some, None, option_map, unwrap_or, slice_get}
+use Rattle.std.specs.Prelude.{position}
 use Rattle.std.specs.Option.{option_map_or}
 use Rattle.pp_lexer.specs.declared.token.Token.{Token}
 use Rattle.pp_lexer.specs.declared.token.TokenValue.{TokenValue}
@@ -8,6 +9,7 @@ use Rattle.pp_model.specs.Names.{Name, is_same_name}
 use Rattle.pp_model.specs.Definitions.{Definition}
 use Rattle.pp_model.specs.Painting.{unpainted}
 use Rattle.pp_model.specs.declared.read.Read.{Read}
+use Rattle.pp_model.specs.declared.splice.CallPlace.{CallPlace}
 use Rattle.pp_model.specs.declared.splice.Entry.{Entry}
 use Rattle.pp_model.specs.declared.splice.Entry.TheVariants.{Plain, End}
 
@@ -23,11 +25,15 @@ open_names [] = []
 open_names (End mark ∷ entries) = mark.name ∷ open_names entries
 open_names (Plain read ∷ entries) = open_names entries
 
--- the line of the last mark, which is that of the outermost open macro
+-- where the macro of the last mark was called, which is the outermost open macro
+abbrev pub outermost_call : List Entry → Option CallPlace
+outermost_call [] = None
+outermost_call (End mark ∷ entries) = Some (unwrap_or (outermost_call entries) mark.call)
+outermost_call (Plain read ∷ entries) = outermost_call entries
+
+-- the line that `__LINE__` gives within it
 abbrev pub outermost_line : List Entry → Option ℕ
-outermost_line [] = None
-outermost_line (End mark ∷ entries) = Some (unwrap_or (outermost_line entries) mark.line)
-outermost_line (Plain read ∷ entries) = outermost_line entries
+outermost_line entries = option_map (λ call. call.line) (outermost_call entries)
 
 -- the position of the parameter that the value names
 abbrev pub parameter_of : List Name → TokenValue → Option ℕ
@@ -47,6 +53,6 @@ body_before parameters arguments (token ∷ body) entries =
     replacement arguments token (parameter_of parameters token.value) (body_before parameters arguments body entries)
 
 -- the macro's replacement with its end mark before the entries
-abbrev pub macro_before : Name → Definition → ℕ → List (List Read) → List Entry → List Entry
-macro_before name definition line arguments entries =
-    body_before definition.parameters arguments definition.body (End (record { name = name; line = line }) ∷ entries)
+abbrev pub macro_before : Name → Definition → CallPlace → List (List Read) → List Entry → List Entry
+macro_before name definition call arguments entries =
+    body_before definition.parameters arguments definition.body (End (record { name = name; call = call }) ∷ entries)

@@ -1,16 +1,25 @@
 //! The list of tokens to read, into which macros are spliced.
 
 use crate::read::Read;
-use pp_lexer::token::Text;
+use pp_lexer::token::{Location, Text};
+
+/// Where a macro was called.
+#[derive(PartialEq, Eq, Debug, Clone, Copy)]
+pub struct CallPlace {
+    /// The place of its name.
+    pub name: Location,
+    /// The line that `__LINE__` gives within it, if it is the outermost macro: the line of an object-like macro's name,
+    /// or of the `)` of a call.
+    pub line: u32,
+}
 
 /// The end of a macro's replacement. The macro is open as long as its mark is in the list.
 #[derive(Drop)]
 pub struct EndMark {
     /// The macro's name.
     pub name: Text,
-    /// The line that `__LINE__` gives within the outermost macro: the line of an object-like macro's name, or of the
-    /// `)` of a call.
-    pub line: u32,
+    /// Where it was called.
+    pub call: CallPlace,
 }
 
 /// An entry of the list.

@@ -11,7 +11,7 @@ ghost use Rattle.pp_reference.specs.inner.Seen.{seen, turn_after_name, Resolves,
 use crate::calls::{Gathered, arguments_of, paren_at};
 use crate::copies::{copy_definition, copy_names};
 use crate::list;
-use crate::list::{open_names, outermost_line, take_token};
+use crate::list::{open_names, outermost_call, take_token};
 use crate::lists::ReadLists;
 use crate::names::is_among;
 use crate::reader::Reader;
@@ -23,7 +23,7 @@ use pp_model::names::is_line_name;
 use pp_model::outcome::Fault;
 use pp_model::parentheses::{Nesting, nesting_of};
 use pp_model::read::{Read, Taken};
-use pp_model::splice::Entry;
+use pp_model::splice::{CallPlace, Entry};
 use std::alloc::{AllocError, Global};
 use std::marker::Model;
 
@@ -154,7 +154,10 @@ fn shown_token<R: Reader>(reader: &R, after: &[Entry], read: Read) -> Taken
 {
     if is_line_name(&read.token.value) {
         let location = read.token.location;
-        let line = outermost_line(after).unwrap_or(location.line);
+        let line = match outermost_call(after) {
+            Some(call) => call.line,
+            None => location.line,
+        };
         line_number(location, reader.shown_line(line))
     } else {
         Taken::Token(read)
@@ -317,16 +320,20 @@ impl<R: Reader> Expander<R> {
             ≡ with_macro opening line arguments.now (seen R.state self.old)) }
     {
         let Opening {
-            token: _token,
+            token,
             name,
             definition,
         } = opening;
+        let call = CallPlace {
+            name: token.location,
+            line,
+        };
         list::splice(
             self.alloc,
             &mut self.list,
             name,
             &definition,
-            line,
+            call,
             arguments,
         )
     }

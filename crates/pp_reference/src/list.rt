@@ -2,7 +2,7 @@
 
 ghost use Rattle.std.specs.Prelude.{◌≡◌, [], ◌∷◌, ◌++◌, List, IfOk, OnOk, MatchOption, position};
 ghost use Rattle.pp_model.specs.Names.{is_same_name};
-ghost use Rattle.pp_model.specs.SpliceList.{after_marks, open_names, outermost_line, parameter_of, replacement};
+ghost use Rattle.pp_model.specs.SpliceList.{after_marks, open_names, outermost_call, parameter_of, replacement};
 ghost use Rattle.pp_model.specs.SpliceList.{body_before, macro_before};
 ghost use Rattle.pp_model.specs.inner.SpliceList.{followed_by};
 ghost use Rattle.pp_model.specs.declared.splice.Entry.{Entry as Item};
@@ -12,7 +12,7 @@ use pp_lexer::token::{Text, Token, TokenValue};
 use pp_model::copies::{copy_read, copy_token};
 use pp_model::definition::Definition;
 use pp_model::read::Read;
-use pp_model::splice::{EndMark, Entry};
+use pp_model::splice::{CallPlace, EndMark, Entry};
 use std::alloc::{AllocError, Global};
 
 /// Takes the first item.
@@ -41,17 +41,17 @@ pub fn take_token(list: &mut Vec<Entry>) -> Option<Read>
     None
 }
 
-/// The line of the last mark.
-pub fn outermost_line(list: &[Entry]) -> Option<u32>
-    ensures { result ≡ outermost_line list.now }
+/// Where the macro of the last mark was called.
+pub fn outermost_call(list: &[Entry]) -> Option<CallPlace>
+    ensures { result ≡ outermost_call list.now }
 {
-    let mut line = None;
+    let mut call = None;
     for entry in list {
         if let Entry::End(mark) = entry {
-            line = Some(mark.line);
+            call = Some(mark.call);
         }
     }
-    line
+    call
 }
 
 /// The names of the marks.
@@ -140,11 +140,11 @@ pub fn splice(
     list: &mut Vec<Entry>,
     name: Text,
     definition: &Definition,
-    line: u32,
+    call: CallPlace,
     arguments: &ReadLists,
 ) -> Result<(), AllocError>
     ensures { OnOk result (list.new.items
-        ≡ macro_before name definition.now line arguments.now list.old.items) }
+        ≡ macro_before name definition.now call arguments.now list.old.items) }
 {
     let mut front = Vec::new(alloc);
     push_replaced(
@@ -154,7 +154,7 @@ pub fn splice(
         &arguments.items,
         &definition.body,
     )?;
-    front.push(Entry::End(EndMark { name, line }))?;
+    front.push(Entry::End(EndMark { name, call }))?;
     front.append(list)?;
     *list = front;
     Ok(())

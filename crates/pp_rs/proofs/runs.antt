@@ -20,5 +20,5 @@ pub mod IdleLemmas
 pub mod PassedLemmas
 pub mod OpenWordLemmas
 pub mod NextWordLemmas
-pub mod CallLineLemmas
+pub mod CallPlaceLemmas
 pub mod GivingLemmas

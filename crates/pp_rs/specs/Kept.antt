@@ -1,8 +1,8 @@
 -- What a preprocessor keeps: the states of a run that it stands for, whether memory ran out, how much is left, which
--- errors of the lexer were not reported yet, the place of the error that was given last, the line of the call from
--- which the last item came, and the rules. Nothing here has to be believed. Contracts of public calls say what holds of
--- `Stands`, `is_spent`, `most_items`, `errors_left`, `error_place`, `call_line` and `rules_of`, and no proof of a
--- caller looks into them.
+-- errors of the lexer were not reported yet, the place of the error that was given last, the call from which the last
+-- item came, and the rules. Nothing here has to be believed. Contracts of public calls say what holds of `Stands`,
+-- `is_spent`, `most_items`, `errors_left`, `error_place`, `call_place` and `rules_of`, and no proof of a caller looks
+-- into them.
 use Rattle.std.specs.Prelude.{◌≡◌, Bool, false, IsTrue, if◌then◌else◌, ℕ, List, Option, Some, None}
 use Rattle.pp_lexer.specs.declared.rules.Rules.{Rules}
 use Rattle.pp_lexer.specs.declared.token.Location.{Location}
@@ -12,8 +12,9 @@ use Rattle.pp_model.specs.Emitting.{expansion_limit}
 use Rattle.pp_model.specs.Reading.{Expander}
 use Rattle.pp_model.specs.SourceReader.{SourceReader}
 use Rattle.pp_model.specs.declared.read.Read.{Read}
+use Rattle.pp_model.specs.declared.splice.CallPlace.{CallPlace}
 use Rattle.pp_macros.specs.Item.{Step}
-use Rattle.pp_macros.specs.inner.Frames.{Frame, outermost_frame_line}
+use Rattle.pp_macros.specs.inner.Frames.{Frame, outermost_frame_call}
 use Rattle.pp_macros.specs.inner.Giving.{GivesAhead}
 use Rattle.pp_macros.specs.inner.Left.{work_of}
 use Rattle.pp_macros.specs.LexerErrors.{ErrorAt}
@@ -23,15 +24,15 @@ use Rattle.pp_macros.specs.inner.Source.{Source, unreported_of}
 use Rattle.pp_rs.specs.inner.Stands.{StandsFor}
 use Rattle.pp_macros.specs.inner.Unreported.{unreported_with}
 
--- the open macros with what is held, the source after them, whether memory ran out, the place of the last error, the
--- line of the outermost macro that was open when the name was taken after which the held step was met, and the rules by
--- which the source and contents are read
+-- the open macros with what is held, the source after them, whether memory ran out, the place of the last error, where
+-- the outermost macro was called that was open when the name was taken after which the held step was met, and the rules
+-- by which the source and contents are read
 pub record Preprocessing : Type 0 where
   pub expander : kept.Expander
   pub source : Source
   pub spent : Bool
   pub place : Location
-  pub name_line : Option ℕ
+  pub name_call : Option CallPlace
   pub rules : Rules
 
 -- the preprocessor stands for this state of a run
@@ -60,14 +61,14 @@ errors_left p = unreported_with p.expander.held (unreported_of p.source)
 unfoldable pub error_place : Preprocessing → Location
 error_place p = p.place
 
--- the line that is kept if a step is held, and otherwise that of the outermost frame
-abbrev pub kept_line : Option (Step Read) → Option ℕ → List Frame → Option ℕ
-kept_line None line frames = outermost_frame_line frames
-kept_line (Some step) line frames = line
+-- the call that is kept if a step is held, and otherwise that of the outermost frame
+abbrev pub kept_call : Option (Step Read) → Option CallPlace → List Frame → Option CallPlace
+kept_call None call frames = outermost_frame_call frames
+kept_call (Some step) call frames = call
 
--- the line of the call from which the last item came
-unfoldable pub call_line : Preprocessing → Option ℕ
-call_line p = kept_line p.expander.held p.name_line p.expander.frames
+-- where the macro was called from which the last item came
+unfoldable pub call_place : Preprocessing → Option CallPlace
+call_place p = kept_call p.expander.held p.name_call p.expander.frames
 
 -- the rules by which the source and contents are read
 unfoldable pub rules_of : Preprocessing → Rules

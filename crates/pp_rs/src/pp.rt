@@ -22,6 +22,7 @@ pub use pp_macros::step::{Step, StepExit};
 pub use pp_model::call::{Call, Reply};
 pub use pp_model::conversion::convert_lexer_token;
 pub use pp_model::outcome::Outcome;
+pub use pp_model::splice::CallPlace;
 pub use preprocessor::{Preprocessor, PreprocessorItem};
 pub use spelling::spell_tokens;
 pub use token_ref::{TokenRef, TokenSink, ValueRef};

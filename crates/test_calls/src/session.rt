@@ -176,15 +176,19 @@ impl<'a> Session<'a> {
         Ok(())
     }
 
-    /// Asks for all items that are left, and shows each with the line of the call from which it comes.
+    /// Asks for all items that are left, and shows each with the call from which it comes.
     pub(crate) fn calls(&mut self, rt: &impl Print) -> io::Result<()> {
         for _ in 0..u64::MAX {
             let Some(given) = self.pp.next() else {
                 break;
             };
             print_item(rt, self.alloc, &given)?;
-            if let Some(line) = self.pp.call_line() {
-                println!(rt; "  in a call on line {line}")?;
+            if let (Some(call), Some(line)) = (self.pp.call_place(), self.pp.call_line()) {
+                let name = call.name;
+                println!(rt;
+                    "  in a call on line {line}, its name at {}..{} L{}",
+                    name.start, name.end, name.line
+                )?;
             }
         }
         Ok(())

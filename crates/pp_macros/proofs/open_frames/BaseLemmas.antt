@@ -13,7 +13,7 @@ use Rattle.pp_macros.specs.declared.frames.Ahead.{Ahead}
 use Rattle.pp_macros.specs.inner.Ahead.{token_given, given_by, given_next, frame_after}
 use Rattle.pp_macros.specs.inner.Bodies.{noted_by}
 use Rattle.pp_macros.specs.inner.Defined.{AreNumbered}
-use Rattle.pp_macros.specs.inner.Frames.{Frame, AreCounted, advance, names_of, outermost_frame_line}
+use Rattle.pp_macros.specs.inner.Frames.{Frame, AreCounted, advance, names_of, outermost_frame_call}
 use Rattle.pp_macros.specs.inner.Giving.{token_ahead}
 use Rattle.pp_macros.specs.inner.Left.{HaveNumbers}
 use Rattle.pp_macros.specs.inner.Nesting.{MacroProcessor, open_names, stepped, with_frames}
@@ -47,7 +47,7 @@ pub all_names : (held : Option (Step Read)) (base : ℕ) (fs : List Frame) → n
 all_names held base fs = ap names_of (all_frames base fs) ∙ names_of-append (reverse (drop base fs)) (reverse (take base fs))
 
 -- if a macro is open here, there are frames from the base on
-pub above_base : (base : ℕ) (fs : List Frame) → is_some (outermost_frame_line (reverse (drop base fs))) ≡ true → base < length fs
+pub above_base : (base : ℕ) (fs : List Frame) → is_some (outermost_frame_call (reverse (drop base fs))) ≡ true → base < length fs
 above_base base fs some = by (cases_lt base (length fs))
   where
     by : (base < length fs) ⊎ (length fs ≤ base) → base < length fs
@@ -55,15 +55,15 @@ above_base base fs some = by (cases_lt base (length fs))
     by (inr past) = absurd (let none : false ≡ true = rw (drop_of_length-le fs past) at some in cc)
 
 -- if none is, there is no frame
-pub none_here : (fs : List Frame) → is_some (outermost_frame_line fs) ≡ false → fs ≡ []
+pub none_here : (fs : List Frame) → is_some (outermost_frame_call fs) ≡ false → fs ≡ []
 none_here [] none = refl
 none_here (f ∷ fs) none = cc
 
-pub some_frame : (fs : List Frame) → is_some (outermost_frame_line fs) ≡ true → 0 < length fs
+pub some_frame : (fs : List Frame) → is_some (outermost_frame_call fs) ≡ true → 0 < length fs
 some_frame [] some = cc
 some_frame (f ∷ fs) some = omega arith
 
-pub none_given : (fs : List Frame) → is_some (outermost_frame_line fs) ≡ false → given_next fs ≡ None
+pub none_given : (fs : List Frame) → is_some (outermost_frame_call fs) ≡ false → given_next fs ≡ None
 none_given fs none = ap given_next (none_here fs none)
 
 -- the outermost frame here is the one at the base
@@ -77,17 +77,17 @@ get_above zero xs = refl
 get_above (suc base) [] = refl
 get_above (suc base) (x ∷ xs) = get_above base xs
 
-pub line_here : (base : ℕ) (fs : List Frame) (f : Frame) → base < length fs → f ≡ get_or fs base f → outermost_frame_line (reverse (drop base fs)) ≡ Some f.line
-line_here base fs f within is = outermost_first (drop base fs) f (get_above base fs ∙ at_base base fs f within ∙ ap Some (sym is))
+pub call_here : (base : ℕ) (fs : List Frame) (f : Frame) → base < length fs → f ≡ get_or fs base f → outermost_frame_call (reverse (drop base fs)) ≡ Some f.call
+call_here base fs f within is = outermost_first (drop base fs) f (get_above base fs ∙ at_base base fs f within ∙ ap Some (sym is))
 
-pub no_line_here : (base : ℕ) (fs : List Frame) → length fs ≤ base → outermost_frame_line (reverse (drop base fs)) ≡ None
-no_line_here base fs past = ap (λ (gs : List Frame). outermost_frame_line (reverse gs)) (drop_of_length-le fs past)
+pub no_call_here : (base : ℕ) (fs : List Frame) → length fs ≤ base → outermost_frame_call (reverse (drop base fs)) ≡ None
+no_call_here base fs past = ap (λ (gs : List Frame). outermost_frame_call (reverse gs)) (drop_of_length-le fs past)
 
 -- a macro is open here
 module _ (held : Option (Step Read)) (base : ℕ) (fs : List Frame) (m : MacroProcessor) (view : processor_of held base fs ≡ m)
-    (some : is_some (outermost_frame_line m.here.frames) ≡ true) where
+    (some : is_some (outermost_frame_call m.here.frames) ≡ true) where
   there_here : base < length fs
-  there_here = above_base base fs (ap (λ (k : MacroProcessor). is_some (outermost_frame_line k.here.frames)) view ∙ some)
+  there_here = above_base base fs (ap (λ (k : MacroProcessor). is_some (outermost_frame_call k.here.frames)) view ∙ some)
 
   some_here : 0 < length (drop base fs)
   some_here = let there = there_here in omega (arith, there, length-drop base fs)
@@ -162,7 +162,7 @@ module _ (held : Option (Step Read)) (base : ℕ) (fs : List Frame) (m : MacroPr
         rw (← view) (changed_here v _ (last_stays (drop base fs) f some_here last_here v same))
 
     -- it is at its end, and closes
-    pub stays_here : (v : Frame) → is_some (outermost_frame_line (reverse (drop base (set fs (n - 1) v)))) ≡ true
+    pub stays_here : (v : Frame) → is_some (outermost_frame_call (reverse (drop base (set fs (n - 1) v)))) ≡ true
     stays_here v = rw (here_set v, reverse_set_last (drop base fs) v some_here) refl
 
     pub closes_here : (v : Frame) (p : MacroProcessor) → is_some (advance f) ≡ false

@@ -1,16 +1,16 @@
--- The splice list that frames stand for: the names that are open in it, its outermost line, and what one step of the frames does to it.
+-- The splice list that frames stand for: the names that are open in it, where its outermost macro was called, and what one step of the frames does to it.
 use Rattle.std.proofs.Common.{◌≡◌, ◌∙◌, ℕ, Bool, true, false, List, [], ◌∷◌, refl, sym, ap, Option, Some, None}
 use Rattle.std.specs.Prelude.{Ok, Err, unwrap_or}
 use Rattle.pp_lexer.specs.declared.token.Token.{Token}
 use Rattle.pp_model.specs.declared.read.Read.{Read}
 use Rattle.pp_model.specs.Painting.{unpainted}
 use Rattle.pp_model.specs.Names.{Name}
-use Rattle.pp_model.specs.SpliceList.{after_marks, open_names, outermost_line, parameter_of, replacement, body_before}
+use Rattle.pp_model.specs.SpliceList.{after_marks, open_names, outermost_call, parameter_of, replacement, body_before}
 use Rattle.pp_model.specs.inner.SpliceList.{followed_by}
 use Rattle.pp_model.specs.declared.splice.Entry.{Entry}
 use Rattle.pp_model.specs.declared.splice.Entry.TheVariants.{Plain, End}
 use Rattle.pp_macros.specs.Item.{Step}
-use Rattle.pp_macros.specs.inner.Frames.{Frame, body_token, advance, argument_at, arguments_left, reading_before, layer_before, flat, names_of, outermost_frame_line}
+use Rattle.pp_macros.specs.inner.Frames.{Frame, body_token, advance, argument_at, arguments_left, reading_before, layer_before, flat, names_of, outermost_frame_call}
 use Rattle.pp_macros.specs.inner.Bodies.{has_parameter}
 use Rattle.pp_macros.specs.inner.Turns.{frame_move}
 use Rattle.pp_macros.proofs.open_frames.RoleLemmas.{before_without}
@@ -38,20 +38,20 @@ module _ {X : Type 0} (fact : List Entry → X) (blind : (read : Read) (entries 
   blind_reading None entries = refl
   blind_reading (Some tokens) entries = blind_followed tokens entries
 
-  blind_layer : (f : Frame) (entries : List Entry) → fact (layer_before f entries) ≡ fact (End (record { name = f.name; line = f.line }) ∷ entries)
+  blind_layer : (f : Frame) (entries : List Entry) → fact (layer_before f entries) ≡ fact (End (record { name = f.name; call = f.call }) ∷ entries)
   blind_layer f entries =
-      blind_reading f.reading (body_before f.parameters f.arguments f.body (End (record { name = f.name; line = f.line }) ∷ entries))
-      ∙ blind_replaced f.parameters f.arguments f.body (End (record { name = f.name; line = f.line }) ∷ entries)
+      blind_reading f.reading (body_before f.parameters f.arguments f.body (End (record { name = f.name; call = f.call }) ∷ entries))
+      ∙ blind_replaced f.parameters f.arguments f.body (End (record { name = f.name; call = f.call }) ∷ entries)
 
 -- the names that are open in the list are those of the frames
 pub open_flat : (frames : List Frame) → open_names (flat frames) ≡ names_of frames
 open_flat [] = refl
 open_flat (f ∷ fs) = blind_layer open_names (λ read entries. refl) f (flat fs) ∙ ap (λ names. f.name ∷ names) (open_flat fs)
 
--- the line of the list's last mark is that of the outermost frame
-pub outermost_flat : (frames : List Frame) → outermost_line (flat frames) ≡ outermost_frame_line frames
+-- the call of the list's last mark is that of the outermost frame
+pub outermost_flat : (frames : List Frame) → outermost_call (flat frames) ≡ outermost_frame_call frames
 outermost_flat [] = refl
-outermost_flat (f ∷ fs) = blind_layer outermost_line (λ read entries. refl) f (flat fs) ∙ ap (λ line. Some (unwrap_or line f.line)) (outermost_flat fs)
+outermost_flat (f ∷ fs) = blind_layer outermost_call (λ read entries. refl) f (flat fs) ∙ ap (λ call. Some (unwrap_or call f.call)) (outermost_flat fs)
 
 -- One step on the list: its first token is given, or a mark at its front is lost at the most.
 abbrev pub StepsList : Step Read → List Entry → List Entry → Type 0
@@ -63,12 +63,12 @@ StepsList (Err (Error fault)) old new = ⊥
 body_steps : (f : Frame) (token : Token) (rest : List Token) (p : Option ℕ) (fs : List Frame) → let a =
     frame_move fs (Some (body_token (record f { reading = None }) token rest p)) in
     StepsList a.gives (replacement f.arguments token p (body_before f.parameters f.arguments rest
-    (End (record { name = f.name; line = f.line }) ∷ flat fs))) (flat a.after)
+    (End (record { name = f.name; call = f.call }) ∷ flat fs))) (flat a.after)
 body_steps f token rest None fs = refl
 body_steps f token rest (Some k) fs = go (has_parameter f.parameters rest k) refl
   where
     end : List Entry
-    end = End (record { name = f.name; line = f.line }) ∷ flat fs
+    end = End (record { name = f.name; call = f.call }) ∷ flat fs
 
     go : (again : Bool) → has_parameter f.parameters rest k ≡ again
         → after_marks (followed_by (argument_at f.arguments k) (body_before f.parameters f.arguments rest end))

@@ -6,7 +6,7 @@ use Rattle.std.proofs.lemmas.List.{reverse-append, take_more, length-set, take-s
 use Rattle.pp_lexer.specs.declared.token.Token.{Token}
 use Rattle.pp_model.specs.Names.{Name}
 use Rattle.pp_model.specs.declared.read.Read.{Read}
-use Rattle.pp_macros.specs.inner.Frames.{Frame, Advance, advance, names_of, outermost_frame_line}
+use Rattle.pp_macros.specs.inner.Frames.{Frame, Advance, advance, names_of, outermost_frame_call}
 use Rattle.pp_macros.specs.declared.frames.Ahead.{Ahead}
 use Rattle.pp_macros.specs.inner.Ahead.{token_given, given_by, given_next, frame_after, frames_after}
 use Rattle.pp_macros.specs.inner.Bodies.{noted_by}
@@ -20,16 +20,16 @@ names_of-append [] gs = refl
 names_of-append (f ∷ fs) gs = ap (λ names. f.name ∷ names) (names_of-append fs gs)
 
 -- the outermost frame is the first that was opened
-outermost_at_end : (fs : List Frame) (f : Frame) → outermost_frame_line (fs ++ f ∷ []) ≡ Some f.line
+outermost_at_end : (fs : List Frame) (f : Frame) → outermost_frame_call (fs ++ f ∷ []) ≡ Some f.call
 outermost_at_end [] f = refl
 outermost_at_end (g ∷ gs) f = rw (outermost_at_end gs f) refl
 
--- the line of the outermost is that of the first
-pub outermost_first : (fs : List Frame) (f : Frame) → slice_get fs 0 ≡ Some f → outermost_frame_line (reverse fs) ≡ Some f.line
+-- where the outermost was called is where the first was
+pub outermost_first : (fs : List Frame) (f : Frame) → slice_get fs 0 ≡ Some f → outermost_frame_call (reverse fs) ≡ Some f.call
 outermost_first [] f e = cc
 outermost_first (g ∷ gs) f e =
     let same : g ≡ f = cc in
-    rw (reverse-append (g ∷ []) gs) (outermost_at_end (reverse gs) g ∙ ap (λ h. Some h.line) same)
+    rw (reverse-append (g ∷ []) gs) (outermost_at_end (reverse gs) g ∙ ap (λ h. Some h.call) same)
 
 -- a list that is not empty is what is before its last item, and that
 pub with_last : {X : Type 0} (xs : List X) (d : X) → 0 < length xs → xs ≡ take (length xs - 1) xs ++ get_or xs (length xs - 1) d ∷ []
@@ -66,7 +66,7 @@ has_token (Some a) token gives = refl
 has_token None token gives = cc
 
 -- where a token is given, a macro is open
-pub given_open : (fs : List Frame) → IsSome (given_next fs) → is_some (outermost_frame_line fs) ≡ true
+pub given_open : (fs : List Frame) → IsSome (given_next fs) → is_some (outermost_frame_call fs) ≡ true
 given_open [] some = gives_something None refl some
 given_open (f ∷ fs) some = refl
 

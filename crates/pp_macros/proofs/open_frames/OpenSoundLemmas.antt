@@ -7,6 +7,7 @@ use Rattle.pp_lexer.specs.declared.token.Location.{Location}
 use Rattle.pp_model.specs.Calls.{Fault, Gathered}
 use Rattle.pp_model.specs.Names.{Name, is_in, is_same_name}
 use Rattle.pp_model.specs.ApartMarks.{AreApart}
+use Rattle.pp_lexer.specs.Location.{nowhere}
 use Rattle.pp_macros.specs.inner.Defined.{Defined, Macro, Numbered, AreNumbered, GrowAtEnd, meaning_of, names_in}
 use Rattle.pp_macros.specs.inner.Frames.{Frame, Advance, advance, names_of, new_frame}
 use Rattle.pp_macros.specs.Item.{Step, wants_memory}
@@ -91,7 +92,7 @@ numbers_more old new (f ∷ fs) grow right = (numbered_more old new (numbers_in 
 -- a macro that is about to open, with those that are open
 abbrev pub with_pending : Option Macro → List Frame → List Frame
 with_pending None frames = frames
-with_pending (Some opened) frames = new_frame opened 0 [] ∷ frames
+with_pending (Some opened) frames = new_frame opened (record { name = nowhere; line = 0 }) [] ∷ frames
 
 lone_sound : (definitions : List Defined) (pending : Option Macro) → AreOpenSoundly definitions (names_of (with_pending pending []))
 lone_sound definitions None = record { apart = tt; defined = tt }

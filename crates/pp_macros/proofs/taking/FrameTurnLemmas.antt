@@ -6,7 +6,7 @@ use Rattle.pp_model.specs.Names.{Name, is_identifier, line_name}
 use Rattle.pp_macros.specs.Item.{Step}
 use Rattle.pp_macros.specs.inner.Ahead.{given_by, given_next, frames_after}
 use Rattle.pp_macros.specs.inner.CallTurns.{TurnsTo, passes, gives, object, TakesSomething}
-use Rattle.pp_macros.specs.inner.Frames.{Frame, Advance, advance, new_frame, outermost_frame_line}
+use Rattle.pp_macros.specs.inner.Frames.{Frame, Advance, advance, new_frame, outermost_frame_call, bare_call}
 use Rattle.pp_macros.specs.inner.Expander.{Expander, StepsFetching, StepsTaking, moved, taken_as}
 use Rattle.pp_macros.specs.inner.Reader.{Reader, hidden_of}
 use Rattle.pp_macros.specs.inner.Turns.{Moves, as_pause, frame_move, masks, macro_of, Opens}
@@ -31,7 +31,7 @@ gives_alike fs (Some a) = refl
 gives_alike fs None = refl
 
 -- the innermost frame steps
-pub frames_move : (frames : List Frame) (r : Reader) → is_some (outermost_frame_line frames) ≡ true
+pub frames_move : (frames : List Frame) (r : Reader) → is_some (outermost_frame_call frames) ≡ true
     → Moves frames r (as_pause (given_next frames)) (frames_after frames) r
 frames_move [] r some = cc
 frames_move (f ∷ fs) r some = (refl, inl (gives_alike fs (advance f), refl))
@@ -47,7 +47,7 @@ names_stay [] read is = cc
 names_stay (f ∷ fs) read is = given_names fs f (advance f) read (advance_lowers f) is
 
 -- nothing is held, and a macro is open
-module _ (m : Expander) (r : Reader) (free : m.held ≡ None) (some : is_some (outermost_frame_line m.frames) ≡ true) where
+module _ (m : Expander) (r : Reader) (free : m.held ≡ None) (some : is_some (outermost_frame_call m.frames) ≡ true) where
   frame_fetches : (given : Option Read) (step : Step Read) → given ≡ given_next m.frames → step ≡ taken_as (as_pause given) (frames_after m.frames) r
       → StepsFetching m r step (passed m) r
   frame_fetches given step is same = moved (as_pause given) step m (passed m) r r free
@@ -85,9 +85,9 @@ module _ (m : Expander) (r : Reader) (free : m.held ≡ None) (some : is_some (o
 
     -- it opens a macro without parentheses
     pub frame_opens : (opened : Macro) → Opens r taken_read opened → opened.definition.function_like ≡ false
-        → TurnsTo m r (Err Continue) (record m { frames = new_frame opened read.token.location.line [] ∷ frames_after m.frames }) r
+        → TurnsTo m r (Err Continue) (record m { frames = new_frame opened (bare_call read.token.location) [] ∷ frames_after m.frames }) r
     frame_opens opened some bare = object taken_read opened (Err Continue) m (passed m)
-        (record m { frames = new_frame opened read.token.location.line [] ∷ frames_after m.frames }) r r token_taken some bare refl refl
+        (record m { frames = new_frame opened (bare_call read.token.location) [] ∷ frames_after m.frames }) r r token_taken some bare refl refl
 
     -- there is something to take
     pub frame_takes_some : TakesSomething m r

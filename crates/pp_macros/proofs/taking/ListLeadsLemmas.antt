@@ -142,14 +142,14 @@ module _ (levels : ℕ) (numbering : Numbering) (definitions : List Defined) (hi
 
     pub reached_call : Reached levels numbering definitions hidden tokens p k items
     reached_call =
-        let f : Expander Listed = record led.0 { list = macro_before c.opened.name c.opened.definition c.closing.line opened.arguments led.0.list } in
+        let f : Expander Listed = record led.0 { list = macro_before c.opened.name c.opened.definition c.call opened.arguments led.0.list } in
         let stands : StandsListed false numbering definitions hidden n k led.0 = led.1 in
         record {
           state = f;
           stands = subst (λ (q : kept.Expander). StandsListed false numbering definitions hidden q k f) (sym opened.opens)
               (record {
                 holds = stands.holds;
-                list = ap (macro_before c.opened.name c.opened.definition c.closing.line opened.arguments) stands.list;
+                list = ap (macro_before c.opened.name c.opened.definition c.call opened.arguments) stands.list;
                 reader = stands.reader;
                 names = stands.names;
               });

@@ -115,8 +115,8 @@ module _ (is_line : Bool) (numbering : Numbering) (definitions : List Defined) (
   opened_less (suc lower) m n l k c p pend same opened =
       let one : suc lower - 1 ≡ lower = omega arith in
       let least : All (λ (a : List Read). length a ≤ most_alone lower k.definitions (length c.tokens)) opened.arguments = rw (same, ← one) opened.least in
-      let at : p ≡ record { held = None; frames = new_frame c.opened c.closing.line opened.arguments ∷ n.frames } = opened.opens
-      ∙ ap (λ (h : Option (Step Read)). record { held = h; frames = new_frame c.opened c.closing.line opened.arguments ∷ n.frames }) pend.free in
+      let at : p ≡ record { held = None; frames = new_frame c.opened c.call opened.arguments ∷ n.frames } = opened.opens
+      ∙ ap (λ (h : Option (Step Read)). record { held = h; frames = new_frame c.opened c.call opened.arguments ∷ n.frames }) pend.free in
       rw at (pending_opens lower m (of_list l) c n (of_list k) opened.arguments pend least)
 
 -- a turn that was not refused memory

@@ -5,7 +5,7 @@ use Rattle.pp_model.specs.Reading.{Reading, Expander}
 use Rattle.pp_model.specs.Taking as taking
 use Rattle.pp_model.specs.Taking.{Fetches, Takes}
 use Rattle.pp_model.specs.Calls.{Answers}
-use Rattle.pp_model.specs.CallLine.{item_line}
+use Rattle.pp_model.specs.ItemCall.{item_call}
 use Rattle.pp_model.specs.Emitting.{Emits, itself, object, name_alone, call_refused, call}
 use Rattle.pp_model.specs.declared.read.Taken.{Taken as Given}
 use Rattle.pp_model.specs.declared.splice.Entry.{Entry}
@@ -16,7 +16,7 @@ PausesTo {R} I e f = (o : Given) (h : Expander R) → Takes I f o h → Takes I 
 
 -- what is emitted later is emitted now too, and comes from the same macro
 abbrev pub EmitsLater : {R : Type 0} → Reading R → Answers → Expander R → Expander R → Type 0
-EmitsLater {R} I A e f = (o : Given) (g : Expander R) (later : Emits I A f o g) → (first : Emits I A e o g) × (item_line first ≡ item_line later)
+EmitsLater {R} I A e f = (o : Given) (g : Expander R) (later : Emits I A f o g) → (first : Emits I A e o g) × (item_call first ≡ item_call later)
 
 -- a pause keeps what is emitted
 pub pause_emits : {R : Type 0} (I : Reading R) (A : Answers) (e f : Expander R) → PausesTo I e f → EmitsLater I A e f

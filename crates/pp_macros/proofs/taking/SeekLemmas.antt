@@ -13,9 +13,10 @@ use Rattle.pp_macros.specs.inner.Seeking.{Enters, FollowsToken}
 use Rattle.pp_macros.specs.inner.Turns.{macro_of, Opens}
 use Rattle.pp_macros.specs.Halting.{exit_of}
 use Rattle.pp_macros.specs.inner.Defined.{Macro}
-use Rattle.pp_macros.specs.inner.Frames.{new_frame}
+use Rattle.pp_macros.specs.inner.Frames.{new_frame, bare_call}
 use Rattle.pp_model.specs.Names.{Name}
 use Rattle.pp_model.specs.Definitions.{Definition}
+use Rattle.pp_model.specs.Emitting.{called_at}
 use Rattle.pp_lexer.specs.PreprocessorError.{out_of_memory}
 use Rattle.pp_macros.specs.declared.calls.Taken.{Taken}
 use Rattle.pp_macros.specs.declared.calls.Taken.TheVariants as taken
@@ -39,9 +40,9 @@ module _ (read : Read) (opened : Macro) (m n : Expander) (r s : Reader) (next : 
 
   module _ (paren : Location) (at : paren_of next ≡ Some paren) (p : Expander) (t : Reader) where
     pub enters_whole : (g : Gathered) → GathersNext 0 paren n s (Ok g) p t
-        → Enters read opened m r (Ok (taken.Call (record { opened = opened; paren = paren; closing = g.closing; tokens = g.tokens }))) p t
+        → Enters read opened m r (Ok (taken.Call (record { opened = opened; call = called_at read.token g.closing.line; paren = paren; tokens = g.tokens }))) p t
     enters_whole g gathers =
-        e.called (gathered paren g) (Ok (taken.Call (record { opened = opened; paren = paren; closing = g.closing; tokens = g.tokens }))) m p p r t function
+        e.called (gathered paren g) (Ok (taken.Call (record { opened = opened; call = called_at read.token g.closing.line; paren = paren; tokens = g.tokens }))) m p p r t function
         (called next paren m n p r s t (Ok g) (gathered paren g) takes at gathers refl) (refl, refl)
 
     pub enters_halt : (h : Halt) (tokens : List Read) (step : Step Taken)
@@ -53,7 +54,7 @@ module _ (read : Read) (opened : Macro) (m n : Expander) (r s : Reader) (next : 
 
 pub follows_plain : (read : Read) (opened : Macro) (m n : Expander) (r : Reader) (step : Step Taken)
     → Opens r read opened → opened.definition.function_like ≡ false
-    → ((step ≡ Err Continue) × (n ≡ record m { frames = new_frame opened read.token.location.line [] ∷ m.frames })) ⊎ Refused step
+    → ((step ≡ Err Continue) × (n ≡ record m { frames = new_frame opened (bare_call read.token.location) [] ∷ m.frames })) ⊎ Refused step
     → FollowsToken (macro_of r read) read m r step n r ⊎ Refused step
 follows_plain read opened m n r step opens plain (inl h) =
     inl (rw opens.is (record { opened = opened; is = refl; numbered = opens.numbered; enters = e.plain step m n r r plain h.0 h.1 refl }))

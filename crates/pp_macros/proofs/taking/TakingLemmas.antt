@@ -1,5 +1,5 @@
 -- What a token becomes when it is taken, and which macro it opens, over frames and over their splice list.
-use Rattle.std.proofs.Common.{◌≡◌, ◌∙◌, ℕ, List, ap, Option, Some, None}
+use Rattle.std.proofs.Common.{◌≡◌, ◌∙◌, ℕ, List, ap, Option, Some, None, option_map}
 use Rattle.std.specs.Prelude.{if◌then◌else◌, unwrap_or}
 use Rattle.pp_lexer.specs.declared.token.Token.{Token}
 use Rattle.pp_model.specs.declared.read.Read.{Read}
@@ -21,7 +21,7 @@ pub taken_flat : (shown : ℕ → Option Integer) (frames : List Frame) (reader 
 taken_flat shown frames reader read same =
     let place = λ (line : Option ℕ). unwrap_or line read.token.location.line in
     let number : shown (place (outermost_line (flat frames))) ≡ shown_line reader (place (outermost_frame_line frames)) =
-    ap (λ line. shown (place line)) (outermost_flat frames) ∙ same (place (outermost_frame_line frames)) in
+    ap (λ call. shown (place (option_map (λ c. c.line) call))) (outermost_flat frames) ∙ same (place (outermost_frame_line frames)) in
     ap (λ n. if is_identifier line_name read.token.value then line_number read.token.location n else given.Token read) number
 
 -- a macro that a token opens

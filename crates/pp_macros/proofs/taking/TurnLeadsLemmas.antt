@@ -15,13 +15,14 @@ use Rattle.pp_model.specs.Calls.{Fault, Gathered, Answers, paren_at, is_left_par
 use Rattle.pp_model.specs.Emitting as emitting
 use Rattle.pp_model.specs.Emitting.{Emits, with_macro}
 use Rattle.pp_model.specs.inner.Emitting.{holding}
-use Rattle.pp_model.specs.SpliceList.{macro_before, outermost_line}
-use Rattle.pp_model.specs.CallLine.{item_line}
+use Rattle.pp_model.specs.SpliceList.{macro_before, outermost_call}
+use Rattle.pp_model.specs.ItemCall.{item_call}
 use Rattle.pp_model.specs.declared.splice.Entry.{Entry}
 use Rattle.pp_model.specs.declared.read.Taken.TheVariants as given
+use Rattle.pp_model.specs.declared.splice.CallPlace.{CallPlace}
 use Rattle.pp_macros.specs.inner.CallTurns.{Sought, no_call, Seeks, alone, called, Finds, TurnsTo, passes, gives, object, seeks, paren_of, sought_by}
 use Rattle.pp_macros.specs.Item.{Step, wants_memory}
-use Rattle.pp_macros.specs.inner.Frames.{new_frame, flat}
+use Rattle.pp_macros.specs.inner.Frames.{new_frame, flat, bare_call}
 use Rattle.pp_macros.specs.inner.Expander as kept
 use Rattle.pp_macros.specs.inner.Expander.{outcome_of_step, StepsTaking, TakesNext}
 use Rattle.pp_macros.specs.inner.Reader.{Reader, Reads, hidden_of, shown_line, visible}
@@ -34,17 +35,17 @@ use Rattle.pp_macros.specs.declared.step.StepExit.TheVariants.{Error, Continue, 
 pub use Rattle.pp_macros.proofs.open_frames.ReportedLemmas.{wants_taken}
 use Rattle.pp_macros.proofs.open_frames.ReportedLemmas.{exit_reported, not_refused}
 use Rattle.pp_macros.proofs.open_frames.FlatLemmas.{outermost_flat}
-use Rattle.pp_macros.proofs.taking.LineStaysLemmas.{token_line}
+use Rattle.pp_macros.proofs.taking.CallStaysLemmas.{token_call}
 use Rattle.pp_macros.proofs.taking.PauseLemmas.{EmitsLater, pause_emits}
 use Rattle.pp_macros.proofs.taking.TakingLemmas.{as_opening}
 use Rattle.pp_macros.proofs.taking.SearchSimulates
 use Rattle.pp_macros.proofs.taking.SearchSimulates.{step_frees, GathersTo, ReadsTo, StandsIn, StandsHeld, step_simulates, next_simulates, gather_simulates}
 
--- the line of an item before which the list was `before` and after which it is `after`: what is held was met in the
+-- the call from which an item comes before which the list was `before` and after which it is `after`: what is held was met in the
 -- search for a `(` after the item
-abbrev pub line_after : Option (Step Read) → List Entry → List Entry → Option ℕ
-line_after None before after = outermost_line after
-line_after (Some step) before after = outermost_line before
+abbrev pub item_call_after : Option (Step Read) → List Entry → List Entry → Option CallPlace
+item_call_after None before after = outermost_call after
+item_call_after (Some step) before after = outermost_call before
 
 module _ {R : Type 0} (I : Reading R) (StandsR : Reader → R → Type 0) (hidden : List Name)
     (simulates : (r s : Reader) (x : R) (step : Step Read) → StandsR r x → Reads r step s → wants_memory step ≡ false → ReadsTo I StandsR hidden step x s)
@@ -55,18 +56,18 @@ module _ {R : Type 0} (I : Reading R) (StandsR : Reader → R → Type 0) (hidde
   -- what one turn is to the expander
   abbrev pub LeadsTo : Step Taken → Expander R → kept.Expander → Reader → Type 0
   LeadsTo (Ok (taken.Token read)) e n s = (f : Expander R) × (emits : Emits I A e (given.Token read) f) × StandsIn I StandsR hidden n s f
-      × (item_line emits ≡ line_after n.held e.list f.list)
+      × (item_call emits ≡ item_call_after n.held e.list f.list)
   LeadsTo (Ok (taken.Call c)) e n s =
       (f : Expander R) × StandsIn I StandsR hidden n s f
       × ((fault : Fault) → A c.opened.definition (site_of I f c.paren c.tokens) (Err fault)
-      → (emits : Emits I A e (given.Fault fault) f) × (item_line emits ≡ outermost_line f.list))
+      → (emits : Emits I A e (given.Fault fault) f) × (item_call emits ≡ outermost_call f.list))
       × ((arguments : List (List Read)) → A c.opened.definition (site_of I f c.paren c.tokens) (Ok arguments)
-      → EmitsLater I A e (record f { list = macro_before c.opened.name c.opened.definition c.closing.line arguments f.list }))
+      → EmitsLater I A e (record f { list = macro_before c.opened.name c.opened.definition c.call arguments f.list }))
   LeadsTo (Err Continue) e n s = (f : Expander R) × StandsIn I StandsR hidden n s f × EmitsLater I A e f
   LeadsTo (Err Finished) e n s = (f : Expander R) × (emits : Emits I A e given.End f) × StandsIn I StandsR hidden n s f
-      × (n.held ≡ None) × (item_line emits ≡ outermost_line f.list)
+      × (n.held ≡ None) × (item_call emits ≡ outermost_call f.list)
   LeadsTo (Err (Error fault)) e n s = (f : Expander R) × (emits : Emits I A e (given.Fault fault) f)
-      × (f.list ≡ flat n.frames) × (n.held ≡ None) × (item_line emits ≡ outermost_line f.list)
+      × (f.list ≡ flat n.frames) × (n.held ≡ None) × (item_call emits ≡ outermost_call f.list)
 
   -- the macro that a token opens over frames is the one that it opens over their list
   opens_same : (s : Reader) (f : Expander R) (read : Read) → StandsR s f.reader
@@ -167,7 +168,7 @@ module _ {R : Type 0} (I : Reading R) (StandsR : Reader → R → Type 0) (hidde
   seek_leads : (read : Read) (opened : Macro) (c : Sought) (step : Step Taken)
       (n p q : kept.Expander) (s t : Reader) (e f : Expander R) → Takes I e (given.Token read) f → StandsIn I StandsR hidden n s f
       → opening I f (given.Token read) ≡ Some (record { token = read.token; name = opened.name; definition = opened.definition }) → opened.definition.function_like ≡ true
-      → outermost_line f.list ≡ outermost_line e.list → Seeks n s c p t → Finds read opened c step p q → LeadsTo step e q t
+      → outermost_call f.list ≡ outermost_call e.list → Seeks n s c p t → Finds read opened c step p q → LeadsTo step e q t
   seek_leads read opened c step n p q s t e f takes stands macro_of function same (alone next n1 p1 s1 t1 c1 taken_next none reported is) found =
       let m : Opening = record { token = read.token; name = opened.name; definition = opened.definition } in
       let h = next_simulates I StandsR hidden simulates shows hides n p s t next f stands taken_next (not_refused next reported) in
@@ -192,14 +193,14 @@ module _ {R : Type 0} (I : Reading R) (StandsR : Reader → R → Type 0) (hidde
   object_leads : (read : Read) (opened : Macro) (n p : kept.Expander) (s : Reader) (e f : Expander R)
       → Takes I e (given.Token read) f → StandsIn I StandsR hidden n s f → n.held ≡ None
       → opening I f (given.Token read) ≡ Some (record { token = read.token; name = opened.name; definition = opened.definition }) → opened.definition.function_like ≡ false
-      → p ≡ record n { frames = new_frame opened read.token.location.line [] ∷ n.frames } → LeadsTo (Err Continue) e p s
+      → p ≡ record n { frames = new_frame opened (bare_call read.token.location) [] ∷ n.frames } → LeadsTo (Err Continue) e p s
   object_leads read opened n p s e f takes stands free macro_of plain is =
       let m : Opening = record { token = read.token; name = opened.name; definition = opened.definition } in
       rw is (
         with_macro m read.token.location.line [] f,
         record {
           holds = stands.holds;
-          list = ap (macro_before opened.name opened.definition read.token.location.line []) stands.list;
+          list = ap (macro_before opened.name opened.definition (bare_call read.token.location) []) stands.list;
           reader = stands.reader;
           names = stands.names;
         },
@@ -222,7 +223,7 @@ module _ {R : Type 0} (I : Reading R) (StandsR : Reader → R → Type 0) (hidde
         h.0,
         emitting.itself (given.Token read) e h.0 h.1 (as_opens s h.0 read None h.3 none),
         h.2,
-        ap (λ o. line_after o e.list h.0.list) freed,
+        ap (λ o. item_call_after o e.list h.0.list) freed,
       )
   turn_leads m p r s step e stands (object read opened step1 m1 n p1 r1 s1 steps some plain is at) reported =
       let h = token_stands m n r s read e stands steps in
@@ -230,6 +231,6 @@ module _ {R : Type 0} (I : Reading R) (StandsR : Reader → R → Type 0) (hidde
       (as_opens s h.0 read (Some (opened.name, opened.definition)) h.3 some.is) plain at)
   turn_leads m q r t step e stands (seeks read opened c step1 m1 n p q1 r1 s t1 steps some function sought found) reported =
       let h = token_stands m n r s read e stands steps in
-      let same : outermost_line h.0.list ≡ outermost_line e.list = ap outermost_line h.2.list ∙ outermost_flat n.frames ∙ token_line m n r s read steps
-      ∙ sym (ap outermost_line stands.list ∙ outermost_flat m.frames) in
+      let same : outermost_call h.0.list ≡ outermost_call e.list = ap outermost_call h.2.list ∙ outermost_flat n.frames ∙ token_call m n r s read steps
+      ∙ sym (ap outermost_call stands.list ∙ outermost_flat m.frames) in
       seek_leads read opened c step n p q s t e h.0 h.1 h.2 (as_opens s h.0 read (Some (opened.name, opened.definition)) h.3 some.is) function same sought found

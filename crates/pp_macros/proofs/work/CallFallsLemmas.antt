@@ -7,10 +7,11 @@ use Rattle.pp_lexer.specs.declared.token.TokenValue.TheVariants.{Ident}
 use Rattle.pp_model.specs.Calls.{Fault, Gathered}
 use Rattle.pp_model.specs.Definitions.{Definition}
 use Rattle.pp_model.specs.Names.{Name, is_in}
+use Rattle.pp_model.specs.declared.splice.CallPlace.{CallPlace}
 use Rattle.pp_macros.specs.inner.Calling.{MacroCall}
 use Rattle.pp_macros.specs.inner.CallTurns.{Sought, no_call, sought_by, Seeks, alone, called, Finds, TurnsTo, TurnsOrRefuses, passes, gives, object, seeks, paren_of}
 use Rattle.pp_macros.specs.inner.Defined.{Macro, AreNumbered, meaning_of, names_in, numbered_by, body_tokens, opened_by}
-use Rattle.pp_macros.specs.inner.Frames.{new_frame, names_of}
+use Rattle.pp_macros.specs.inner.Frames.{new_frame, names_of, bare_call}
 use Rattle.pp_macros.specs.Item.{Step, wants_memory}
 use Rattle.pp_macros.specs.inner.Left.{reads_left, most_open, most_bodies, one_more, regions_of, regions, work_of, IsSound, most_alone}
 use Rattle.pp_macros.specs.inner.Expander.{Expander, StepsTaking, GathersNext}
@@ -83,9 +84,9 @@ found_sound n s opened found sound = record {
   numbers = (found.numbered, sound.numbers);
 }
 
-pub pending_few : (opened : Macro) (line : ℕ) (arguments : List (List Read)) (n : Expander) (s : Reader)
-    → IsSoundWith (Some opened) n s → length (new_frame opened line arguments ∷ n.frames) ≤ most_open s
-pending_few opened line arguments n s sound = omega (
+pub pending_few : (opened : Macro) (call : CallPlace) (arguments : List (List Read)) (n : Expander) (s : Reader)
+    → IsSoundWith (Some opened) n s → length (new_frame opened call arguments ∷ n.frames) ≤ most_open s
+pending_few opened call arguments n s sound = omega (
   arith,
   open_names_few (definitions_of s) (opened.name ∷ names_of n.frames) sound.names,
   length_names n.frames,
@@ -146,16 +147,16 @@ module _ (levels : ℕ) (m : Expander) (r : Reader) (sound : IsSound m r) where
   token_falls n s h = no_more_falls (frame_of levels r) (most_open r) rises (regions m r) (one_more (regions n s)) (regions n s) h.room
       (one_more_falls (frame_of levels r) (most_open r) rises (regions n s))
 
-  object_falls : (opened : Macro) (line : ℕ) (n : Expander) (s : Reader) → IsTokenTaken n s → IsFound n s opened
-      → IsLess levels m r (record n { frames = new_frame opened line [] ∷ n.frames }) s
-  object_falls opened line n s h found =
+  object_falls : (opened : Macro) (call : CallPlace) (n : Expander) (s : Reader) → IsTokenTaken n s → IsFound n s opened
+      → IsLess levels m r (record n { frames = new_frame opened call [] ∷ n.frames }) s
+  object_falls opened call n s h found =
       let room : IsNoMore (frame_of levels r) (most_open r) (regions m r) (one_more (regions_of n.frames (reads_left s))) = rw h.free at h.room in
       let body : length opened.definition.body ≤ most_bodies r = omega (arith, found_body n s opened found, h.tight.bodies) in
       let with_it = found_sound n s opened found h.kept in
       record {
-        falls = rw h.free (opened_work levels m (new_frame opened line []) n.frames r s h.tight room
-            (object_steps levels (total (regions m r)) (most_bodies r) (most_open r) opened line body)
-            (pending_few opened line [] n s with_it));
+        falls = rw h.free (opened_work levels m (new_frame opened call []) n.frames r s h.tight room
+            (object_steps levels (total (regions m r)) (most_bodies r) (most_open r) opened call body)
+            (pending_few opened call [] n s with_it));
         tight = h.tight;
         sound = record { names = with_it.names; numbers = with_it.numbers };
       }
@@ -222,7 +223,7 @@ module _ (levels : ℕ) (m : Expander) (r : Reader) (sound : IsSound m r) where
       let h = token_taken read n s steps in
       rw is (less_by n s h.tight (token_falls n s h) h.kept)
   turn_falls step p s (object read opened step1 m1 n p1 r1 s1 steps some plain is at) reported =
-      rw (is, at) (object_falls opened read.token.location.line n s (token_taken read n s steps)
+      rw (is, at) (object_falls opened (bare_call read.token.location) n s (token_taken read n s steps)
       (taken_found read opened n s steps some))
   turn_falls step q t (seeks read opened c step1 m1 n p q1 r1 s t1 steps some function sought found) reported =
       seek_falls read opened c step n p q s t (token_taken read n s steps) (taken_found read opened n s steps some)
@@ -232,12 +233,12 @@ module _ (levels : ℕ) (m : Expander) (r : Reader) (sound : IsSound m r) where
 pub pending_opens : (levels : ℕ) (m : Expander) (r : Reader) (c : MacroCall) (n : Expander) (s : Reader) (arguments : List (List Read))
     → IsPending (suc levels) m r c n s
     → All (λ argument. length argument ≤ most_alone levels (definitions_of s) (length c.tokens)) arguments
-    → IsLess (suc levels) m r (record { held = None; frames = new_frame c.opened c.closing.line arguments ∷ n.frames }) s
+    → IsLess (suc levels) m r (record { held = None; frames = new_frame c.opened c.call arguments ∷ n.frames }) s
 pending_opens levels m r c n s arguments pending all =
-    let few = pending_few c.opened c.closing.line arguments n s pending.sound in
+    let few = pending_few c.opened c.call arguments n s pending.sound in
     record {
       falls = call_opens_falls levels
-          (length c.tokens) m n.frames r s c.opened c.closing.line arguments pending.tight pending.room pending.body pending.tokens
+          (length c.tokens) m n.frames r s c.opened c.call arguments pending.tight pending.room pending.body pending.tokens
           (λ k d inside. le_trans (all k d inside) (alone_under levels (body_tokens (definitions_of s)) (most_bodies s)
           (length (definitions_of s) + 1) (most_open s) (length c.tokens) (bodies_least s) (names_least s))) few;
       tight = pending.tight;

@@ -9,6 +9,7 @@ use Rattle.pp_model.specs.declared.read.Read.{Read}
 use Rattle.pp_model.specs.Names.{Name}
 use Rattle.pp_macros.specs.inner.Defined.{Macro}
 use Rattle.pp_model.specs.SpliceList.{parameter_of}
+use Rattle.pp_model.specs.declared.splice.CallPlace.{CallPlace}
 use Rattle.pp_macros.specs.inner.Frames.{Frame, new_frame, argument_at}
 use Rattle.pp_macros.specs.inner.Left.{reads_left, most_open, most_bodies, one_more, regions_of, regions, work_of}
 use Rattle.pp_macros.specs.inner.Expander.{Expander}
@@ -90,24 +91,24 @@ argument_least arguments most all k = go (slice_get arguments k) refl
         subst P is (All-get_or P arguments k [] (slice_get_within arguments k argument e) all)
 
 -- the frame of an object-like macro
-pub object_steps : (levels c bodies names : ℕ) (opened : Macro) (line : ℕ) → length opened.definition.body ≤ bodies
-    → steps_left (new_frame opened line []) ≤ frame_steps bodies names levels c
-object_steps zero c bodies names opened line low =
+pub object_steps : (levels c bodies names : ℕ) (opened : Macro) (call : CallPlace) → length opened.definition.body ≤ bodies
+    → steps_left (new_frame opened call []) ≤ frame_steps bodies names levels c
+object_steps zero c bodies names opened call low =
     let h = body_least opened.definition.parameters [] 0 opened.definition.body (λ k. omega arith) in
     let g : length opened.definition.body * 2 ≤ bodies * 2 = mul-le-mul low (omega arith) in
     omega arith
-object_steps (suc levels) c bodies names opened line low =
+object_steps (suc levels) c bodies names opened call low =
     let most = most_tokens (frame_steps bodies names levels) names c in
     let h = body_least opened.definition.parameters [] 0 opened.definition.body (λ k. omega arith) in
     let g : length opened.definition.body * 2 ≤ bodies * (most + 2) = mul-le-mul low (omega arith) in
     omega arith
 
 -- the frame of a call, whose arguments came from so many tokens at most
-pub call_steps : (levels c bodies names : ℕ) (opened : Macro) (line : ℕ) (arguments : List (List Read))
+pub call_steps : (levels c bodies names : ℕ) (opened : Macro) (call : CallPlace) (arguments : List (List Read))
     → length opened.definition.body ≤ bodies
     → All (λ argument. length argument ≤ most_tokens (frame_steps bodies names levels) names c) arguments
-    → steps_left (new_frame opened line arguments) ≤ frame_steps bodies names (suc levels) c
-call_steps levels c bodies names opened line arguments low all =
+    → steps_left (new_frame opened call arguments) ≤ frame_steps bodies names (suc levels) c
+call_steps levels c bodies names opened call arguments low all =
     let most = most_tokens (frame_steps bodies names levels) names c in
     let h = body_least opened.definition.parameters arguments most opened.definition.body (argument_least arguments most all) in
     let g : length opened.definition.body * (most + 2) ≤ bodies * (most + 2) = mul-le-mul low (omega arith) in
@@ -140,17 +141,17 @@ start_work levels list =
 
 -- A call whose arguments were expanded opens its frame: less is left than before its name was taken.
 pub call_opens_falls : (levels n : ℕ) (m : Expander) (fs : List Frame)
-    (r s : Reader) (opened : Macro) (line : ℕ) (arguments : List (List Read)) → Tightens r s
+    (r s : Reader) (opened : Macro) (call : CallPlace) (arguments : List (List Read)) → Tightens r s
     → IsNoMore (frame_of (suc levels) r) (most_open r) (regions m r) (one_more (regions_of fs (reads_left s))) → length opened.definition.body ≤ most_bodies r
     → n ≤ total (regions m r) → All (λ argument. length argument ≤ most_alone_at levels s n) arguments
-    → length (new_frame opened line arguments ∷ fs) ≤ most_open s
-    → work_of (suc levels) (record { held = None; frames = new_frame opened line arguments ∷ fs }) s < work_of (suc levels) m r
-call_opens_falls levels n m fs r s opened line arguments tight room body low all few =
+    → length (new_frame opened call arguments ∷ fs) ≤ most_open s
+    → work_of (suc levels) (record { held = None; frames = new_frame opened call arguments ∷ fs }) s < work_of (suc levels) m r
+call_opens_falls levels n m fs r s opened call arguments tight room body low all few =
     let c = total (regions m r) in
     let fits : All (λ (argument : List Read). length argument ≤ most_alone_at levels r c) arguments =
     (λ k d inside. le_trans (all k d inside) (alone_least levels n c r s tight low)) in
-    opened_work (suc levels) m (new_frame opened line arguments) fs r s tight room
-    (call_steps levels c (most_bodies r) (most_open r) opened line arguments body fits) few
+    opened_work (suc levels) m (new_frame opened call arguments) fs r s tight room
+    (call_steps levels c (most_bodies r) (most_open r) opened call arguments body fits) few
 
 -- what tokens come to where fewer names and bodies are defined
 pub alone_under : (levels bodies more_bodies names more_names n : ℕ) → bodies ≤ more_bodies → names ≤ more_names

@@ -6,9 +6,10 @@ use Rattle.pp_lexer.specs.PreprocessorError.{out_of_memory}
 use Rattle.pp_lexer.specs.declared.token.Location.{Location}
 use Rattle.pp_model.specs.declared.read.Read.{Read}
 use Rattle.pp_model.specs.Calls.{Fault, Gathered, is_left_paren}
+use Rattle.pp_model.specs.Emitting.{called_at}
 use Rattle.pp_macros.specs.Item.{Step, is_out_of_memory}
 use Rattle.pp_macros.specs.inner.Defined.{Macro}
-use Rattle.pp_macros.specs.inner.Frames.{new_frame}
+use Rattle.pp_macros.specs.inner.Frames.{new_frame, bare_call}
 use Rattle.pp_macros.specs.Held.{HoldsOrdinary}
 use Rattle.pp_macros.specs.inner.Expander.{Expander, StepsTaking, TakesNext, GathersNext}
 use Rattle.pp_macros.specs.inner.Reader.{Reader}
@@ -61,8 +62,8 @@ Finds read opened (refused fault) step n p = (step ≡ Err (Error fault)) × (p 
 Finds read opened (gathered paren g) step n p =
     (step ≡ Ok (taken.Call (record {
       opened = opened;
+      call = called_at read.token g.closing.line;
       paren = paren;
-      closing = g.closing;
       tokens = g.tokens;
     })))
     × (p ≡ n)
@@ -83,7 +84,7 @@ pub data TurnsTo : Expander → Reader → Step Taken → Expander → Reader �
       → StepsTaking m r (Ok read) n s → Opens s read opened
       → opened.definition.function_like ≡ false
       → step ≡ Err Continue
-      → p ≡ record n { frames = new_frame opened read.token.location.line [] ∷ n.frames }
+      → p ≡ record n { frames = new_frame opened (bare_call read.token.location) [] ∷ n.frames }
       → TurnsTo m r step p s
   -- the name of a function-like macro
   seeks : (read : Read) (opened : Macro) (c : Sought) (step : Step Taken) (m n p q : Expander) (r s t : Reader)

@@ -2,11 +2,13 @@
 use Rattle.std.specs.Prelude.{List}
 use Rattle.pp_lexer.specs.declared.token.Location.{Location}
 use Rattle.pp_model.specs.declared.read.Read.{Read}
+use Rattle.pp_model.specs.declared.splice.CallPlace.{CallPlace}
 use Rattle.pp_macros.specs.inner.Defined.{Macro}
 
--- the macro as it was when the call began, the places of its parentheses, and the tokens between them
+-- the macro as it was when the call began, where it is called, the place of its `(`, and the tokens between its
+-- parentheses
 pub record MacroCall : Type 0 where
   pub opened : Macro
+  pub call : CallPlace
   pub paren : Location
-  pub closing : Location
   pub tokens : List Read

@@ -40,7 +40,7 @@ pub record IsOpened (levels : ℕ) (numbering : Numbering) (definitions : List D
   pub arguments : List (List Read)
   pub answers : answers_at levels call.opened.definition (site_at call numbering definitions around) (Ok arguments)
   pub least : AreOfCall levels definitions call arguments
-  pub opens : new ≡ record old { frames = new_frame call.opened call.closing.line arguments ∷ old.frames }
+  pub opens : new ≡ record old { frames = new_frame call.opened call.call arguments ∷ old.frames }
 
 -- The frame opens, or the call has this fault and nothing changes. If memory runs out, this says nothing.
 abbrev pub Finishes : ℕ → Numbering → List Defined → List Name → MacroCall → Expander

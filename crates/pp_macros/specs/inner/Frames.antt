@@ -1,7 +1,7 @@
 -- Frames: macros that are open, each with what is left of its body and its arguments (docs/RULES.md, Expansion 4 and
 -- 9).
 use Rattle.std.specs.Prelude.{◌≡◌, ◌==◌, ℕ, Bool, true, false, List, [], ◌∷◌, map, set, Option, Some, None, unwrap_or}
-use Rattle.std.specs.Prelude.{slice_get, slice_index_or, suc, if◌then◌else◌}
+use Rattle.std.specs.Prelude.{slice_get, slice_index_or, suc, if◌then◌else◌, option_map}
 use Rattle.pp_lexer.specs.declared.token.Token.{Token}
 use Rattle.pp_model.specs.declared.read.Read.{Read}
 use Rattle.pp_model.specs.Painting.{unpainted}
@@ -10,16 +10,18 @@ use Rattle.pp_model.specs.SpliceList.{body_before, parameter_of}
 use Rattle.pp_model.specs.inner.SpliceList.{followed_by}
 use Rattle.pp_macros.specs.inner.Bodies.{has_parameter}
 use Rattle.pp_macros.specs.inner.Defined.{Macro, Numbered}
+use Rattle.pp_model.specs.declared.splice.CallPlace.{CallPlace}
 use Rattle.pp_model.specs.declared.splice.Entry.{Entry}
 use Rattle.pp_model.specs.declared.splice.Entry.TheVariants.{End}
+use Rattle.pp_lexer.specs.declared.token.Location.{Location}
 
--- A frame: the macro's name, its number and those that are noted in its body, the line that `__LINE__` shows in it, its
+-- A frame: the macro's name, its number and those that are noted in its body, where it was called, its
 -- parameters, what is left of its body, its arguments, and what is left of the argument that is being read.
 pub record Frame : Type 0 where
   pub name : Name
   pub number : ℕ
   pub noted : List Numbered
-  pub line : ℕ
+  pub call : CallPlace
   pub parameters : List Name
   pub body : List Token
   pub arguments : List (List Read)
@@ -34,13 +36,17 @@ count_of k (f ∷ fs) = if f.number == k then suc (count_of k fs) else count_of 
 abbrev pub AreCounted : List ℕ → List Frame → Type 0
 AreCounted counts frames = (k : ℕ) → slice_index_or counts k 0 ≡ count_of k frames
 
+-- where a macro without parentheses is called whose name is at this place
+abbrev pub bare_call : Location → CallPlace
+bare_call name = record { name = name; line = name.line }
+
 -- the frame of a macro as it opens
-abbrev pub new_frame : Macro → ℕ → List (List Read) → Frame
-new_frame opened line arguments = record {
+abbrev pub new_frame : Macro → CallPlace → List (List Read) → Frame
+new_frame opened call arguments = record {
   name = opened.name;
   number = opened.number;
   noted = opened.noted;
-  line = line;
+  call = call;
   parameters = opened.definition.parameters;
   body = opened.definition.body;
   arguments = arguments;
@@ -96,7 +102,7 @@ reading_before (Some tokens) entries = followed_by tokens entries
 abbrev pub layer_before : Frame → List Entry → List Entry
 layer_before f entries =
     reading_before f.reading
-    (body_before f.parameters f.arguments f.body (End (record { name = f.name; line = f.line }) ∷ entries))
+    (body_before f.parameters f.arguments f.body (End (record { name = f.name; call = f.call }) ∷ entries))
 
 -- the splice list that the frames stand for, the innermost frame first
 abbrev pub flat : List Frame → List Entry
@@ -107,7 +113,11 @@ flat (f ∷ fs) = layer_before f (flat fs)
 abbrev pub names_of : List Frame → List Name
 names_of frames = map (λ f. f.name) frames
 
--- the line of the outermost frame, which is the last
+-- where the macro of the outermost frame, which is the last, was called
+abbrev pub outermost_frame_call : List Frame → Option CallPlace
+outermost_frame_call [] = None
+outermost_frame_call (f ∷ fs) = Some (unwrap_or (outermost_frame_call fs) f.call)
+
+-- the line that `__LINE__` shows within it
 abbrev pub outermost_frame_line : List Frame → Option ℕ
-outermost_frame_line [] = None
-outermost_frame_line (f ∷ fs) = Some (unwrap_or (outermost_frame_line fs) f.line)
+outermost_frame_line frames = option_map (λ call. call.line) (outermost_frame_call frames)

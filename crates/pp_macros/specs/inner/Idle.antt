@@ -5,7 +5,7 @@ use Rattle.pp_lexer.specs.declared.token.Token.{Token}
 use Rattle.pp_model.specs.Painting.{unpainted}
 use Rattle.pp_model.specs.declared.read.Read.{Read}
 use Rattle.pp_model.specs.declared.read.Taken.TheVariants as given
-use Rattle.pp_macros.specs.inner.Frames.{outermost_frame_line}
+use Rattle.pp_macros.specs.inner.Frames.{outermost_frame_call}
 use Rattle.pp_macros.specs.Item.{Step}
 use Rattle.pp_macros.specs.inner.Expander.{Expander}
 use Rattle.pp_macros.specs.inner.Reader.{of_source}
@@ -15,7 +15,7 @@ use Rattle.pp_macros.specs.declared.step.StepExit.TheVariants.{Error}
 
 -- nothing is held, and no macro is open
 abbrev pub is_idle : Expander → Bool
-is_idle m = not (is_some m.held) && not (is_some (outermost_frame_line m.frames))
+is_idle m = not (is_some m.held) && not (is_some (outermost_frame_call m.frames))
 
 -- the word is held as it is taken: `__LINE__` as a number
 pub record IsHeld (word : Token) (source : Source) (old new : Expander) : Type 0 where

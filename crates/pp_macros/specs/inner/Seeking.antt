@@ -3,7 +3,7 @@ use Rattle.std.specs.Prelude.{◌≡◌, true, false, [], ◌∷◌, Option, Som
 use Rattle.pp_model.specs.Names.{Name}
 use Rattle.pp_model.specs.Definitions.{Definition}
 use Rattle.pp_macros.specs.inner.Defined.{Macro, AreNumbered, names_in, numbered_by}
-use Rattle.pp_macros.specs.inner.Frames.{new_frame}
+use Rattle.pp_macros.specs.inner.Frames.{new_frame, bare_call}
 use Rattle.pp_macros.specs.declared.calls.Taken.{Taken}
 use Rattle.pp_macros.specs.declared.calls.Taken.TheVariants as taken
 use Rattle.pp_macros.specs.declared.step.StepExit.TheVariants.{Continue}
@@ -18,7 +18,7 @@ pub data Enters (read : Read) (opened : Macro) : Expander → Reader → Step Ta
   plain : (step : Step Taken) (m n : Expander) (r s : Reader)
       → opened.definition.function_like ≡ false
       → step ≡ Err Continue
-      → n ≡ record m { frames = new_frame opened read.token.location.line [] ∷ m.frames }
+      → n ≡ record m { frames = new_frame opened (bare_call read.token.location) [] ∷ m.frames }
       → s ≡ r
       → Enters read opened m r step n s
   called : (c : Sought) (step : Step Taken) (m p n : Expander) (r s : Reader)

@@ -119,10 +119,10 @@ impl MacroProcessor {
         if found.is_function_like() {
             return Ok(Turn::Other);
         }
-        let line = ahead.token.location.line;
+        let name = ahead.token.location;
         let opened = found.clone()?;
         self.pass_token();
-        self.open_bare(opened, line)?;
+        self.open_bare(opened, name)?;
         Ok(Turn::Passed)
     }
 
@@ -191,7 +191,7 @@ impl MacroProcessor {
             unreachable!();
         };
         if let TokenValue::Punct(punct) = &token.value {
-            self.pay(1)?;
+            self.pay(2)?;
             items.push(Read {
                 token: Token {
                     value: TokenValue::Punct(*punct),
@@ -214,6 +214,7 @@ impl MacroProcessor {
         ensures puts { OnOk result ((token : Token) → token_ahead self.old.here ≡ Some token
             → items.new.items ≡ items.old.items ++ record { token = token; painted = painted } ∷ []) }
     {
+        self.pay(1)?;
         let token = self.make_token()?;
         items.push(Read { token, painted })?;
         Ok(())

@@ -19,6 +19,7 @@ use Rattle.pp_model.proofs.existence.Turns.{GoesOn, Premises, Here}
 use Rattle.pp_model.proofs.existence.CoveredLists.{over, Opens, Covered, covered_goes, here, size}
 use Rattle.pp_model.proofs.existence.TakingLemmas.{taking, took_read}
 use Rattle.pp_model.proofs.existence.TurnLemmas.{turned}
+use Rattle.pp_model.specs.Emitting.{called_at}
 
 module _ {R : Type 0} {I : Reading R} {A : Answers} {Fine : R → Type 0} {left : R → ℕ} (c : Here I A Fine left) where
   abbrev names : List Name
@@ -71,10 +72,10 @@ module _ {R : Type 0} {I : Reading R} {A : Answers} {Fine : R → Type 0} {left 
       absurd (omega (arith, falls, le))
   grows (suc k) = λ S le a m line arguments defined free.
       let falls = room_falls names m.name (open_names S ++ c.hidden) ((c.premises.finite c.reader c.ready).among m.name m.definition defined) free in
-      let marked = End (record { name = m.name; line = line }) ∷ S in
+      let marked = End (record { name = m.name; call = called_at m.token line }) ∷ S in
       let fewer : room_over marked ≤ k = omega (arith, falls, le) in
       let covered = covered_body k (grows k) m.definition.parameters arguments m.definition.body marked fewer a in
-      let all = macro_before m.name m.definition line arguments S in
+      let all = macro_before m.name m.definition (called_at m.token line) arguments S in
       covered_goes c all all covered.0 refl
 
   every_list : (S : List Entry) → Covered c S

@@ -18,7 +18,7 @@ use Rattle.pp_macros.specs.inner.Defined.{Defined, IsChanged, meaning_of, names_
 use Rattle.pp_rs.specs.inner.Fit.{EndIsLast, IsFit, IsReported}
 use Rattle.pp_macros.specs.inner.Frames.{Frame, names_of}
 use Rattle.pp_macros.specs.Item.{Fault, Step}
-use Rattle.pp_rs.specs.Kept.{Preprocessing, Stands, is_spent, most_items, errors_left, error_place, call_line, rules_of}
+use Rattle.pp_rs.specs.Kept.{Preprocessing, Stands, is_spent, most_items, errors_left, error_place, call_place, rules_of}
 use Rattle.pp_macros.specs.inner.Left.{AreDefinedAbove, work_of}
 use Rattle.pp_macros.specs.inner.Expander as kept
 use Rattle.pp_macros.specs.inner.Reader.{of_source}
@@ -102,14 +102,14 @@ module _ (name : Name) (tokens : List Token) (old new : Source) (h : IsSetIn nam
 module _ (old : Preprocessing) (name content : List ℕ) (new : Source) where
   pub added_now : (tokens : List Token) → content_tokens (items_by old.rules content) ≡ Ok tokens → IsSetIn (chars name) tokens old.source new
       → IsAdded old name content (Ok tt) (record old { source = new })
-  unfolding Stands is_spent most_items errors_left error_place call_line rules_of
+  unfolding Stands is_spent most_items errors_left error_place call_place rules_of
   added_now tokens e h = added tokens e refl (record {
     stands = λ state stands. stands_added (chars name) tokens old.source new h old.expander state stands;
     spent = refl;
     ended = λ none. none_left_added (chars name) tokens old.source new h old.expander old.spent none;
     errors = ap (λ (s : Source). unreported_with old.expander.held (unreported_of s)) h.others;
     place = refl;
-    line = refl;
+    call = refl;
     rules = refl;
   })
 

@@ -8,7 +8,7 @@ use Rattle.pp_lexer.specs.declared.token.Token.{Token}
 use Rattle.pp_directives.specs.WordTokens.{word_token}
 use Rattle.pp_macros.specs.Item.{Item}
 use Rattle.pp_rs.specs.Giving.{AreGiven, GivesTokens, is_ordinary_token, nothing, one_more}
-use Rattle.pp_rs.specs.Kept.{Preprocessing, is_spent, most_items, call_line, rules_of}
+use Rattle.pp_rs.specs.Kept.{Preprocessing, is_spent, most_items, call_place, rules_of}
 use Rattle.pp_rs.specs.inner.NextWord.{IsPassed, IsWord}
 use Rattle.pp_rs.specs.Preprocessing.{IsNextItem}
 use Rattle.pp_rs.specs.TokenRefs.{value_of, token_of}
@@ -69,7 +69,7 @@ module _ {S : Type 0} (takes : S → TokenRef → S → Type 0) where
 
       -- a token is given
       pub giving_takes : (token : TokenRef) (new : Preprocessing) (after : S) → IsNextItem now (Some (Ok (token_of token))) new
-          → token.call_line ≡ call_line new → takes sink token after → IsGiving takes start first new after
+          → token.call ≡ call_place new → takes sink token after → IsGiving takes start first new after
       giving_takes token new after next line taken = record {
         last = new;
         given = one_more token g.last new sink after g.given (next_from_last (Some (Ok (token_of token))) new next) line taken;
@@ -88,9 +88,9 @@ module _ {S : Type 0} (takes : S → TokenRef → S → Type 0) where
 
       -- a word is given
       pub giving_word : (word : PlainItem) (new : Preprocessing) (token : TokenRef) (after : S) → IsWord now word new
-          → token_of token ≡ word_token word → token.call_line ≡ None → takes sink token after → IsGiving takes start first new after
+          → token_of token ≡ word_token word → token.call ≡ None → takes sink token after → IsGiving takes start first new after
       giving_word word new token after is refers outside taken =
-          giving_takes token new after (rw refers is.next) (outside ∙ sym is.line) taken
+          giving_takes token new after (rw refers is.next) (outside ∙ sym is.call) taken
 
       -- no more tokens come
       pub giving_ends : (answer : Option Item) (new : Preprocessing) → IsNextItem now answer new → is_ordinary_token answer ≡ false

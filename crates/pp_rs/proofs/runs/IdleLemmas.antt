@@ -13,7 +13,7 @@ use Rattle.pp_model.specs.Painting.{unpainted}
 use Rattle.pp_model.proofs.SpelledRunLemmas.{or_none}
 use Rattle.pp_macros.specs.inner.CallTurns.{TurnsTo, passes, gives, object, seeks}
 use Rattle.pp_macros.specs.inner.Defined.{Macro, meaning_of, opened_by}
-use Rattle.pp_macros.specs.inner.Frames.{Frame, new_frame}
+use Rattle.pp_macros.specs.inner.Frames.{Frame, new_frame, bare_call}
 use Rattle.pp_macros.specs.inner.Idle.{IsHeld, HoldsWord}
 use Rattle.pp_macros.specs.Item.{Step}
 use Rattle.pp_macros.specs.inner.Expander.{Expander, step_of_outcome, taken_as, StepsFetching, StepsTaking, held, moved}
@@ -113,10 +113,10 @@ module _ (levels : ℕ) (r s : Source) where
   -- the name of a macro without parentheses, which opens
   pub idle_opens : (m n : Expander) (token : Token) (opened : Macro) → m ≡ idle → StepsReporting r (Ok token) s
       → is_identifier line_name token.value ≡ false → Opens (of_source s) (unpainted token) opened
-      → opened.definition.function_like ≡ false → n ≡ record m { frames = new_frame opened token.location.line [] ∷ m.frames }
+      → opened.definition.function_like ≡ false → n ≡ record m { frames = new_frame opened (bare_call token.location) [] ∷ m.frames }
       → StepsOver levels m r (Err Continue) n s
   idle_opens m n token opened e reads apart opens bare is =
-      let after : Expander = record { held = None; frames = new_frame opened token.location.line [] ∷ [] } in
+      let after : Expander = record { held = None; frames = new_frame opened (bare_call token.location) [] ∷ [] } in
       let turns = object (unpainted token) opened (Err Continue) idle idle after (of_source r) (of_source s)
       (takes_token token reads apart) opens bare refl refl in
       rw (is, e) (inl (record { taken = Err Continue; between = after; turns = turns; follows = (refl, refl) }))

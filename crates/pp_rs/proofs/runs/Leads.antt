@@ -5,17 +5,18 @@ use Rattle.std.specs.Prelude.{Ok, Err}
 use Rattle.pp_lexer.specs.declared.token.Token.{Token}
 use Rattle.pp_model.specs.Reading.{Expander}
 use Rattle.pp_model.specs.Calls.{Answers}
-use Rattle.pp_model.specs.CallLine.{item_line}
+use Rattle.pp_model.specs.ItemCall.{item_call}
 use Rattle.pp_model.specs.Emitting.{Emits}
 use Rattle.pp_model.specs.Painting.{item_of}
 use Rattle.pp_model.specs.SourceReader.{SourceReader}
 use Rattle.pp_model.specs.declared.outcome.Outcome.{Outcome}
 use Rattle.pp_model.specs.declared.outcome.Outcome.TheVariants as outcome
 use Rattle.pp_model.specs.declared.read.Taken.{Taken}
+use Rattle.pp_model.specs.declared.splice.CallPlace.{CallPlace}
 use Rattle.pp_macros.specs.Item.{Step}
 use Rattle.pp_macros.proofs.taking.PauseLemmas.{EmitsLater}
 use Rattle.pp_rs.specs.Comes.{source_rules}
-use Rattle.pp_rs.specs.Kept.{kept_line}
+use Rattle.pp_rs.specs.Kept.{kept_call}
 use Rattle.pp_macros.specs.inner.Source.{Source}
 use Rattle.pp_macros.specs.inner.Expander as kept
 use Rattle.pp_rs.specs.inner.Stands.{StandsFor}
@@ -28,30 +29,30 @@ pub record GivesItem (A : Answers) (e : Expander SourceReader) (o : Outcome) (f 
   pub is : o ≡ item_of taken
 
 -- What a step of an expander is to the state that it stands for: it gives the next item, or pauses and keeps that. Before
--- the step the outermost macro has this line.
-abbrev pub LeadsFrom : Answers → Expander SourceReader → Step Token → Option ℕ → kept.Expander → Source → Type 0
-LeadsFrom A e (Ok token) line expander source = (f : Expander SourceReader) × (item : GivesItem A e (outcome.Token token) f)
-    × StandsFor expander source f × (kept_line expander.held line expander.frames ≡ item_line item.emits)
-LeadsFrom A e (Err Continue) line expander source = (f : Expander SourceReader) × StandsFor expander source f × EmitsLater source_rules A e f
-LeadsFrom A e (Err Finished) line expander source = (f : Expander SourceReader) × (item : GivesItem A e outcome.End f)
-    × StandsFor expander source f × (kept_line expander.held line expander.frames ≡ item_line item.emits)
-LeadsFrom A e (Err (Error fault)) line expander source = (f : Expander SourceReader) × (item : GivesItem A e (outcome.Fault fault) f)
-    × (kept_line expander.held line expander.frames ≡ item_line item.emits)
+-- the step the outermost macro was called there.
+abbrev pub LeadsFrom : Answers → Expander SourceReader → Step Token → Option CallPlace → kept.Expander → Source → Type 0
+LeadsFrom A e (Ok token) call expander source = (f : Expander SourceReader) × (item : GivesItem A e (outcome.Token token) f)
+    × StandsFor expander source f × (kept_call expander.held call expander.frames ≡ item_call item.emits)
+LeadsFrom A e (Err Continue) call expander source = (f : Expander SourceReader) × StandsFor expander source f × EmitsLater source_rules A e f
+LeadsFrom A e (Err Finished) call expander source = (f : Expander SourceReader) × (item : GivesItem A e outcome.End f)
+    × StandsFor expander source f × (kept_call expander.held call expander.frames ≡ item_call item.emits)
+LeadsFrom A e (Err (Error fault)) call expander source = (f : Expander SourceReader) × (item : GivesItem A e (outcome.Fault fault) f)
+    × (kept_call expander.held call expander.frames ≡ item_call item.emits)
 
 -- the same of each state that the expander and the source stand for; one step, or many that pause before it
-pub record Leads (A : Answers) (expander : kept.Expander) (source : Source) (step : Step Token) (line : Option ℕ)
+pub record Leads (A : Answers) (expander : kept.Expander) (source : Source) (step : Step Token) (call : Option CallPlace)
     (expander_then : kept.Expander) (source_then : Source) : Type 0 where
-  pub from : (e : Expander SourceReader) → StandsFor expander source e → LeadsFrom A e step line expander_then source_then
+  pub from : (e : Expander SourceReader) → StandsFor expander source e → LeadsFrom A e step call expander_then source_then
 
 -- what comes from the state after a pause comes from the one before it
 abbrev item_kept : (A : Answers) (e f g : Expander SourceReader) (o : Outcome) → EmitsLater source_rules A e f → GivesItem A f o g → GivesItem A e o g
 item_kept A e f g o keeps item = record { taken = item.taken; emits = (keeps item.taken g item.emits).0; is = item.is }
 
-leads_on : (A : Answers) (e f : Expander SourceReader) (step : Step Token) (line : Option ℕ) (expander : kept.Expander) (source : Source)
-    → EmitsLater source_rules A e f → LeadsFrom A f step line expander source → LeadsFrom A e step line expander source
-leads_on A e f (Ok token) line expander source keeps leads =
+leads_on : (A : Answers) (e f : Expander SourceReader) (step : Step Token) (call : Option CallPlace) (expander : kept.Expander) (source : Source)
+    → EmitsLater source_rules A e f → LeadsFrom A f step call expander source → LeadsFrom A e step call expander source
+leads_on A e f (Ok token) call expander source keeps leads =
     (leads.0, item_kept A e f leads.0 (outcome.Token token) keeps leads.1, leads.2, leads.3 ∙ sym (keeps leads.1.taken leads.0 leads.1.emits).1)
-leads_on A e f (Err Continue) line expander source keeps leads = (
+leads_on A e f (Err Continue) call expander source keeps leads = (
   leads.0,
   leads.1,
   λ x g emits.
@@ -59,18 +60,18 @@ leads_on A e f (Err Continue) line expander source keeps leads = (
       let first = keeps x g later.0 in
       (first.0, first.1 ∙ later.1),
 )
-leads_on A e f (Err Finished) line expander source keeps leads =
+leads_on A e f (Err Finished) call expander source keeps leads =
     (leads.0, item_kept A e f leads.0 outcome.End keeps leads.1, leads.2, leads.3 ∙ sym (keeps leads.1.taken leads.0 leads.1.emits).1)
-leads_on A e f (Err (Error fault)) line expander source keeps leads =
+leads_on A e f (Err (Error fault)) call expander source keeps leads =
     (leads.0, item_kept A e f leads.0 (outcome.Fault fault) keeps leads.1, leads.2 ∙ sym (keeps leads.1.taken leads.0 leads.1.emits).1)
 
 -- a pause, and then a step
 pub leads_then : (A : Answers) (expander expander_then expander_last : kept.Expander) (source source_then source_last : Source) (step : Step Token)
-    (paused line : Option ℕ) → Leads A expander source (Err Continue) paused expander_then source_then
-    → Leads A expander_then source_then step line expander_last source_last → Leads A expander source step line expander_last source_last
-leads_then A expander expander_then expander_last source source_then source_last step paused line pauses leads =
+    (paused call : Option CallPlace) → Leads A expander source (Err Continue) paused expander_then source_then
+    → Leads A expander_then source_then step call expander_last source_last → Leads A expander source step call expander_last source_last
+leads_then A expander expander_then expander_last source source_then source_last step paused call pauses leads =
     record {
       from = λ e stands.
           let after : LeadsFrom A e (Err Continue) paused expander_then source_then = pauses.from e stands in
-          leads_on A e after.0 step line expander_last source_last after.2 (leads.from after.0 after.1);
+          leads_on A e after.0 step call expander_last source_last after.2 (leads.from after.0 after.1);
     }

@@ -11,6 +11,7 @@ use Rattle.pp_model.specs.Calls.{Fault}
 use Rattle.pp_model.specs.Reading.{Expander}
 use Rattle.pp_model.specs.SourceReader.{SourceReader}
 use Rattle.pp_model.specs.declared.outcome.Outcome.{Outcome}
+use Rattle.pp_model.specs.declared.splice.CallPlace.{CallPlace}
 use Rattle.pp_rs.specs.Comes.{Comes}
 use Rattle.pp_rs.specs.inner.Fit.{IsFit, IsReported}
 use Rattle.pp_macros.specs.Held.{HoldsOrdinary}
@@ -19,12 +20,12 @@ use Rattle.pp_macros.specs.inner.CallTurns.{TakesSomething}
 use Rattle.pp_macros.specs.inner.Left.{work_of}
 use Rattle.pp_macros.specs.LexerErrors.{ErrorAt, PassesErrors}
 use Rattle.pp_macros.specs.inner.Expander as kept
-use Rattle.pp_macros.specs.inner.Frames.{outermost_frame_line}
+use Rattle.pp_macros.specs.inner.Frames.{outermost_frame_call}
 use Rattle.pp_macros.specs.inner.Reader.{of_source}
 use Rattle.pp_macros.specs.inner.Source.{Source, unreported_of}
 use Rattle.pp_rs.specs.inner.SourceTurns.{TurnsSource, StepsOver}
 use Rattle.pp_rs.specs.inner.Stands.{StandsFor}
-use Rattle.pp_rs.specs.Kept.{Preprocessing, Stands, is_spent, most_items, errors_left, error_place, kept_line, call_line, rules_of}
+use Rattle.pp_rs.specs.Kept.{Preprocessing, Stands, is_spent, most_items, errors_left, error_place, kept_call, call_place, rules_of}
 use Rattle.pp_rs.specs.Preprocessing.{IsLessLeft, IsErrorAt, of_lexer, of_its_own, IsRefusedItem, IsGivenItem, IsNextItem}
 use Rattle.pp_macros.specs.inner.Unreported.{with_read}
 use Rattle.pp_macros.specs.declared.step.StepExit.TheVariants.{Error, Continue, Finished}
@@ -61,9 +62,9 @@ reached_first {rules} expander now source source_now e f fit = rw (e, f) (record
 
 module _ {rules : Rules} (expander now after : kept.Expander) (source source_now source_after : Source) (r : Reached rules expander source now source_now) where
   -- what is kept after the turn
-  abbrev pub kept_with : Source → Bool → Location → Option ℕ → Preprocessing
-  kept_with source spent place line =
-      record { expander = after; source = source; spent = spent; place = place; name_line = line; rules = rules }
+  abbrev pub kept_with : Source → Bool → Location → Option CallPlace → Preprocessing
+  kept_with source spent place call =
+      record { expander = after; source = source; spent = spent; place = place; name_call = call; rules = rules }
 
   abbrev pub Over : Step Token → Type 0
   Over step = StepsOver expansion_limit now source_now step after source_after
@@ -84,9 +85,9 @@ module _ {rules : Rules} (expander now after : kept.Expander) (source source_now
   left_now step (inr h) goes = r.left (some_left now source_now r.fit.unspent h.some)
 
   leads_last : (step : Step Token) → Over step → wants_memory step ≡ false
-      → Leads (answers_at expansion_limit) expander source step (outermost_frame_line now.frames) after source_after
+      → Leads (answers_at expansion_limit) expander source step (outermost_frame_call now.frames) after source_after
   leads_last step h reported =
-      leads_then (answers_at expansion_limit) expander now after source source_now source_after step None (outermost_frame_line now.frames) r.leads
+      leads_then (answers_at expansion_limit) expander now after source source_now source_after step None (outermost_frame_call now.frames) r.leads
       (source_turn_leads expansion_limit now after source_now source_after step r.fit (turned step h reported) reported)
 
   -- what a turn leaves of the errors of the lexer
@@ -149,10 +150,10 @@ module _ {rules : Rules} (expander now after : kept.Expander) (source source_now
     }
 
     -- less is left after a token or a fault
-    less_last : (step : Step Token) (place : Location) (line : Option ℕ) → Over step → wants_memory step ≡ false → (step ≡ Err Finished → ⊥)
-        → most_items (kept_with source_after false place line) < most_items old
+    less_last : (step : Step Token) (place : Location) (call : Option CallPlace) → Over step → wants_memory step ≡ false → (step ≡ Err Finished → ⊥)
+        → most_items (kept_with source_after false place call) < most_items old
     unfolding most_items
-    less_last step place line turn reported goes =
+    less_last step place call turn reported goes =
         let lower = falls step turn reported goes in
         omega (arith, lower, r.less, most_first)
 
@@ -168,18 +169,18 @@ module _ {rules : Rules} (expander now after : kept.Expander) (source source_now
         subst (λ (rs : Rules). PassesErrors rs.passes_dead_errors (errors_left old) left) ruled
         (subst (λ (es : List ErrorAt). PassesErrors rules.passes_dead_errors es left) (sym errors_first) h)
 
-    pub next_token : (token : Token) (spent : Bool) (place : Location) (line : Option ℕ) → spent ≡ false → place ≡ old.place
-        → kept_line after.held line after.frames ≡ kept_line after.held (outermost_frame_line now.frames) after.frames → Over (Ok token)
+    pub next_token : (token : Token) (spent : Bool) (place : Location) (call : Option CallPlace) → spent ≡ false → place ≡ old.place
+        → kept_call after.held call after.frames ≡ kept_call after.held (outermost_frame_call now.frames) after.frames → Over (Ok token)
         → HoldsOrdinary token.value
-        → IsNextItem old (Some (Ok token)) (kept_with source_after spent place line)
-    unfolding Stands is_spent errors_left error_place call_line
-    next_token token true place line fresh_now same kept turn holds = cc
-    next_token token false place line fresh_now same kept turn holds =
-        as_next (Some (Ok token)) (kept_with source_after false place line) (inr (record {
+        → IsNextItem old (Some (Ok token)) (kept_with source_after spent place call)
+    unfolding Stands is_spent errors_left error_place call_place
+    next_token token true place call fresh_now same kept turn holds = cc
+    next_token token false place call fresh_now same kept turn holds =
+        as_next (Some (Ok token)) (kept_with source_after false place call) (inr (record {
           item = λ e stands.
-              let leads : LeadsFrom (answers_at expansion_limit) e (Ok token) (outermost_frame_line now.frames) after source_after =
+              let leads : LeadsFrom (answers_at expansion_limit) e (Ok token) (outermost_frame_call now.frames) after source_after =
               (leads_last (Ok token) turn refl).from e (stands_first e stands) in
-              record { after = leads.0; emits = comes e leads.0 _ leads.1; line = kept ∙ leads.3; goes_on = leads.2 };
+              record { after = leads.0; emits = comes e leads.0 _ leads.1; call = kept ∙ leads.3; goes_on = leads.2 };
           no_refusal = refl;
           holds = holds;
           reports = record {
@@ -188,7 +189,7 @@ module _ {rules : Rules} (expander now after : kept.Expander) (source source_now
             reports = (refl, same);
           };
           spent = refl;
-        })) (less_last (Ok token) place line turn refl (λ e. cc)) ruled
+        })) (less_last (Ok token) place call turn refl (λ e. cc)) ruled
 
     -- memory is refused, and there was something to take
     pub next_refused : TakesSomething now (of_source source_now) → (new : Preprocessing) → new.spent ≡ true → new.rules ≡ old.rules
@@ -200,19 +201,19 @@ module _ {rules : Rules} (expander now after : kept.Expander) (source source_now
         (rw spent (omega (arith, left_is_work expansion_limit expander source left, most_first))) same
 
     -- less is left after a pause
-    pub less_more : (spent : Bool) (place : Location) (line : Option ℕ) → spent ≡ false → Over (Err Continue)
-        → most_items (record { expander = after; source = source_after; spent = spent; place = place; name_line = line; rules = rules }) < most_items old
-    less_more true place line fresh_now turn = cc
-    less_more false place line fresh_now turn = less_last (Err Continue) place line turn refl (λ e. cc)
+    pub less_more : (spent : Bool) (place : Location) (call : Option CallPlace) → spent ≡ false → Over (Err Continue)
+        → most_items (record { expander = after; source = source_after; spent = spent; place = place; name_call = call; rules = rules }) < most_items old
+    less_more true place call fresh_now turn = cc
+    less_more false place call fresh_now turn = less_last (Err Continue) place call turn refl (λ e. cc)
 
     -- before a pause something is left
     pub some_items : Over (Err Continue) → 0 < most_items old
     some_items turn = omega (arith, falls_more turn, r.less, most_first)
 
-    end_last : (place : Location) (line : Option ℕ) → Over (Err Finished)
-        → most_items (kept_with source_after false place line) ≡ 0
+    end_last : (place : Location) (call : Option CallPlace) → Over (Err Finished)
+        → most_items (kept_with source_after false place call) ≡ 0
     unfolding most_items
-    end_last place line turn =
+    end_last place call turn =
         let e = source_ends expansion_limit now source_now source_after r.fit after (turned (Err Finished) turn refl) in
         no_work expansion_limit after source_after e.0 e.1 e.2 e.3
 
@@ -222,27 +223,27 @@ module _ {rules : Rules} (expander now after : kept.Expander) (source source_now
         let e = source_ends expansion_limit now source_now source_after r.fit after (turned (Err Finished) turn refl) in
         rw (e.0, e.2) refl
 
-    -- if nothing is held, no line is kept for it
-    pub free_line : (o : Option (Step Read)) (line : Option ℕ) → o ≡ None
-        → kept_line o line after.frames ≡ kept_line o (outermost_frame_line now.frames) after.frames
-    free_line o line free = rw free refl
+    -- if nothing is held, no call is kept for it
+    pub free_kept_call : (o : Option (Step Read)) (call : Option CallPlace) → o ≡ None
+        → kept_call o call after.frames ≡ kept_call o (outermost_frame_call now.frames) after.frames
+    free_kept_call o call free = rw free refl
 
     end_free : Over (Err Finished) → after.held ≡ None
     end_free turn = (source_ends expansion_limit now source_now source_after r.fit after (turned (Err Finished) turn refl)).0
 
-    pub next_end : (spent : Bool) (place : Location) (line : Option ℕ) → spent ≡ false → place ≡ old.place → Over (Err Finished)
-        → IsNextItem old None (kept_with source_after spent place line)
-    unfolding Stands is_spent errors_left error_place call_line
-    next_end true place line fresh_now same turn = cc
-    next_end false place line fresh_now same turn =
-        as_next None (kept_with source_after false place line) (inr (record {
+    pub next_end : (spent : Bool) (place : Location) (call : Option CallPlace) → spent ≡ false → place ≡ old.place → Over (Err Finished)
+        → IsNextItem old None (kept_with source_after spent place call)
+    unfolding Stands is_spent errors_left error_place call_place
+    next_end true place call fresh_now same turn = cc
+    next_end false place call fresh_now same turn =
+        as_next None (kept_with source_after false place call) (inr (record {
           item = λ e stands.
-              let leads : LeadsFrom (answers_at expansion_limit) e (Err Finished) (outermost_frame_line now.frames) after source_after =
+              let leads : LeadsFrom (answers_at expansion_limit) e (Err Finished) (outermost_frame_call now.frames) after source_after =
               (leads_last (Err Finished) turn refl).from e (stands_first e stands) in
               record {
                 after = leads.0;
                 emits = comes e leads.0 _ leads.1;
-                line = free_line after.held line (end_free turn) ∙ leads.3;
+                call = free_kept_call after.held call (end_free turn) ∙ leads.3;
                 goes_on = leads.2;
               };
           no_refusal = refl;
@@ -253,41 +254,41 @@ module _ {rules : Rules} (expander now after : kept.Expander) (source source_now
             reports = (none_unreported turn, none_unreported turn, same);
           };
           spent = refl;
-        })) (end_last place line turn) ruled
+        })) (end_last place call turn) ruled
 
     -- a fault is reported where it stands: the place that was taken is that of an error of the lexer
-    module _ (fault : Fault) (reported_source : Source) (place : Location) (line : Option ℕ) (is : reported_source ≡ record source_after { error_place = None }) where
+    module _ (fault : Fault) (reported_source : Source) (place : Location) (call : Option CallPlace) (is : reported_source ≡ record source_after { error_place = None }) where
       error_reported : (taken : Option Location) (left : List ErrorAt)
-          → place ≡ unwrap_or taken fault.1 → errors_left (kept_with reported_source false place line) ≡ left
-          → IsErrorAt fault (with_read fault taken left) (kept_with reported_source false place line)
+          → place ≡ unwrap_or taken fault.1 → errors_left (kept_with reported_source false place call) ≡ left
+          → IsErrorAt fault (with_read fault taken left) (kept_with reported_source false place call)
       unfolding error_place
       error_reported (Some there) left at same = of_lexer (ap (λ (es : List ErrorAt). record { item = fault; place = there } ∷ es) (sym same)
           ∙ ap (λ (p : Location). record { item = fault; place = p } ∷ errors_left
-          (kept_with reported_source false place line)) (sym at))
+          (kept_with reported_source false place call)) (sym at))
       error_reported None left at same = of_its_own at same
 
       errors_now : Over (Err (Error fault)) → is_out_of_memory fault.0 ≡ false
-          → errors_left (kept_with reported_source false place line) ≡ (unreported_of source_after).later
+          → errors_left (kept_with reported_source false place call) ≡ (unreported_of source_after).later
       unfolding errors_left
       errors_now turn reported = rw (is, (errors_last (Err (Error fault)) turn reported).0) refl
 
       less_now : Over (Err (Error fault)) → is_out_of_memory fault.0 ≡ false
-          → most_items (kept_with reported_source false place line) < most_items old
+          → most_items (kept_with reported_source false place call) < most_items old
       unfolding most_items
-      less_now turn reported = rw is (less_last (Err (Error fault)) place line turn reported (λ e. cc))
+      less_now turn reported = rw is (less_last (Err (Error fault)) place call turn reported (λ e. cc))
 
       next_fault : Over (Err (Error fault)) → is_out_of_memory fault.0 ≡ false → place ≡ unwrap_or source_after.error_place fault.1
-          → IsNextItem old (Some (Err fault)) (kept_with reported_source false place line)
-      unfolding is_spent call_line
+          → IsNextItem old (Some (Err fault)) (kept_with reported_source false place call)
+      unfolding is_spent call_place
       next_fault turn reported at =
-          as_next (Some (Err fault)) (kept_with reported_source false place line) (inr (record {
+          as_next (Some (Err fault)) (kept_with reported_source false place call) (inr (record {
             item = λ e stands.
-                let leads : LeadsFrom (answers_at expansion_limit) e (Err (Error fault)) (outermost_frame_line now.frames) after source_after =
+                let leads : LeadsFrom (answers_at expansion_limit) e (Err (Error fault)) (outermost_frame_call now.frames) after source_after =
                 (leads_last (Err (Error fault)) turn reported).from e (stands_first e stands) in
                 record {
                   after = leads.0;
                   emits = comes e leads.0 _ leads.1;
-                  line = free_line after.held line (errors_last (Err (Error fault)) turn reported).0 ∙ leads.2;
+                  call = free_kept_call after.held call (errors_last (Err (Error fault)) turn reported).0 ∙ leads.2;
                   goes_on = tt;
                 };
             no_refusal = reported;
@@ -301,17 +302,17 @@ module _ {rules : Rules} (expander now after : kept.Expander) (source source_now
           })) (less_now turn reported) ruled
 
       next_refusal : Over (Err (Error fault)) → IsNextItem old (Some (Err out_of_memory))
-          (kept_with reported_source true place line)
+          (kept_with reported_source true place call)
       unfolding is_spent most_items
       next_refusal turn =
           let left : SomethingLeft expander source = left_now (Err (Error fault)) turn (λ e. cc) in
-          as_next (Some (Err out_of_memory)) (kept_with reported_source true place line)
+          as_next (Some (Err out_of_memory)) (kept_with reported_source true place call)
           (inl (record { item = refl; spent = refl })) (omega (arith, left_is_work expansion_limit expander source left, most_first)) ruled
 
       pub next_error : (want : Bool) → is_out_of_memory fault.0 ≡ want → Over (Err (Error fault))
           → place ≡ unwrap_or source_after.error_place (if want then out_of_memory else fault).1
           → IsNextItem old (Some (Err (if want then out_of_memory else fault)))
-          (kept_with reported_source want place line)
+          (kept_with reported_source want place call)
       next_error true e turn at = next_refusal turn
       next_error false e turn at = next_fault turn e at
 

@@ -52,7 +52,7 @@ passed_next old mid new answer fresh p next =
           record {
             after = emitted.after;
             emits = between.comes _ _ emitted.emits;
-            line = emitted.line ∙ sym (between.lines _ _ emitted.emits);
+            call = emitted.call ∙ sym (between.calls _ _ emitted.emits);
             goes_on = emitted.goes_on;
           };
       no_refusal = given.no_refusal;
@@ -89,7 +89,7 @@ passed_again old mid new p q = record {
         between = second.between;
         stands = second.stands;
         comes = λ o f c. first.comes o f (second.comes o f c);
-        lines = λ o f c. first.lines o f (second.comes o f c) ∙ second.lines o f c;
+        calls = λ o f c. first.calls o f (second.comes o f c) ∙ second.calls o f c;
       };
   spent = q.spent ∙ p.spent;
   errors = passes_then (rules_of old).passes_dead_errors _ _ _ p.errors (passes_over old mid _ _ p.rules q.errors);

@@ -5,6 +5,7 @@ use Rattle.pp_lexer.specs.TokenValue.{is_ordinary}
 use Rattle.pp_lexer.specs.declared.token.Location.{Location}
 use Rattle.pp_lexer.specs.declared.token.Token.{Token}
 use Rattle.pp_model.specs.Emitting.{answers_at, expansion_limit}
+use Rattle.pp_model.specs.declared.splice.CallPlace.{CallPlace}
 use Rattle.pp_macros.specs.inner.Giving.{GivesAhead, passed, token_ahead}
 use Rattle.pp_macros.specs.inner.Idle.{is_idle}
 use Rattle.pp_macros.specs.inner.Reader.{of_source}
@@ -13,7 +14,7 @@ use Rattle.pp_macros.specs.inner.Expander.{Expander}
 use Rattle.pp_macros.specs.inner.Source.{Source}
 use Rattle.pp_macros.specs.declared.step.StepExit.TheVariants.{Continue}
 use Rattle.pp_directives.specs.inner.PlainText.{IsStep}
-use Rattle.pp_rs.specs.Kept.{Preprocessing, Stands, IsAhead, is_spent, most_items, errors_left, error_place, kept_line, rules_of}
+use Rattle.pp_rs.specs.Kept.{Preprocessing, Stands, IsAhead, is_spent, most_items, errors_left, error_place, kept_call, rules_of}
 use Rattle.pp_rs.specs.inner.NextWord.{IsPassed}
 use Rattle.pp_macros.specs.LexerErrors.{PassesErrors}
 use Rattle.pp_rs.specs.Preprocessing.{IsNextItem}
@@ -25,7 +26,7 @@ use Rattle.pp_rs.proofs.runs.Leads.{LeadsFrom}
 use Rattle.pp_rs.proofs.runs.UnreportedTurnLemmas.{errors_of}
 use Rattle.pp_directives.proofs.PassedErrorsLemmas.{passes_none}
 use Rattle.pp_rs.proofs.runs.PausesLemmas.{given_over}
-use Rattle.pp_rs.proofs.runs.NextLemmas.{Reached, reached_first, token_fits, free_line, next_token}
+use Rattle.pp_rs.proofs.runs.NextLemmas.{Reached, reached_first, token_fits, free_kept_call, next_token}
 
 -- a newline is a turn
 pub newline_over : (m : Expander) (r s : Source) → is_idle m ≡ true → IsStep r (Err Continue) s → StepsOver expansion_limit m r (Err Continue) m s
@@ -36,9 +37,9 @@ pub word_over : (m : Expander) (r s : Source) (token : Token) → is_idle m ≡ 
     → StepsOver expansion_limit m r (Ok token) m s
 word_over m r s token idle step itself = idle_token expansion_limit r s m token (is_idle-idle m idle) (step.reads, step.errors) itself
 
--- while no macro is open, no line is kept
-pub idle_line : (m : Expander) (line other : Option ℕ) → is_idle m ≡ true → kept_line m.held line m.frames ≡ kept_line m.held other m.frames
-idle_line m line other idle =
+-- while no macro is open, no call is kept
+pub idle_call : (m : Expander) (call other : Option CallPlace) → is_idle m ≡ true → kept_call m.held call m.frames ≡ kept_call m.held other m.frames
+idle_call m call other idle =
     let free : m.held ≡ None = ap (λ (k : Expander). k.held) (is_idle-idle m idle) in
     rw free refl
 
@@ -77,18 +78,18 @@ module _ {rules : Rules} (p : Preprocessing) (now : Expander) (source_now : Sour
   pub pass_fits : IsFit (passed now) source_now × IsReported rules (passed now) source_now
   pass_fits = token_fits p.expander now (passed now) p.source source_now source_now reached token over
 
-  pub ahead_passes : (spent : Bool) (place : Location) (line : Option ℕ) → spent ≡ false → place ≡ p.place → rules ≡ p.rules
-      → IsNextItem p (Some (Ok token)) (record { expander = passed now; source = source_now; spent = spent; place = place; name_line = line; rules = rules })
+  pub ahead_passes : (spent : Bool) (place : Location) (call : Option CallPlace) → spent ≡ false → place ≡ p.place → rules ≡ p.rules
+      → IsNextItem p (Some (Ok token)) (record { expander = passed now; source = source_now; spent = spent; place = place; name_call = call; rules = rules })
   unfolding IsAhead
-  ahead_passes spent place line fresh at ruled =
-      next_token p.expander now (passed now) p.source source_now source_now reached p ahead.0 refl refl ruled token spent place line fresh at
-      (free_line p.expander now (passed now) p.source source_now source_now reached p ahead.0 refl refl ruled now.held line
+  ahead_passes spent place call fresh at ruled =
+      next_token p.expander now (passed now) p.source source_now source_now reached p ahead.0 refl refl ruled token spent place call fresh at
+      (free_kept_call p.expander now (passed now) p.source source_now source_now reached p ahead.0 refl refl ruled now.held call
       (ap (λ (m : Expander). m.held) (sym is) ∙ ahead.3.free)) over ahead.3.holds
 
 -- nothing was passed
 pub passed_nothing : (p : Preprocessing) → IsPassed p p
 passed_nothing p = record {
-  item = λ state stands. record { between = state; stands = stands; comes = λ o f c. c; lines = λ o f c. refl };
+  item = λ state stands. record { between = state; stands = stands; comes = λ o f c. c; calls = λ o f c. refl };
   spent = refl;
   errors = passes_none (rules_of p).passes_dead_errors _ _ refl;
   place = refl;
@@ -97,18 +98,18 @@ passed_nothing p = record {
 }
 
 -- only pauses were
-pub passed_pauses : (old : Preprocessing) (now : Expander) (source_now : Source) (spent : Bool) (place : Location) (line : Option ℕ) (rules : Rules)
+pub passed_pauses : (old : Preprocessing) (now : Expander) (source_now : Source) (spent : Bool) (place : Location) (call : Option CallPlace) (rules : Rules)
     → Reached rules old.expander old.source now source_now → old.spent ≡ false → spent ≡ false → place ≡ old.place → rules ≡ old.rules
-    → IsPassed old (record { expander = now; source = source_now; spent = spent; place = place; name_line = line; rules = rules })
+    → IsPassed old (record { expander = now; source = source_now; spent = spent; place = place; name_call = call; rules = rules })
 unfolding Stands is_spent errors_left error_place most_items rules_of
-passed_pauses old now source_now spent place line rules r fresh same at ruled = record {
+passed_pauses old now source_now spent place call rules r fresh same at ruled = record {
   item = λ state stands.
       let leads : LeadsFrom (answers_at expansion_limit) state (Err Continue) None now source_now = r.leads.from state stands in
       record {
         between = leads.0;
         stands = leads.1;
         comes = λ o f c. record { taken = c.taken; emits = (leads.2 c.taken f c.emits).0; is = c.is };
-        lines = λ o f c. (leads.2 c.taken f c.emits).1;
+        calls = λ o f c. (leads.2 c.taken f c.emits).1;
       };
   spent = same ∙ sym fresh;
   errors = subst (λ (by : Rules). PassesErrors by.passes_dead_errors (errors_of old.expander old.source) (errors_of now source_now)) ruled r.errors;

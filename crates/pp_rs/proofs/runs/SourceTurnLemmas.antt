@@ -10,7 +10,7 @@ use Rattle.pp_model.specs.Names.{Name}
 use Rattle.pp_model.specs.Painting.{item_of}
 use Rattle.pp_model.specs.Reading.{Expander, masked_names}
 use Rattle.pp_model.specs.SourceReader.{SourceReader}
-use Rattle.pp_model.specs.SpliceList.{open_names, macro_before, outermost_line}
+use Rattle.pp_model.specs.SpliceList.{open_names, macro_before, outermost_call}
 use Rattle.pp_model.specs.declared.read.Read.{Read}
 use Rattle.pp_model.specs.declared.read.Taken.{Taken as Given}
 use Rattle.pp_model.specs.declared.read.Taken.TheVariants as given
@@ -20,14 +20,14 @@ use Rattle.pp_macros.specs.inner.CallTurns.{TurnsTo, TurnsOrRefuses, TakesSometh
 use Rattle.pp_macros.specs.inner.Defined.{Defined}
 use Rattle.pp_macros.specs.inner.Finishing.{site_at, Finishes, IsOpened}
 use Rattle.pp_rs.specs.inner.Fit.{EndIsLast, IsFit}
-use Rattle.pp_macros.specs.inner.Frames.{Frame, new_frame, flat, names_of, outermost_frame_line}
+use Rattle.pp_macros.specs.inner.Frames.{Frame, new_frame, flat, names_of, outermost_frame_call}
 use Rattle.pp_macros.specs.Halting.{exit_of}
 use Rattle.pp_macros.specs.Item.{Step, wants_memory}
 use Rattle.pp_macros.specs.inner.Left.{work_of, most_alone, most_bodies, most_open, reads_left, regions, regions_of, one_more, holding_step, IsSound}
 use Rattle.pp_macros.specs.inner.Expander as kept
 use Rattle.pp_macros.specs.inner.Reader.{of_source}
 use Rattle.pp_rs.specs.Comes.{source_rules}
-use Rattle.pp_rs.specs.Kept.{kept_line}
+use Rattle.pp_rs.specs.Kept.{kept_call}
 use Rattle.pp_macros.specs.inner.Source.{Source}
 use Rattle.pp_rs.specs.inner.SourceTurns.{FollowsCall, opened, refused, FollowsTurn, TurnsSource, StepsOver}
 use Rattle.pp_rs.specs.inner.Stands.{StandsForReader, StandsForHeld, StandsFor}
@@ -47,7 +47,7 @@ use Rattle.pp_rs.proofs.runs.ReadyLemmas.{turn_ready, turn_last, turn_end, turn_
 use Rattle.pp_macros.proofs.taking.SearchSimulates.{StandsIn, StandsHeld}
 use Rattle.pp_rs.proofs.runs.SourceLeadsLemmas.{IsSource, sources_simulate, source_shows, source_hides, source_sees, source_leads}
 use Rattle.pp_macros.proofs.work.SpendLemmas.{Falls, no_more_falls, one_more_falls}
-use Rattle.pp_macros.proofs.taking.TurnLeadsLemmas.{LeadsTo, line_after}
+use Rattle.pp_macros.proofs.taking.TurnLeadsLemmas.{LeadsTo, item_call_after}
 use Rattle.pp_macros.proofs.work.WorkFallsLemmas.{frame_of, falls_work}
 use Rattle.pp_model.specs.Numbering.{list_numbering}
 use Rattle.pp_model.specs.declared.numbering.Numbering.{Numbering}
@@ -112,8 +112,8 @@ module _ (levels : ℕ) (m : kept.Expander) (old new : Source) (fit : IsFit m ol
   opened_less (suc lower) e c n p pend o =
       let one : suc lower - 1 ≡ lower = omega arith in
       let least : All (λ (a : List Read). length a ≤ most_alone lower new.definitions (length c.tokens)) o.arguments = rw (← one) o.least in
-      let at : p ≡ record { held = None; frames = new_frame c.opened c.closing.line o.arguments ∷ n.frames } = o.opens
-      ∙ ap (λ (h : Option (Step Read)). record { held = h; frames = new_frame c.opened c.closing.line o.arguments ∷ n.frames }) pend.free in
+      let at : p ≡ record { held = None; frames = new_frame c.opened c.call o.arguments ∷ n.frames } = o.opens
+      ∙ ap (λ (h : Option (Step Read)). record { held = h; frames = new_frame c.opened c.call o.arguments ∷ n.frames }) pend.free in
       rw at (pending_opens lower m (of_source old) c n (of_source new) o.arguments pend least)
 
   call_after : (c : MacroCall) (n p : kept.Expander) (step : Step Token) → IsPending levels m (of_source old) c n (of_source new)
@@ -224,32 +224,32 @@ module _ (levels : ℕ) (m : kept.Expander) (old new : Source) (fit : IsFit m ol
   abbrev LeadsBy : Step Taken → kept.Expander → Type 0
   LeadsBy t n = LeadsTo source_rules IsSource [] sources_simulate source_shows source_hides source_sees (answers_at levels) t e n (of_source new)
 
-  -- the line of an item, over frames
-  lines_same : (o : Option (Step Read)) (before after : List Entry) (frames left : List Frame) → before ≡ flat frames → after ≡ flat left
-      → kept_line o (outermost_frame_line frames) left ≡ line_after o before after
-  lines_same None before after frames left is becomes = sym (ap outermost_line becomes ∙ outermost_flat left)
-  lines_same (Some step) before after frames left is becomes = sym (ap outermost_line is ∙ outermost_flat frames)
+  -- the call of an item, over frames
+  calls_same : (o : Option (Step Read)) (first last : List Entry) (frames left : List Frame) → first ≡ flat frames → last ≡ flat left
+      → kept_call o (outermost_frame_call frames) left ≡ item_call_after o first last
+  calls_same None first last frames left is becomes = sym (ap outermost_call becomes ∙ outermost_flat left)
+  calls_same (Some step) first last frames left is becomes = sym (ap outermost_call is ∙ outermost_flat frames)
 
-  free_line : (o : Option (Step Read)) (left : List Frame) → o ≡ None → (after : List Entry) → after ≡ flat left
-      → kept_line o (outermost_frame_line m.frames) left ≡ outermost_line after
-  free_line None left free after becomes = sym (ap outermost_line becomes ∙ outermost_flat left)
-  free_line (Some step) left free after becomes = cc
+  free_kept_call : (o : Option (Step Read)) (left : List Frame) → o ≡ None → (after : List Entry) → after ≡ flat left
+      → kept_call o (outermost_frame_call m.frames) left ≡ outermost_call after
+  free_kept_call None left free after becomes = sym (ap outermost_call becomes ∙ outermost_flat left)
+  free_kept_call (Some step) left free after becomes = cc
 
   -- an item without its paint
   abbrev item : (x : Given) (f : Expander SourceReader) → Emits source_rules (answers_at levels) e x f → GivesItem (answers_at levels) e (item_of x) f
   item x f emits = record { taken = x; emits = emits; is = refl }
 
   call_leads : (c : MacroCall) (n p : kept.Expander) (step : Step Token) → n.held ≡ None → LeadsBy (Ok (taken.Call c)) n
-      → FollowsCall levels new c n step p → LeadsFrom (answers_at levels) e step (outermost_frame_line m.frames) p new
+      → FollowsCall levels new c n step p → LeadsFrom (answers_at levels) e step (outermost_frame_call m.frames) p new
   call_leads c n p step free led (opened is o) =
-      let f : Expander SourceReader = record led.0 { list = macro_before c.opened.name c.opened.definition c.closing.line o.arguments led.0.list } in
+      let f : Expander SourceReader = record led.0 { list = macro_before c.opened.name c.opened.definition c.call o.arguments led.0.list } in
       let k = led.1 in
       rw is (
         f,
         subst (λ (q : kept.Expander). StandsFor q new f) (sym o.opens)
             (record {
               held = k.holds;
-              list = ap (macro_before c.opened.name c.opened.definition c.closing.line o.arguments) k.list;
+              list = ap (macro_before c.opened.name c.opened.definition c.call o.arguments) k.list;
               reader = held_for n.held new led.0.reader k.reader;
               hidden = k.names;
             }),
@@ -257,16 +257,16 @@ module _ (levels : ℕ) (m : kept.Expander) (old new : Source) (fit : IsFit m ol
       )
   call_leads c n p step free led (refused fault is answers same) =
       let emitted = led.2 fault (subst (λ (x : Site). answers_at levels c.opened.definition x (Err fault)) (sym (site_same c n new led.0 led.1 free)) answers) in
-      rw (is, same) (led.0, item (given.Fault fault) led.0 emitted.0, free_line n.held n.frames free led.0.list led.1.list ∙ sym emitted.1)
+      rw (is, same) (led.0, item (given.Fault fault) led.0 emitted.0, free_kept_call n.held n.frames free led.0.list led.1.list ∙ sym emitted.1)
 
   follows_lead : (step : Step Token) (n p : kept.Expander) (t : Step Taken) → TurnsTo m (of_source old) t n (of_source new) → LeadsBy t n
-      → FollowsTurn levels new t n step p → LeadsFrom (answers_at levels) e step (outermost_frame_line m.frames) p new
+      → FollowsTurn levels new t n step p → LeadsFrom (answers_at levels) e step (outermost_frame_call m.frames) p new
   follows_lead step n p (Ok (taken.Token read)) turns led follows =
       rw (follows.0, follows.1) (
         led.0,
         item (given.Token read) led.0 led.1,
         stands_for n new led.0 led.2,
-        lines_same n.held e.list led.0.list m.frames n.frames stands.list led.2.list ∙ sym led.3,
+        calls_same n.held e.list led.0.list m.frames n.frames stands.list led.2.list ∙ sym led.3,
       )
   follows_lead step n p (Ok (taken.Call c)) turns led follows =
       let pend : IsPending levels m (of_source old) c n (of_source new) =
@@ -278,14 +278,14 @@ module _ (levels : ℕ) (m : kept.Expander) (old new : Source) (fit : IsFit m ol
         led.0,
         item given.End led.0 led.1,
         stands_for n new led.0 led.2,
-        free_line n.held n.frames led.3 led.0.list led.2.list ∙ sym led.4,
+        free_kept_call n.held n.frames led.3 led.0.list led.2.list ∙ sym led.4,
       )
   follows_lead step n p (Err (Error fault)) turns led follows =
-      rw (follows.0, follows.1) (led.0, item (given.Fault fault) led.0 led.1, free_line n.held n.frames led.3 led.0.list led.2 ∙ sym led.4)
+      rw (follows.0, follows.1) (led.0, item (given.Fault fault) led.0 led.1, free_kept_call n.held n.frames led.3 led.0.list led.2 ∙ sym led.4)
 
 -- One turn: a token, a fault or the end is the next item, and a pause keeps it.
 pub source_turn_leads : (levels : ℕ) (m n : kept.Expander) (old new : Source) (step : Step Token) → IsFit m old → TurnsSource levels m old step n new
-    → wants_memory step ≡ false → Leads (answers_at levels) m old step (outermost_frame_line m.frames) n new
+    → wants_memory step ≡ false → Leads (answers_at levels) m old step (outermost_frame_call m.frames) n new
 source_turn_leads levels m n old new step fit h reported = record {
   from = λ e stands.
       follows_lead levels m old new fit e stands step h.between n h.taken h.turns

@@ -30,7 +30,7 @@ start_by rules text = record {
   };
   spent = false;
   place = nowhere;
-  name_line = None;
+  name_call = None;
   rules = rules;
 }
 

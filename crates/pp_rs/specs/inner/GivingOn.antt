@@ -1,14 +1,15 @@
 -- How far `give_tokens` has got.
 use Rattle.std.specs.Prelude.{◌≡◌, ◌<◌, ◌≤◌, Bool, true, false, ℕ, Option}
-use Rattle.pp_macros.specs.inner.Frames.{outermost_frame_line}
+use Rattle.pp_macros.specs.inner.Frames.{outermost_frame_call}
 use Rattle.pp_rs.specs.Giving.{AreGiven}
 use Rattle.pp_rs.specs.Kept.{Preprocessing, is_spent, most_items}
 use Rattle.pp_rs.specs.inner.NextWord.{IsPassed}
 use Rattle.pp_rs.specs.declared.pp.token_ref.TokenRef.{TokenRef}
+use Rattle.pp_model.specs.declared.splice.CallPlace.{CallPlace}
 
--- the line of the call that gives the next token, if an open macro gives it
-abbrev pub IsFrontLine : Option ℕ → Preprocessing → Type 0
-IsFrontLine line p = line ≡ outermost_frame_line p.expander.frames
+-- the call that gives the next token, if an open macro gives it
+abbrev pub IsFrontCall : Option CallPlace → Preprocessing → Type 0
+IsFrontCall call p = call ≡ outermost_frame_call p.expander.frames
 
 -- tokens were given, and then only pauses were passed
 pub record IsGiving {S : Type 0} (takes : S → TokenRef → S → Type 0) (start : Preprocessing) (first : S)

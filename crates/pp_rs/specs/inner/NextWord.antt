@@ -10,12 +10,13 @@ use Rattle.pp_model.specs.declared.outcome.Outcome.{Outcome}
 use Rattle.pp_directives.specs.WordTokens.{word_token}
 use Rattle.pp_macros.specs.inner.Defined.{Defined, Macro, AreNumbered, meaning_of, names_in, numbered_by, opened_by}
 use Rattle.pp_macros.specs.inner.Expander.{Expander}
-use Rattle.pp_macros.specs.inner.Frames.{new_frame}
+use Rattle.pp_macros.specs.inner.Frames.{new_frame, bare_call}
 use Rattle.pp_macros.specs.Item.{Item}
 use Rattle.pp_macros.specs.LexerErrors.{PassesErrors}
-use Rattle.pp_model.specs.CallLine.{item_line}
+use Rattle.pp_model.specs.ItemCall.{item_call}
+use Rattle.pp_lexer.specs.declared.token.Location.{Location}
 use Rattle.pp_rs.specs.Comes.{State, Comes}
-use Rattle.pp_rs.specs.Kept.{Preprocessing, Stands, IsAhead, is_spent, most_items, errors_left, error_place, call_line}
+use Rattle.pp_rs.specs.Kept.{Preprocessing, Stands, IsAhead, is_spent, most_items, errors_left, error_place, call_place}
 use Rattle.pp_rs.specs.Kept.{rules_of}
 use Rattle.pp_rs.specs.Preprocessing.{IsNextItem}
 use Rattle.pp_rs.specs.inner.Fit.{IsInLiveText}
@@ -26,8 +27,8 @@ pub record StandsBetween (new : Preprocessing) (state : State) : Type 0 where
   pub between : State
   pub stands : Stands new between
   pub comes : (outcome : Outcome) (after : State) → Comes between outcome after → Comes state outcome after
-  pub lines : (outcome : Outcome) (after : State) (later : Comes between outcome after)
-      → item_line (comes outcome after later).emits ≡ item_line later.emits
+  pub calls : (outcome : Outcome) (after : State) (later : Comes between outcome after)
+      → item_call (comes outcome after later).emits ≡ item_call later.emits
 
 -- nothing was given, and everything that was to come still comes
 pub record IsPassed (old new : Preprocessing) : Type 0 where
@@ -50,22 +51,22 @@ ReadsText p = IsInLiveText p.expander p.source p.spent
 -- the next token is this word, which no macro gives, and the text goes on
 pub record IsWord (old : Preprocessing) (word : PlainItem) (new : Preprocessing) : Type 0 where
   pub next : IsNextItem old (Some (Ok (word_token word))) new
-  pub line : call_line new ≡ None
+  pub call : call_place new ≡ None
   pub plain : IsPlain word
   pub reads : ReadsText new
 
--- the macro opens whose name has this number
-pub record OpensNumbered (definitions : List Defined) (id line : ℕ) (old new : Expander) : Type 0 where
+-- the macro opens whose name has this number and is at this place
+pub record OpensNumbered (definitions : List Defined) (id : ℕ) (name : Location) (old new : Expander) : Type 0 where
   pub opened : Macro
-  pub is : (name : Name) → position (is_same_name name) (names_in definitions) ≡ Some id
-      → Some (opened.name, opened.definition) ≡ opened_by name (meaning_of definitions name)
+  pub is : (known : Name) → position (is_same_name known) (names_in definitions) ≡ Some id
+      → Some (opened.name, opened.definition) ≡ opened_by known (meaning_of definitions known)
   pub numbered : AreNumbered (names_in definitions) (numbered_by opened)
-  pub opens : new ≡ record old { frames = new_frame opened line [] ∷ old.frames }
+  pub opens : new ≡ record old { frames = new_frame opened (bare_call name) [] ∷ old.frames }
 
 -- nothing was given; if a macro has opened, less is left
 pub record IsPassedText (old new : Preprocessing) : Type 0 where
   pub passed : IsPassed old new
-  pub less_left : is_some (call_line new) ≡ true → most_items new < most_items old
+  pub less_left : is_some (call_place new) ≡ true → most_items new < most_items old
 
 -- one call of `next_word`
 abbrev pub IsNextWord : Preprocessing → Option PlainItem → Preprocessing → Type 0

@@ -52,7 +52,7 @@ impl<'a> Preprocessor<'a> {
                     if !token.is_ordinary() {
                         return Ok(Some(Ok(token)));
                     }
-                    let given = sink.take(TokenRef::of_token(&token, self.call_line()));
+                    let given = sink.take(TokenRef::of_token(&token, self.call_place()));
                     drop(token);
                     given?;
                 }
@@ -81,7 +81,7 @@ impl<'a> Preprocessor<'a> {
             self.pay()?;
             sink.take(TokenRef::of_word(&word))?;
         }
-        Ok(self.call_line().is_some())
+        Ok(self.call_place().is_some())
     }
 
     // Gives the tokens to the sink that the open macros give next, from their lists.

@@ -1,7 +1,7 @@
 //! The items of a preprocessed source.
 
 ghost use Rattle.std.specs.Prelude.{◌≡◌, ◌-◌, ◌^◌, ◌<◌, [], false, length, if◌then◌else◌, true, IsTrue, OnOk};
-ghost use Rattle.std.specs.Prelude.{OnErr, IfOk, IfErr, ℕ, Option, None, Some, Ok, Err, unwrap_or};
+ghost use Rattle.std.specs.Prelude.{OnErr, IfOk, IfErr, Option, None, Some, Ok, Err, option_map, unwrap_or};
 ghost use Rattle.pp_lexer.specs.declared.token.Token.{Token};
 ghost use Rattle.std.specs.Iterator.{at_most};
 ghost use Rattle.pp_lexer.specs.Location.{nowhere};
@@ -10,10 +10,10 @@ ghost use Rattle.pp_lexer.specs.PreprocessorError.{out_of_memory};
 ghost use Rattle.pp_model.specs.Names.{Name};
 ghost use Rattle.pp_model.specs.Run.{items_by, items_of, start, start_by};
 ghost use Rattle.pp_rs.specs.Adding.{IsAdded};
-ghost use Rattle.pp_rs.specs.inner.GivingOn.{IsFrontLine};
+ghost use Rattle.pp_rs.specs.inner.GivingOn.{IsFrontCall};
 ghost use Rattle.pp_rs.specs.TokenRefs.{token_of};
 ghost use Rattle.pp_macros.specs.Item.{is_out_of_memory};
-ghost use Rattle.pp_rs.specs.Kept.{Stands, IsAhead, is_spent, most_items, errors_left, error_place, call_line};
+ghost use Rattle.pp_rs.specs.Kept.{Stands, IsAhead, is_spent, most_items, errors_left, error_place, call_place};
 ghost use Rattle.pp_rs.specs.Kept.{rules_of};
 ghost use Rattle.pp_macros.specs.LexerErrors.{lexer_errors, lexer_errors_by};
 ghost use Rattle.pp_directives.specs.WordTokens.{word_token};
@@ -34,6 +34,7 @@ use pp_macros::halt::Halt;
 use pp_macros::macro_processor::MacroProcessor;
 use pp_macros::names::{Definitions, NameId};
 use pp_macros::step::{StepExit, is_out_of_memory};
+use pp_model::splice::CallPlace;
 use std::alloc::{AllocError, Global};
 use std::marker::Model;
 
@@ -51,8 +52,9 @@ pub struct Preprocessor<'a> {
     source: DirectiveProcessor<'a>,
     spent: bool,
     place: Location,
-    // The line of the outermost macro that was open before the last turn. If a step is held, that turn gave a name.
-    name_line: Option<u32>,
+    // Where the outermost macro was called that was open before the last turn. If a step is held, that turn gave a
+    // name.
+    name_call: Option<CallPlace>,
     // Whether the next token is known to be read from live text. Most tokens are, and nothing else is then asked.
     in_text: bool,
 }
@@ -69,7 +71,7 @@ impl<'a> Model for Preprocessor<'a> {
       source = p.source;
       spent = p.spent;
       place = p.place;
-      name_line = p.name_line;
+      name_call = p.name_call;
       rules = p.rules;
     } };
 
@@ -111,23 +113,27 @@ fn refused_item(
     Err(error)
 }
 
-// Opens the macro without parentheses whose name has this number.
+// Opens the macro without parentheses whose name has this number and is at this place, which is given by its parts: so
+// words that open none are never put into memory.
 #[inline(never)]
 fn open_numbered(
     expander: &mut MacroProcessor,
     definitions: &Definitions,
     id: NameId,
+    start: u32,
+    end: u32,
     line: u32,
 ) -> Result<(), AllocError>
-    requires { (name : Name) × IsBare definitions.now id name }
-    ensures opens { OnOk result (OpensNumbered definitions.now id line expander.old.here expander.new.here) }
+    requires { (known : Name) × IsBare definitions.now id known }
+    ensures opens { OnOk result (OpensNumbered definitions.now id (record { start = start; end = end; line = line })
+        expander.old.here expander.new.here) }
     ensures below { expander.new.below ≡ expander.old.below }
 {
     let Some(found) = definitions.get_define(id) else {
         unreachable!();
     };
     let opened = found.clone()?;
-    expander.open_bare(opened, line)
+    expander.open_bare(opened, Location { start, end, line })
 }
 
 impl<'a> Preprocessor<'a> {
@@ -140,7 +146,7 @@ impl<'a> Preprocessor<'a> {
         ensures stands { Stands result (start (items_of input.now)) }
         ensures errors { errors_left result ≡ lexer_errors input.now }
         ensures place { error_place result ≡ nowhere }
-        ensures line { call_line result ≡ None }
+        ensures call { call_place result ≡ None }
         ensures rules { rules_of result ≡ pp_rs }
     {
         Preprocessor::with_rules(alloc, input, Rules::PP_RS)
@@ -154,7 +160,7 @@ impl<'a> Preprocessor<'a> {
         ensures stands { Stands result (start_by rules (items_by rules input.now)) }
         ensures errors { errors_left result ≡ lexer_errors_by rules input.now }
         ensures place { error_place result ≡ nowhere }
-        ensures line { call_line result ≡ None }
+        ensures call { call_place result ≡ None }
         ensures rules { rules_of result ≡ rules }
     {
         Preprocessor {
@@ -164,7 +170,7 @@ impl<'a> Preprocessor<'a> {
             source: DirectiveProcessor::new(alloc, input, rules),
             spent: false,
             place: NOWHERE,
-            name_line: None,
+            name_call: None,
             in_text: false,
         }
     }
@@ -218,9 +224,9 @@ impl<'a> Preprocessor<'a> {
                 Some((word, None)) => return Ok(Some(word)),
                 Some((word, Some(id))) => {
                     let definitions = self.source.definitions();
-                    let line = word.location.line;
+                    let Location { start, end, line } = word.location;
                     self.in_text = false;
-                    match open_numbered(&mut self.expander, definitions, id, line) {
+                    match open_numbered(&mut self.expander, definitions, id, start, end, line) {
                         Ok(()) => return Ok(None),
                         Err(refused) => {
                             self.spent = true;
@@ -312,7 +318,7 @@ impl<'a> Preprocessor<'a> {
         ensures { IsNextStep self.old result self.new }
     {
         self.in_text = false;
-        self.name_line = self.expander.outermost_line();
+        self.name_call = self.expander.outermost_call();
         match turn_source(self.alloc, &mut self.expander, &mut self.source) {
             Ok(token) => Some(Some(Ok(token))),
             Err(StepExit::Error(error)) => Some(Some(refused_item(
@@ -405,11 +411,11 @@ impl<'a> Preprocessor<'a> {
     pub(crate) fn front(&self) -> TokenRef<'_>
         requires { SomeAhead self.now }
         ensures ahead { IsAhead self.now (token_of result) }
-        ensures line { IsFrontLine result.call_line self.now }
+        ensures call { IsFrontCall result.call self.now }
         ensures some_left { 0 < most_items self.now }
     {
         match self.expander.token() {
-            Some(token) => TokenRef::of_token(token, self.expander.outermost_line()),
+            Some(token) => TokenRef::of_token(token, self.expander.outermost_call()),
             None => unreachable!(),
         }
     }
@@ -419,7 +425,7 @@ impl<'a> Preprocessor<'a> {
     pub(crate) fn pass(&mut self)
         requires { SomeAhead self.old }
         ensures gives { (token : Token) → IsAhead self.old token → IsNextItem self.old (Some (Ok token)) self.new }
-        ensures line { (line : Option ℕ) → IsFrontLine line self.old → line ≡ call_line self.new }
+        ensures call { IsFrontCall (call_place self.new) self.old }
     {
         self.in_text = false;
         self.expander.pass_token();
@@ -477,21 +483,32 @@ impl<'a> Preprocessor<'a> {
         self.place
     }
 
-    /// Returns the line of the macro call from which the last item of `next` came, numbered as in a token's place.
+    /// Returns where the macro was called from which the last item of `next` came.
     ///
-    /// It is the line of the outermost macro that was open when the token was taken or the error was found: the line of
-    /// its name, or of the `)` of its call. It is `None` if no macro was open, as after a token of the source itself,
-    /// an error of a directive, and the end. (The place of an item that a macro gives is in that macro's definition, or
-    /// in the content that `add_define` was given.) `add_define` leaves it as it is. After an `OutOfMemory` its value
-    /// is not specified.
+    /// It is the outermost macro that was open when the token was taken or the error was found. It is `None` if no
+    /// macro was open, as after a token of the source itself, an error of a directive, and the end. (The place of an
+    /// item that a macro gives is in that macro's definition, or in the content that `add_define` was given.)
+    /// `add_define` leaves it as it is. After an `OutOfMemory` its value is not specified.
     #[inline(always)]
-    pub fn call_line(&self) -> Option<u32>
-        ensures { result ≡ call_line self.now }
+    pub fn call_place(&self) -> Option<CallPlace>
+        ensures { result ≡ call_place self.now }
     {
         if self.expander.is_holding() {
-            return self.name_line;
+            return self.name_call;
         }
-        self.expander.outermost_line()
+        self.expander.outermost_call()
+    }
+
+    /// Returns the line of [`call_place`](Preprocessor::call_place), numbered as in a token's place: the line of the
+    /// macro's name, or of the `)` of its call.
+    #[inline(always)]
+    pub fn call_line(&self) -> Option<u32>
+        ensures { result ≡ option_map (λ call. call.line) (call_place self.now) }
+    {
+        match self.call_place() {
+            Some(call) => Some(call.line),
+            None => None,
+        }
     }
 
     /// Defines the name as an object-like macro, replacing any definition of it, as `Preprocessor::add_define` of pp-rs

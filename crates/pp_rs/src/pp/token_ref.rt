@@ -11,6 +11,7 @@ ghost use Rattle.pp_rs.specs.TokenRefs.{TakesText, token_of, value_of};
 use crate::lexer::{Form, PlainItem, without_suffix};
 use crate::pp::spelling::{push_float, push_integer, push_punct};
 use crate::token::{Integer, Location, Punct, Token, TokenValue};
+use pp_model::splice::CallPlace;
 use std::alloc::AllocError;
 
 /// The value of an ordinary token, before memory is taken for it.
@@ -33,9 +34,9 @@ pub struct TokenRef<'a> {
     pub value: ValueRef<'a>,
     /// Its place.
     pub location: Location,
-    /// The line of the macro call that gave it, as [`Preprocessor::call_line`](crate::pp::Preprocessor::call_line)
+    /// Where the macro was called that gave it, as [`Preprocessor::call_place`](crate::pp::Preprocessor::call_place)
     /// tells it.
-    pub call_line: Option<u32>,
+    pub call: Option<CallPlace>,
 }
 
 /// What takes the tokens of [`Preprocessor::give_tokens`](crate::pp::Preprocessor::give_tokens).
@@ -67,26 +68,26 @@ impl<'a> TokenRef<'a> {
     pub(crate) fn of_word(word: &PlainItem<'a>) -> TokenRef<'a>
         requires { IsPlain word.now }
         ensures token { token_of result ≡ word_token word.now }
-        ensures line { result.call_line ≡ None }
+        ensures call { result.call ≡ None }
     {
         TokenRef {
             value: ValueRef::of_word(word),
             location: word.location,
-            call_line: None,
+            call: None,
         }
     }
 
-    // A token, and the line of the call that gave it.
+    // A token, and the call that gave it.
     #[inline(always)]
-    pub(crate) fn of_token(token: &'a Token, call_line: Option<u32>) -> TokenRef<'a>
+    pub(crate) fn of_token(token: &'a Token, call: Option<CallPlace>) -> TokenRef<'a>
         requires { IsTrue (is_ordinary token.now.value) }
         ensures token { token_of result ≡ token.now }
-        ensures line { result.call_line ≡ call_line }
+        ensures call { result.call ≡ call }
     {
         TokenRef {
             value: ValueRef::of_value(&token.value),
             location: token.location,
-            call_line,
+            call,
         }
     }
 }

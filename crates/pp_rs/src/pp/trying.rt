@@ -6,7 +6,7 @@ ghost use Rattle.pp_lexer.specs.Location.{nowhere};
 ghost use Rattle.pp_lexer.specs.Rules.{pp_rs};
 ghost use Rattle.pp_model.specs.Run.{items_by, items_of, start, start_by};
 ghost use Rattle.pp_macros.specs.LexerErrors.{lexer_errors, lexer_errors_by};
-ghost use Rattle.pp_rs.specs.Kept.{Stands, is_spent, errors_left, error_place, call_line, rules_of};
+ghost use Rattle.pp_rs.specs.Kept.{Stands, is_spent, errors_left, error_place, call_place, rules_of};
 ghost use Rattle.pp_rs.specs.Trying.{IsTried, add_sentence};
 
 use crate::SOURCE_LIMIT;
@@ -62,7 +62,7 @@ impl<'a> Preprocessor<'a> {
         ensures stands { IfSome result (λ pp. Stands pp (start (items_of input.now))) }
         ensures errors { IfSome result (λ pp. errors_left pp ≡ lexer_errors input.now) }
         ensures place { IfSome result (λ pp. error_place pp ≡ nowhere) }
-        ensures line { IfSome result (λ pp. call_line pp ≡ None) }
+        ensures call { IfSome result (λ pp. call_place pp ≡ None) }
         ensures rules { IfSome result (λ pp. rules_of pp ≡ pp_rs) }
     {
         Preprocessor::try_with_rules(alloc, input, Rules::PP_RS)
@@ -76,7 +76,7 @@ impl<'a> Preprocessor<'a> {
         ensures stands { IfSome result (λ pp. Stands pp (start_by rules (items_by rules input.now))) }
         ensures errors { IfSome result (λ pp. errors_left pp ≡ lexer_errors_by rules input.now) }
         ensures place { IfSome result (λ pp. error_place pp ≡ nowhere) }
-        ensures line { IfSome result (λ pp. call_line pp ≡ None) }
+        ensures call { IfSome result (λ pp. call_place pp ≡ None) }
         ensures rules { IfSome result (λ pp. rules_of pp ≡ rules) }
     {
         if input.len() >= SOURCE_LIMIT {

@@ -25,12 +25,17 @@ returns-then-not-is_idle-clause-takes g c = run_now _ _ _ _ _ _ _ c.push_next.en
 
 pub returns-in_err-found-clause-takes : goal.returns-in_err-found-clause-takes
 returns-in_err-found-clause-takes g c =
-    let e = err_from_is_err_and c.from_residual.result c.from_residual.ensures.1 in
+    let e = err_from_is_err_and c.from_residual-in_err-found.result c.from_residual-in_err-found.ensures.1 in
     rw (e.1 ∙ ap Err e.2) (run_refused _ _ _ _ _ _)
 
 pub returns-in_err-pay-clause-takes : goal.returns-in_err-pay-clause-takes
 returns-in_err-pay-clause-takes g c =
-    let e = err_from_is_err_and c.from_residual-in_err-pay.result c.from_residual-in_err-pay.ensures.1 in
+    let e = err_from_is_err_and c.from_residual.result c.from_residual.ensures.1 in
+    rw (e.1 ∙ ap Err e.2) (run_refused _ _ _ _ _ _)
+
+pub returns-in_err-pay-2-clause-takes : goal.returns-in_err-pay-2-clause-takes
+returns-in_err-pay-2-clause-takes g c =
+    let e = err_from_is_err_and c.from_residual-in_err-pay-2.result c.from_residual-in_err-pay-2.ensures.1 in
     rw (e.1 ∙ ap Err e.2) (run_refused _ _ _ _ _ _)
 
 pub paint_from-requires : goal.paint_from-requires

@@ -1,4 +1,4 @@
-use Rattle.std.proofs.Common.{◌∙◌, refl, arith}
+use Rattle.std.proofs.Common.{◌∙◌, refl, arith, sym}
 use Rattle.pp_rs.specs.TokenRefs.{token_of}
 use Rattle.pp_rs.proofs.runs.GivingLemmas.{giving_passes, giving_refused, giving_takes, on_err, token_unspent}
 use Rattle.pp_rs.proofs.pp.preprocessor.Preprocessor.give_front.Goals as goal
@@ -20,7 +20,7 @@ tokens-preserved g c =
       rules = next.rules ∙ passed.rules ∙ before.rules;
       giving = λ start first p.
           giving_takes _ start _ first _ (giving_passes _ start _ first _ (before.giving start first p) _ passed) fresh token _ _ next
-          (c.pass.ensures.line _ c.front-token.ensures.line) (c.in_ok-take.ensures {u = tt});
+          (c.front-token.ensures.call ∙ sym c.pass.ensures.call) (c.in_ok-take.ensures {u = tt});
     }
 
 -- no more tokens

@@ -31,7 +31,7 @@ words-preserved g c =
       rules = word.next.rules ∙ before.rules;
       giving = λ start first p.
           giving_word _ start _ first _ (before.giving start first p) before.reads.unspent c.in-Some.word _ c.of_word.result _ word
-          c.of_word.ensures.token c.of_word.ensures.line (c.in_ok-take.ensures {u = tt});
+          c.of_word.ensures.token c.of_word.ensures.call (c.in_ok-take.ensures {u = tt});
     }
 
 pub words-smaller : goal.words-smaller
@@ -53,7 +53,7 @@ pub returns-clause-left : goal.returns-clause-left
 returns-clause-left g c =
     let text = rw c.in_default.is at (c.in_ok-word.ensures {u = tt}).gives in
     has_left _ _ _ _ c.words.invariant.left text.passed.no_more_left
-    (λ opened. text.less_left (rw c.call_line.ensures at (sym c.is_some.ensures ∙ opened)))
+    (λ opened. text.less_left (rw c.call_place.ensures at (sym c.is_some.ensures ∙ opened)))
 
 pub returns-clause-giving : goal.returns-clause-giving
 returns-clause-giving g c = λ start first p.

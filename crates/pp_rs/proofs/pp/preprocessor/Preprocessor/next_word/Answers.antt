@@ -1,16 +1,17 @@
 use Rattle.std.proofs.Common.{◌≡◌, ◌∙◌, ℕ, true, Option, Some, None, refl, ap, sym, subst}
 use Rattle.std.specs.Prelude.{is_some}
+use Rattle.pp_model.specs.declared.splice.CallPlace.{CallPlace}
 use Rattle.pp_macros.specs.inner.Idle.{is_idle}
 use Rattle.pp_directives.specs.WordTokens.{word_token}
 use Rattle.pp_directives.specs.inner.PlainText.{IsInText}
 use Rattle.pp_rs.specs.Kept.{Preprocessing, is_spent, rules_of}
-use Rattle.pp_rs.proofs.runs.CallLineLemmas.{line_outside}
+use Rattle.pp_rs.proofs.runs.CallPlaceLemmas.{call_outside}
 use Rattle.pp_rs.proofs.runs.NextLemmas.{reached_first, reached_more, falls_more, less_more, some_items, token_fits, next_token}
 use Rattle.pp_rs.proofs.runs.OpenWordLemmas.{bare_over, bare_would}
-use Rattle.pp_rs.proofs.runs.PassedLemmas.{newline_over, word_over, passed_pauses, idle_line}
+use Rattle.pp_rs.proofs.runs.PassedLemmas.{newline_over, word_over, passed_pauses, idle_call}
 use Rattle.pp_rs.proofs.pp.preprocessor.Preprocessor.next_word.Goals as goal
 
-none_open : {Z : Type 0} (line : Option ℕ) → line ≡ None → is_some line ≡ true → Z
+none_open : {Z : Type 0} (call : Option CallPlace) → call ≡ None → is_some call ≡ true → Z
 none_open None none some = cc
 none_open (Some x) none some = cc
 
@@ -67,10 +68,10 @@ returns-in-Some-default-None-clause-gives c =
     let takes = rw c.in-Some-default-None.field-0-1-is at c.in-Some-default-None.ensures.gives in
     record {
       next = next_token _ _ _ _ _ _ c.words.invariant.reached c.args.self.now c.requires.unspent refl refl c.words.invariant.ruled (word_token c.in-Some-default-None.word)
-          c.words.self-inside.spent c.words.self-inside.place c.words.self-inside.name_line c.words.invariant.unspent c.words.invariant.placed
-          (idle_line c.words.self-inside.expander.here _ _ c.words.invariant.idle)
+          c.words.self-inside.spent c.words.self-inside.place c.words.self-inside.name_call c.words.invariant.unspent c.words.invariant.placed
+          (idle_call c.words.self-inside.expander.here _ _ c.words.invariant.idle)
           (word_over _ _ _ (word_token c.in-Some-default-None.word) c.words.invariant.idle takes.step takes.does) takes.holds;
-      line = line_outside _ c.words.invariant.idle;
+      call = call_outside _ c.words.invariant.idle;
       plain = record { no_hash = takes.no_hash; ascii = takes.ascii };
       reads = record { idle = c.words.invariant.idle; text = c.next_word.ensures.stays; unspent = c.words.invariant.unspent };
     }
@@ -123,7 +124,7 @@ returns-then-not-pass_newline-clause-gives c =
     rw (c.if-not-pass_newline.ensures.pauses, c.in-None.ensures.gives) (record {
       passed = passed_pauses c.args.self.now _ _ _ _ _ _ c.words.invariant.reached c.requires.unspent c.words.invariant.unspent c.words.invariant.placed
           c.words.invariant.ruled;
-      less_left = λ some. none_open _ (line_outside _ c.words.invariant.idle) some;
+      less_left = λ some. none_open _ (call_outside _ c.words.invariant.idle) some;
     })
 
 pub returns-in-Some-default-None-clause-rules : goal.returns-in-Some-default-None-clause-rules

@@ -5,7 +5,7 @@ use Rattle.pp_model.specs.declared.read.Read.{Read}
 use Rattle.pp_macros.specs.inner.Ahead.{given_next}
 use Rattle.pp_macros.specs.inner.Giving.{token_ahead}
 use Rattle.pp_macros.specs.inner.Nesting.{MacroProcessor}
-use Rattle.pp_rs.proofs.runs.CallLineLemmas.{ahead_line}
+use Rattle.pp_rs.proofs.runs.CallPlaceLemmas.{ahead_call}
 use Rattle.pp_rs.proofs.runs.PassedLemmas.{ahead_there, fresh_ahead, pass_fits, ahead_passes}
 use Rattle.pp_rs.proofs.pp.preprocessor.Preprocessor.pass.Goals as goal
 
@@ -33,10 +33,10 @@ returns-clause-gives c = λ token ahead.
     let fresh = ap (λ p. p.spent) c.self.view_is ∙ fresh_ahead c.args.self.now token ahead in
     rw c.pass_token.ensures
     (ahead_passes c.args.self.now c.self.inside.expander.here c.self.inside.source (ap (λ p. p.expander) (sym c.self.view_is))
-    (ap (λ p. p.source) (sym c.self.view_is)) (c.self.invariant.0 fresh) token ahead c.self.inside.spent c.self.inside.place c.self.inside.name_line fresh
+    (ap (λ p. p.source) (sym c.self.view_is)) (c.self.invariant.0 fresh) token ahead c.self.inside.spent c.self.inside.place c.self.inside.name_call fresh
     (ap (λ p. p.place) c.self.view_is) (ap (λ p. p.rules) c.self.view_is))
 
-pub returns-clause-line : goal.returns-clause-line
-returns-clause-line c = λ line front.
+pub returns-clause-call : goal.returns-clause-call
+returns-clause-call c =
     rw c.pass_token.ensures
-    (ahead_line c.args.self.now c.requires.0 c.requires.1 line front c.self.inside.expander.here (ap (λ p. p.expander) (sym c.self.view_is)) _ _ _ _ _)
+    (ahead_call c.args.self.now c.requires.0 c.requires.1 c.self.inside.expander.here (ap (λ p. p.expander) (sym c.self.view_is)) _ _ _ _ _)

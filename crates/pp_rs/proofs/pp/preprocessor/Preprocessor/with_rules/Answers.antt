@@ -1,5 +1,5 @@
 use Rattle.std.proofs.Common.{refl}
-use Rattle.pp_rs.specs.Kept.{is_spent, error_place, call_line, rules_of}
+use Rattle.pp_rs.specs.Kept.{is_spent, error_place, call_place, rules_of}
 use Rattle.pp_rs.proofs.runs.StartLemmas.{start_stands, start_errors}
 use Rattle.pp_rs.proofs.pp.preprocessor.Preprocessor.with_rules.Goals as goal
 
@@ -17,9 +17,9 @@ pub returns-clause-place : goal.returns-clause-place
 unfolding error_place
 returns-clause-place c = refl
 
-pub returns-clause-line : goal.returns-clause-line
-unfolding call_line
-returns-clause-line c = rw c.new.ensures refl
+pub returns-clause-call : goal.returns-clause-call
+unfolding call_place
+returns-clause-call c = rw c.new.ensures refl
 
 pub returns-clause-rules : goal.returns-clause-rules
 unfolding rules_of
