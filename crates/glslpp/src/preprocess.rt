@@ -20,7 +20,7 @@ use glslpp_parts::rule_set::Setting;
 use glslpp_parts::texts::Texts;
 use glslpp_parts::version::{Version, declared_version};
 use glslpp_parts::warning::Warnings;
-use pp_rs::pp::Preprocessor;
+use pp_rs::pp::{CallPlace, Preprocessor};
 use pp_rs::token::{Location, PreprocessorError, Token};
 use std::alloc::{AllocError, Global};
 
@@ -290,8 +290,8 @@ impl<'a> Run<'a> {
                 }
                 Err((PreprocessorError::OutOfMemory, _)) => return Err(Failure::OutOfMemory),
                 Err((error, _)) => {
-                    let (place, call_line) = (items.place(), items.call_line());
-                    self.take_error(error, place, call_line)?;
+                    let (place, call) = (items.place(), items.call_place());
+                    self.take_error(error, place, call)?;
                     if self.is_over() {
                         return Ok(());
                     }
@@ -334,10 +334,10 @@ impl<'a> Run<'a> {
         &mut self,
         error: PreprocessorError,
         location: Location,
-        call_line: Option<u32>,
+        call: Option<CallPlace>,
     ) -> Result<(), AllocError> {
         let read = self.output.read();
-        let used = self.explainer.use_of(&error, location, call_line, read)?;
+        let used = self.explainer.use_of(&error, location, call, read)?;
         let line = match &used {
             Some(used) => Some(used.line),
             None => line_in_source(self.texts, location),

@@ -85,9 +85,13 @@ Puts Compact false old token call new = PutsDirective old token old.laid.line ne
 Puts Tokens false old token call new = PutsItem old new
 Puts Directives false old token call new = PutsDirective old token old.laid.line new
 
--- the line of the call that gave the token, or else its own line
+-- the line of the call that gave the token, if one did
+abbrev pub call_line_of : TokenRef → Option ℕ
+call_line_of token = option_map (λ call. call.line) token.call
+
+-- that line, or else its own
 abbrev pub line_of : TokenRef → ℕ
-line_of token = unwrap_or token.call_line token.location.line
+line_of token = unwrap_or (call_line_of token) token.location.line
 
 abbrev pub is_left_out : Option ℕ → ℕ → Bool
 is_left_out None line = false
@@ -101,7 +105,7 @@ pub record Takes (old : Printed) (token : TokenRef) (new : Printed) : Type 0 whe
   pub puts :
       MatchBool (is_left_out old.left_out (line_of token))
       (new ≡ old)
-      (Puts old.form true old (token_of token) token.call_line new)
+      (Puts old.form true old (token_of token) (call_line_of token) new)
 
 -- what an error with this name adds to the lines of JSON, by the form of the output
 abbrev pub PutsError : Form → List ℕ → List ℕ → List ℕ → Type 0

@@ -19,6 +19,7 @@ use crate::search::{count_arguments, last_name};
 use crate::texts::Texts;
 use pp_rs::SOURCE_LIMIT;
 use pp_rs::lexer::Token;
+use pp_rs::pp::CallPlace;
 use pp_rs::rules::Rules;
 use pp_rs::token::{Location, PreprocessorError, Punct};
 use std::alloc::{AllocError, Global};
@@ -64,20 +65,20 @@ impl<'a> Explainer<'a> {
     }
 
     /// Returns the use of the macro in whose content the error at this place is, or `None` if it is in none, or the use
-    /// isn't found. `call_line` is the line of the call that gave the error, and `read` is the place of the last token
-    /// before it that no macro gave. It is called for each error, in order.
+    /// isn't found. `call` is where the macro was called that gave the error, if one did, and `read` is the place of
+    /// the last token before it that no macro gave. It is called for each error, in order.
     pub fn use_of(
         &mut self,
         error: &PreprocessorError,
         location: Location,
-        call_line: Option<u32>,
+        call: Option<CallPlace>,
         read: Location,
     ) -> Result<Option<MacroUse<'a>>, AllocError> {
         let outline = match self.outline.take() {
             Some(outline) => outline,
             None => Outline::of(self.alloc, self.rules, self.source)?,
         };
-        let used = self.uses.find(&outline, error, location, call_line, read);
+        let used = self.uses.find(&outline, error, location, call, read);
         self.outline = Some(outline);
         used
     }

@@ -8,17 +8,17 @@ use crate::columns::Columns;
 use crate::diagnostic::{Diagnostic, Site};
 use crate::place::first_byte;
 use crate::report::COMMAND_LINE;
-use crate::texts::Spot;
-use pp_rs::pp::{TokenRef, ValueRef};
+use crate::texts::{Spot, Texts};
+use pp_rs::pp::{CallPlace, TokenRef, ValueRef};
 use pp_rs::token::{Location, TokenValue};
 use std::alloc::AllocError;
 
-/// Appends a token with this text: its kind, the text, its place and, if a macro gave it, the line of the macro's call.
+/// Appends a token with this text: its kind, the text, its place and, if a macro gave it, where that was called.
 pub(crate) fn push_token(
     output: &mut String,
     columns: &mut Columns<'_>,
     token: TokenRef<'_>,
-    spot: Option<Spot<'_>>,
+    texts: &Texts<'_>,
     text: &str,
 ) -> Result<(), AllocError>
     ensures { OnOk result (IsItem (string_bytes output.old) (string_bytes output.new)) }
@@ -26,8 +26,8 @@ pub(crate) fn push_token(
     let kind = kind_of(token.value);
     write!(output, "{{\"kind\":\"{kind}\",\"text\":")?;
     push_string(output, text)?;
-    push_place(output, columns, spot, token.location)?;
-    push_call(output, token.call_line)?;
+    push_place(output, columns, texts.spot(token.location), token.location)?;
+    push_call(output, texts, token.call)?;
     push_number(output, token.value)?;
     output.push_str("}\n")
 }
@@ -50,14 +50,26 @@ pub(crate) fn push_directive(
     output.push_str("}\n")
 }
 
-// Appends the line of the macro's call, if a macro gave the token.
-fn push_call(output: &mut String, call_line: Option<u32>) -> Result<(), AllocError>
+// Appends the line of the macro's call and the place of its name, if a macro gave the token.
+fn push_call(
+    output: &mut String,
+    texts: &Texts<'_>,
+    call: Option<CallPlace>,
+) -> Result<(), AllocError>
     ensures { OnOk result (IsLonger (string_bytes output.old) (string_bytes output.new)) }
 {
-    match call_line {
-        Some(line) => write!(output, ",\"call\":{line}"),
-        None => Ok(()),
+    let Some(call) = call else {
+        return Ok(());
+    };
+    write!(output, ",\"call\":{}", call.line)?;
+    let Some(spot) = texts.spot(call.name) else {
+        return Ok(());
+    };
+    if !spot.is_in_source {
+        write!(output, ",\"call_in\":\"{COMMAND_LINE}\"")?;
     }
+    let (start, end) = (spot.start, spot.end);
+    write!(output, ",\"call_start\":{start},\"call_end\":{end}")
 }
 
 // Appends the number of an integer.

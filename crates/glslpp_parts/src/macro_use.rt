@@ -10,6 +10,7 @@ use crate::rule_set::Setting;
 use crate::texts::{Spot, Texts};
 use pp_rs::SOURCE_LIMIT;
 use pp_rs::lexer::{Lexer, LexerItem, TokenValue};
+use pp_rs::pp::CallPlace;
 use pp_rs::token::{Location, PreprocessorError, Punct};
 use std::alloc::{AllocError, Global};
 
@@ -62,17 +63,42 @@ impl<'a> UseFinder<'a> {
         }
     }
 
-    /// The use of the macro in whose content an error is, or `None` if it is in none, or the use isn't found.
-    /// `call_line` is the line of the call from which the error comes, if it comes from the text, and `read` is the
-    /// place of the last token before it that no macro gave.
+    /// The use of the macro in whose content an error is, or `None` if it is in none, or the use isn't found. `call` is
+    /// where the macro was called from which the error comes, if it comes from the text, and `read` is the place of the
+    /// last token before it that no macro gave.
     pub(crate) fn find(
         &mut self,
         outline: &Outline,
         error: &PreprocessorError,
         location: Location,
-        call_line: Option<u32>,
+        call: Option<CallPlace>,
         read: Location,
     ) -> Result<Option<MacroUse<'a>>, AllocError> {
+        let found = match call {
+            Some(call) => Some(call),
+            None => self.find_untold(outline, error, location, read)?,
+        };
+        let Some(call) = found else {
+            return Ok(None);
+        };
+        self.last = call.name;
+        let site = Site::of(self.texts, call.name);
+        let name = site.place().map_or("", |place| place.here);
+        Ok(Some(MacroUse {
+            line: call.line,
+            message: format!(in self.alloc; "in expansion of macro `{name}`")?,
+            site,
+        }))
+    }
+
+    // The use of a macro on the line of a directive or in an argument, where the library doesn't tell it.
+    fn find_untold(
+        &mut self,
+        outline: &Outline,
+        error: &PreprocessorError,
+        location: Location,
+        read: Location,
+    ) -> Result<Option<CallPlace>, AllocError> {
         let from = if read.end > self.last.end {
             read
         } else {
@@ -82,20 +108,13 @@ impl<'a> UseFinder<'a> {
             self.last = location;
             return Ok(None);
         };
-        let found = match call_line {
-            Some(line) => self.find_in_text(outline, inner, from, line)?,
-            None => self.find_elsewhere(outline, error, inner, from)?,
-        };
-        let Some(name) = found else {
-            return Ok(None);
-        };
-        self.last = name;
-        let text = self.text_of(name);
-        Ok(Some(MacroUse {
-            line: call_line.unwrap_or(name.line),
-            message: format!(in self.alloc; "in expansion of macro `{text}`")?,
-            site: Site::of(self.texts, name),
-        }))
+        match self.find_elsewhere(outline, error, inner, from)? {
+            Some(name) => Ok(Some(CallPlace {
+                name,
+                line: name.line,
+            })),
+            None => Ok(None),
+        }
     }
 
     // The name of the macro in whose content an error is that it gives where it is used.
@@ -127,34 +146,6 @@ impl<'a> UseFinder<'a> {
         self.source
             .get(place.start as usize..place.end as usize)
             .unwrap_or("")
-    }
-
-    // The name after a place, up to this line, that leads to a macro: the first one on the line, or else the last one
-    // before it, whose call ends on the line.
-    fn find_in_text(
-        &self,
-        outline: &Outline,
-        inner: &str,
-        from: Location,
-        line: u32,
-    ) -> Result<Option<Location>, AllocError> {
-        let mut lexer = Lexer::with_rules(self.alloc, self.rest_after(from), self.setting.rules);
-        let mut names = NamesOfText::after(from);
-        let mut found = None;
-        'tokens: while let Some(item) = lexer.next() {
-            if let Some(name) = names.name(item)? {
-                if name.line > line {
-                    return Ok(found);
-                }
-                if self.leads_to(outline, name, inner)? {
-                    found = Some(name);
-                    if name.line == line {
-                        return Ok(found);
-                    }
-                }
-            }
-        }
-        Ok(found)
     }
 
     // The source after a place.

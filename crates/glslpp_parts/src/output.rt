@@ -66,7 +66,7 @@ impl<'a> TokenSink for Output<'a> {
 
     #[inline(always)]
     fn take(&mut self, token: TokenRef<'_>) -> Result<(), AllocError> {
-        if token.call_line.is_none() {
+        if token.call.is_none() {
             self.read = token.location;
         }
         if self.is_left_out(line_of(token)) {
@@ -231,14 +231,14 @@ impl<'a> Output<'a> {
     {
         let spot = self.texts.spot(token.location);
         if let Some(word) = written_word(self.alloc, self.rules, token.value, spot)? {
-            return json::push_token(&mut self.lines, &mut self.columns, token, spot, word);
+            return json::push_token(&mut self.lines, &mut self.columns, token, self.texts, word);
         }
         let word = made_word(self.alloc, self.rules, token.value, spot)?;
         json::push_token(
             &mut self.lines,
             &mut self.columns,
             token,
-            spot,
+            self.texts,
             word.as_str(),
         )
     }
@@ -323,7 +323,10 @@ impl<'a> Output<'a> {
 fn line_of(token: TokenRef<'_>) -> u32
     ensures { result ≡ line_of token.entry }
 {
-    token.call_line.unwrap_or(token.location.line)
+    match token.call {
+        Some(call) => call.line,
+        None => token.location.line,
+    }
 }
 
 // Whether the punctuator ends what comes before it, and is no part of a longer one.

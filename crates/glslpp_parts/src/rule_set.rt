@@ -1,6 +1,7 @@
 //! The rules by which a source is read.
 
-ghost use Rattle.std.specs.Prelude.{◌≡◌, ◌-◌, ◌^◌, ◌<◌, length};
+ghost use Rattle.std.specs.Prelude.{◌≡◌, ◌-◌, ◌^◌, ◌<◌, false, length, IfOk};
+ghost use Rattle.pp_rs.specs.Kept.{is_spent, rules_of};
 ghost use Rattle.glslpp_parts.specs.RuleSets.{rules_for};
 
 use crate::changes::Definition;
@@ -49,6 +50,8 @@ impl<'a> Setting<'a> {
     /// Returns a preprocessor of a source by the rules and within the budget. The definitions aren't added.
     pub fn begin<'s>(self, alloc: Global, source: &'s str) -> Result<Preprocessor<'s>, AllocError>
         requires { length source.now < 2 ^ 32 - 1 }
+        ensures unspent { IfOk result (λ items. is_spent items ≡ false) }
+        ensures rules { IfOk result (λ items. rules_of items ≡ self.rules) }
     {
         let mut items = Preprocessor::with_rules(alloc, source, self.rules);
         let Some(steps) = self.budget else {
