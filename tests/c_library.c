@@ -9,6 +9,7 @@
 #include <sys/mman.h>
 
 _Static_assert(sizeof(pp_item) == 40, "docs/GUIDE.md says how much memory an item takes");
+_Static_assert(sizeof(pp_options) == 32, "crates/pp_c/specs/Options.antt says how long options are");
 
 /* The library's heap, of which one allocation can fail. */
 typedef struct {
@@ -169,10 +170,168 @@ static void check_refused(void) {
     check("several allocations can fail", number > 10 && number < 10000);
 }
 
+/* The call with options, over the same memory. */
+static pp_options options;
+
+static uint32_t call_by(const char *text, size_t items_room, size_t texts_room) {
+    memset(items, GUARD, sizeof items);
+    memset(texts, GUARD, sizeof texts);
+    memset(&sizes, GUARD, sizeof sizes);
+    return pp_preprocess_with(&options, (const uint8_t *)text, strlen(text), (const uint8_t *)words, strlen(words),
+                              definitions, 3, items, items_room, texts, texts_room, &sizes);
+}
+
+static void plain_options(void) {
+    memset(&options, 0, sizeof options);
+    options.size = sizeof options;
+    define_all();
+}
+
+/* How many errors there are. */
+static uint64_t count_errors(void) {
+    uint64_t count = 0;
+    for (uint64_t at = 0; at < sizes.items; at += 1 + items[at].children) count += items[at].kind == PP_ERROR;
+    return count;
+}
+
+static void check_options(void) {
+    static pp_item items_then[MOST + 1];
+    static uint8_t texts_then[sizeof texts];
+    static pp_definition definitions_then[3];
+    define_all();
+    bool done = call(MOST, 4 * MOST) == PP_DONE;
+    memcpy(items_then, items, sizeof items);
+    memcpy(texts_then, texts, sizeof texts);
+    memcpy(definitions_then, definitions, sizeof definitions);
+    plain_options();
+    done &= call_by(source, MOST, 4 * MOST) == PP_DONE;
+    done &= memcmp(items, items_then, sizeof items) == 0 && memcmp(texts, texts_then, sizeof texts) == 0;
+    check("options of 0 change nothing", done && memcmp(definitions, definitions_then, sizeof definitions) == 0);
+    bool refused = true;
+    for (uint64_t size = 0; size < 100; size++) {
+        plain_options();
+        options.size = size;
+        refused &= (call_by(source, MOST, 4 * MOST) == PP_BAD_OPTIONS) == (size != sizeof options);
+    }
+    for (uint32_t rules = 4; rules; rules *= 2) {
+        plain_options();
+        options.rules = rules;
+        refused &= call_by(source, MOST, 4 * MOST) == PP_BAD_OPTIONS;
+    }
+    check("other options are refused", refused);
+}
+
+static void check_rules(void) {
+    plain_options();
+    const char *dead = "#if 0\nit's  not\n#endif\n1.0lf";
+    check("pp-rs gives errors of dead text", call_by(dead, MOST, 4 * MOST) == PP_DONE && count_errors() == 2);
+    for (options.rules = PP_RULES_CORE; options.rules <= PP_RULES_ES; options.rules++)
+        check("GLSL gives none", call_by(dead, MOST, 4 * MOST) == PP_DONE && sizes.items == 1 && items[0].width == 64);
+    /* The line after #line has its number from 3.30 and from ES 3.00 on. */
+    static const struct {
+        uint32_t rules, version;
+        uint64_t line;
+    } numbered[] = {
+        {PP_RULES_PP_RS, 450, 8},        {PP_RULES_CORE, 320, 8}, {PP_RULES_CORE, 330, 7}, {PP_RULES_COMPATIBILITY, 320, 8},
+        {PP_RULES_COMPATIBILITY, 330, 7}, {PP_RULES_ES, 100, 8},   {PP_RULES_ES, 300, 7},   {PP_RULES_ES, 320, 7},
+    };
+    bool right = true;
+    for (size_t n = 0; n < sizeof numbered / sizeof *numbered; n++) {
+        options.rules = numbered[n].rules;
+        options.version = numbered[n].version;
+        right &= call_by("#line 7\n__LINE__", MOST, 4 * MOST) == PP_DONE && items[0].value == numbered[n].line;
+        right &= (items[0].flags & PP_SIGNED) == (options.rules != PP_RULES_PP_RS);
+    }
+    check("the version and the profile decide the number of a line", right);
+    define(0, 0, 5, 1, 0);
+    words = "A12B3@\n";
+    options.rules = PP_RULES_CORE;
+    check("contents are read by the rules too", call_by("", MOST, 4 * MOST) == PP_DONE && definitions[0].end == 0);
+    words = "A12B3@";
+}
+
+static const char *bomb = "1 2 3\n#define A b b b b b b b b\n#define C A A A A A A A A\n#define D C C C C C C C C\n"
+                          "#define E D D D D D D D D\n#define F E E E E E E E E\n#define G F F F F F F F F\n"
+                          "#define H G G G G G G G G\n#define I H H H H H H H H\n#define J I I I I I I I I\n"
+                          "#define K J J J J J J J J\n#define L K K K K K K K K\n#define M L L L L L L L L\n"
+                          "#define N(x) x\nM N(M)";
+
+static void check_budget(void) {
+    plain_options();
+    uint32_t over = 0, done = 0;
+    bool known = true, same = true;
+    pp_sizes needed = {0, 0};
+    for (options.budget = 1; options.budget < 500; options.budget++) {
+        uint32_t status = call_by(source, MOST, 4 * MOST);
+        known &= status == PP_DONE || (status == PP_OVER_BUDGET && !done);
+        over += status == PP_OVER_BUDGET;
+        done += status == PP_DONE;
+        if (done == 1) needed = sizes;
+        same &= !done || memcmp(&sizes, &needed, sizeof sizes) == 0;
+    }
+    check("with fewer steps than are needed the budget is over", known && over > 10 && done > 10);
+    check("with more steps nothing changes", same);
+    options.budget = 1000000;
+    check("a source without end is over", call_by(bomb, MOST, 4 * MOST) == PP_OVER_BUDGET);
+    /* Each allocation fails in turn. */
+    bool answered = true;
+    uint64_t number = 0;
+    do {
+        asked = 0;
+        failing = ++number;
+        uint32_t status = call_by(source, MOST, 4 * MOST);
+        answered &= status == PP_OUT_OF_MEMORY || status == PP_DONE;
+    } while (asked >= failing && number < 10000);
+    failing = 0;
+    check("memory that runs out is no budget that is over", answered && number > 10 && number < 10000);
+}
+
+/* The number of items that no other holds. */
+static uint64_t count_outer(void) {
+    uint64_t count = 0;
+    for (uint64_t at = 0; at < sizes.items; at += 1 + items[at].children) count++;
+    return count;
+}
+
+static void check_most(void) {
+    static pp_item whole[MOST];
+    static uint8_t whole_texts[4 * MOST];
+    plain_options();
+    bool right = call_by(source, MOST, 4 * MOST) == PP_DONE;
+    uint64_t all = count_outer();
+    memcpy(whole, items, sizeof whole);
+    memcpy(whole_texts, texts, sizeof whole_texts);
+    bool front = true, answers = true, small = true;
+    for (uint64_t most = 1; most <= all + 3; most++) {
+        plain_options();
+        options.most_items = most;
+        uint32_t status = call_by(source, MOST, 4 * MOST);
+        right &= status == (most <= all ? PP_PARTIAL : PP_DONE) && count_outer() == (most < all ? most : all);
+        front &= memcmp(items, whole, sizes.items * sizeof *items) == 0 && memcmp(texts, whole_texts, sizes.texts) == 0;
+        front &= is_kept(sizes.items, sizes.texts);
+        answers &= definitions[0].error == 0 && definitions[1].error == PP_UNEXPECTED_CHARACTER && definitions[2].error == 0;
+        pp_sizes needed = sizes;
+        small &= call_by(source, needed.items - 1, needed.texts) == PP_TOO_SMALL && sizes.items == needed.items;
+        small &= call_by(source, needed.items, needed.texts) == status;
+    }
+    check("as many items come as are asked for", right && all > 10);
+    check("they are the first of all, and nothing is behind them", front);
+    check("definitions that aren't reached are answered", answers);
+    check("there has to be room for the items that are asked for", small);
+    options.most_items = 3;
+    check("items before a source without end", call_by(bomb, MOST, 4 * MOST) == PP_PARTIAL && sizes.items == 3);
+    options.most_items = 50;
+    check("items of a source without end", call_by(bomb, MOST, 4 * MOST) == PP_PARTIAL && count_outer() == 50);
+}
+
 int main(void) {
     check_rooms();
     check_definitions();
     check_sources();
     check_refused();
+    check_options();
+    check_rules();
+    check_budget();
+    check_most();
     return 0;
 }

@@ -10,15 +10,15 @@
  *
  * What is proved of these calls holds as long as the caller upholds this:
  *
- * - No pointer is null or badly aligned, also if its length is 0.
+ * - No pointer is null or badly aligned, also if its length is 0: for an empty list hand in any other one.
  * - Each pointer leads to at least as many elements as the length after it says.
  * - Nothing that a call writes (definitions, items, texts, sizes) overlaps anything else that it is given.
  * - No other thread writes to any of this during a call, or reads what the call writes.
  * - malloc, realloc and free are one allocator's and align as C says, and no call is made from a signal handler or in a
  *   forked child of a process with threads.
  *
- * Any bytes may be handed in as source and words. Calls share nothing and keep nothing: each thread may make its own, if
- * it has 256 KB of stack. */
+ * Any bytes may be handed in as source and words, and any numbers in options and definitions. Calls share nothing and keep nothing: each thread may make its
+ * own, if it has 256 KB of stack. */
 #ifndef PP_H
 #define PP_H
 
@@ -36,7 +36,11 @@ enum {
     PP_NOT_UTF8 = 2,       /* the source or the words are no UTF-8 */
     PP_TOO_LONG = 3,       /* the source or a content has 2^32 - 1 bytes or more */
     PP_BAD_DEFINITION = 4, /* a name or a content doesn't lie in the words, or cuts a character of theirs */
-    PP_OUT_OF_MEMORY = 5   /* an allocation failed */
+    PP_OUT_OF_MEMORY = 5,  /* an allocation failed */
+    /* the others are pp_preprocess_with's alone */
+    PP_OVER_BUDGET = 6, /* the items need more steps than the budget has */
+    PP_PARTIAL = 7,     /* as many items as were asked for are there; more may follow */
+    PP_BAD_OPTIONS = 8  /* the options have another size or other rules than this library knows */
 };
 
 /* What an item is. */
@@ -118,7 +122,24 @@ typedef struct pp_sizes {
     uint64_t texts;
 } pp_sizes;
 
-/* Preprocesses `source`. After an error the items go on.
+/* Whose rules a source is read by. */
+enum {
+    PP_RULES_PP_RS = 0, /* those of the Rust crate pp-rs, of any version */
+    PP_RULES_CORE = 1,  /* GLSL's for a version, of the profile core, also before 1.50 */
+    PP_RULES_COMPATIBILITY = 2,
+    PP_RULES_ES = 3
+};
+
+/* How to preprocess. All but the size may be 0: pp_options options = {.size = sizeof options}; */
+typedef struct pp_options {
+    uint64_t size;       /* sizeof(pp_options) */
+    uint32_t rules;      /* PP_RULES_PP_RS or another */
+    uint32_t version;    /* of GLSL, as in #version: 450, or 310. PP_RULES_PP_RS has none */
+    uint64_t budget;     /* how many steps the items may take; 0 for any number */
+    uint64_t most_items; /* after how many items to stop, those that others hold not counted; 0 for all */
+} pp_options;
+
+/* Preprocesses `source` by pp-rs's rules. After an error the items go on.
  *
  * Proved of PP_DONE: up to and with the first error the items are those of the written rules, with each definition added
  * at its number. Of those after it only this is proved: each error is where its PP_PLACE says, and none of the lexer's is
@@ -126,6 +147,19 @@ typedef struct pp_sizes {
 uint32_t pp_preprocess(const uint8_t *source, size_t source_length, const uint8_t *words, size_t words_length,
                        pp_definition *definitions, size_t definitions_length, pp_item *items, size_t items_length,
                        uint8_t *texts, size_t texts_length, pp_sizes *sizes);
+
+/* The same by the rules of the options, within their budget, and up to their number of items.
+ *
+ * A step is a token that is read, put on a list, or passed in the body or an argument of a macro. So the budget bounds the
+ * time and the memory of a call, with the length of the longest token and the definitions, which take no steps.
+ *
+ * With PP_PARTIAL `most_items` items are there, the first of those that a call for more gives; it takes the time of these
+ * alone. A definition whose number they don't reach was added after them. With PP_DONE there are fewer, and the end was
+ * reached. To take the items piece by piece ask for twice as many each time. Proved of both is what is proved of PP_DONE
+ * above, by the rules of the options: GLSL's pass errors of the lexer in dead text, and PP_PARTIAL leaves those to come. */
+uint32_t pp_preprocess_with(const pp_options *options, const uint8_t *source, size_t source_length, const uint8_t *words,
+                            size_t words_length, pp_definition *definitions, size_t definitions_length, pp_item *items,
+                            size_t items_length, uint8_t *texts, size_t texts_length, pp_sizes *sizes);
 
 /* Gives the tokens of `source` before preprocessing, newlines and number signs among them. Proved of PP_DONE: they are those
  * of the written rules, errors and what comes after them too. */

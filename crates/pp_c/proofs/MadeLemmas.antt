@@ -1,8 +1,10 @@
 -- Calls of the preprocessor, one after another.
-use Rattle.std.proofs.Common.{◌≡◌, ◌∙◌, List, [], ◌∷◌, ◌++◌, map, refl, ap, sym, subst, Option, Some, None}
+use Rattle.std.proofs.Common.{◌≡◌, ◌∙◌, Bool, true, false, if◌then◌else◌, List, [], ◌∷◌, ◌++◌, map, refl, ap, sym, Option, Some, None}
+use Rattle.std.proofs.lemmas.List.{append-nil}
 use Rattle.std.specs.List.{AllByRecursion as Each}
 use Rattle.std.specs.Str.{chars}
-use Rattle.pp_macros.specs.LexerErrors.{ErrorAt, PassesErrors}
+use Rattle.pp_macros.specs.LexerErrors.{ErrorAt, AreLeft, PassesErrors}
+use Rattle.pp_macros.specs.LexerErrors as left
 use Rattle.pp_model.specs.Emitting.{answers_at, expansion_limit}
 use Rattle.pp_model.specs.Run.{Call, add_define, next, with_added, by_rules, Runs}
 use Rattle.pp_model.specs.Run as run
@@ -14,10 +16,9 @@ use Rattle.pp_rs.specs.Comes.{State}
 use Rattle.pp_rs.specs.Kept.{Preprocessing, Stands, errors_left, rules_of}
 use Rattle.pp_rs.specs.declared.rules.Rules.{Rules}
 use Rattle.pp_rs.specs.Preprocessing as place
-use Rattle.pp_rs.specs.Rules.{pp_rs}
-use Rattle.pp_c.specs.Preprocessed.{Given, token, error, outcomes_of, replies_to_next, ErrorsStand, GivenHoldsOrdinary}
+use Rattle.pp_c.specs.Preprocessed.{Given, token, error, end_if, outcomes_of, replies_to_next, ErrorsStand, GivenHoldsOrdinary}
 use Rattle.pp_c.specs.Preprocessed as stand
-use Rattle.pp_c.specs.inner.Making.{Made, GivesNext}
+use Rattle.pp_c.specs.inner.Making.{Made, GivesNext, answers_of}
 use Rattle.pp_c.specs.inner.Making as made
 
 -- some calls and then others
@@ -45,22 +46,37 @@ outcomes_to_error (None ∷ answers) = outcome.End ∷ outcomes_to_error answers
 outcomes_to_error (Some (token t) ∷ answers) = outcome.Token t ∷ outcomes_to_error answers
 outcomes_to_error (Some (error fault at) ∷ answers) = outcome.Fault fault ∷ []
 
-outcomes_to_end : (given : List Given) → outcomes_to_error (map Some given ++ None ∷ []) ≡ outcomes_of given
-unfolding outcomes_to_error
-outcomes_to_end [] = refl
-outcomes_to_end (token t ∷ given) = ap (λ os. outcome.Token t ∷ os) (outcomes_to_end given)
-outcomes_to_end (error fault at ∷ given) = refl
+-- the answer after the items, if the end was reached
+abbrev pub end_answer : Bool → List (Option Given)
+end_answer has_ended = if has_ended then None ∷ [] else []
 
--- a run with these answers
-pub record HasRun (state : State) (calls : List Call) (outcomes : List Outcome) : Type 0 where
+-- the answers are those of the items and then the end
+pub answers_then : (given : List Given) (has_ended : Bool) → answers_of given has_ended ≡ map Some given ++ end_answer has_ended
+answers_then given true = refl
+answers_then given false = sym (append-nil (map Some given))
+
+outcome_of_end : (has_ended : Bool) → outcomes_to_error (end_answer has_ended) ≡ end_if has_ended
+unfolding outcomes_to_error
+outcome_of_end true = refl
+outcome_of_end false = refl
+
+outcomes_are : (has_ended : Bool) (given : List Given) → outcomes_to_error (map Some given ++ end_answer has_ended) ≡ outcomes_of has_ended given
+unfolding outcomes_to_error
+outcomes_are has_ended [] = outcome_of_end has_ended
+outcomes_are has_ended (token t ∷ given) = ap (λ os. outcome.Token t ∷ os) (outcomes_are has_ended given)
+outcomes_are has_ended (error fault at ∷ given) = refl
+
+-- a run with these answers, by these rules
+pub record HasRun (rules : Rules) (state : State) (calls : List Call) (outcomes : List Outcome) : Type 0 where
   pub replies : List Reply
-  pub runs : Runs (by_rules (answers_at expansion_limit)) pp_rs state calls replies
+  pub runs : Runs (by_rules (answers_at expansion_limit)) rules state calls replies
   pub gives : replies_to_next replies ≡ outcomes
 
-run_gave : (answer : Option Given) (others : List (Option Given)) (p q : Preprocessing) (rest : List Call) (state : State) → Stands p state → GivesNext p answer q
-    → ((after : State) → Stands q after → HasRun after rest (outcomes_to_error others)) → HasRun state (next ∷ rest) (outcomes_to_error (answer ∷ others))
+run_gave : (rules : Rules) (answer : Option Given) (others : List (Option Given)) (p q : Preprocessing) (rest : List Call) (state : State)
+    → Stands p state → GivesNext p answer q
+    → ((after : State) → Stands q after → HasRun rules after rest (outcomes_to_error others)) → HasRun rules state (next ∷ rest) (outcomes_to_error (answer ∷ others))
 unfolding outcomes_to_error
-run_gave None others p q rest state stands g go =
+run_gave rules None others p q rest state stands g go =
     let item = g.given.item state stands in
     let r = go item.after item.goes_on in
     record {
@@ -68,7 +84,7 @@ run_gave None others p q rest state stands g go =
       runs = run.given outcome.End state item.after rest r.replies _ item.emits refl r.runs refl;
       gives = ap (λ os. outcome.End ∷ os) r.gives;
     }
-run_gave (Some (token t)) others p q rest state stands g go =
+run_gave rules (Some (token t)) others p q rest state stands g go =
     let item = g.given.item state stands in
     let r = go item.after item.goes_on in
     record {
@@ -76,7 +92,7 @@ run_gave (Some (token t)) others p q rest state stands g go =
       runs = run.given (outcome.Token t) state item.after rest r.replies _ item.emits refl r.runs refl;
       gives = ap (λ os. outcome.Token t ∷ os) r.gives;
     }
-run_gave (Some (error fault at)) others p q rest state stands g go =
+run_gave rules (Some (error fault at)) others p q rest state stands g go =
     let item = g.given.item state stands in
     record {
       replies = reply.Given (outcome.Fault fault) ∷ [];
@@ -84,77 +100,101 @@ run_gave (Some (error fault at)) others p q rest state stands g go =
       gives = refl;
     }
 
-run_made : (p q : Preprocessing) (calls : List Call) (answers : List (Option Given)) (state : State) → Stands p state → Made p calls answers q
-    → HasRun state calls (outcomes_to_error answers)
+run_made : (rules : Rules) (p q : Preprocessing) (calls : List Call) (answers : List (Option Given)) (state : State) → rules_of p ≡ rules → Stands p state
+    → Made p calls answers q → HasRun rules state calls (outcomes_to_error answers)
 unfolding outcomes_to_error
-run_made p q calls answers state stands (made.none p1 q1 c a ce ae e) =
+run_made rules p q calls answers state same stands (made.none p1 q1 c a ce ae e) =
     rw (ce, ae) (record { replies = []; runs = run.done state [] refl; gives = refl })
-run_made p q calls answers state stands (made.added name content tokens p1 q1 r1 rest c a has w m e) =
-    let r = run_made q1 q rest answers (with_added (chars name) tokens state) (w.stands state stands) m in
+run_made rules p q calls answers state same stands (made.added name content tokens p1 q1 r1 rest c a has w m e) =
+    let r = run_made rules q1 q rest answers (with_added (chars name) tokens state) (w.rules ∙ same) (w.stands state stands) m in
     rw e (record {
       replies = reply.Added ∷ r.replies;
-      runs = run.added name content tokens state rest r.replies _ has r.runs refl;
+      runs = run.added name content tokens state rest r.replies _ (rw same at has) r.runs refl;
       gives = r.gives;
     })
-run_made p q calls answers state stands (made.refused name content fault p1 r1 rest c a has m e) =
-    let r = run_made p q rest answers state stands m in
+run_made rules p q calls answers state same stands (made.refused name content fault p1 r1 rest c a has m e) =
+    let r = run_made rules p q rest answers state same stands m in
     rw e (record {
       replies = reply.Refused fault ∷ r.replies;
-      runs = run.refused name content fault state rest r.replies _ has r.runs refl;
+      runs = run.refused name content fault state rest r.replies _ (rw same at has) r.runs refl;
       gives = r.gives;
     })
-run_made p q calls answers state stands (made.gave answer p1 q1 r1 rest c others a g m e b) =
-    rw (e, b) (run_gave answer others p q1 rest state stands g (λ after there. run_made q1 q rest others after there m))
+run_made rules p q calls answers state same stands (made.gave answer p1 q1 r1 rest c others a g m e b) =
+    rw (e, b) (run_gave rules answer others p q1 rest state stands g (λ after there. run_made rules q1 q rest others after (g.rules ∙ same) there m))
 
--- the run of calls up to the end
-pub run_to_end : (p q : Preprocessing) (calls : List Call) (given : List Given) (state : State) → Stands p state → Made p calls (map Some given ++ None ∷ []) q
-    → HasRun state calls (outcomes_of given)
-run_to_end p q calls given state stands m = rw (← outcomes_to_end given) (run_made p q calls (map Some given ++ None ∷ []) state stands m)
+-- the run of calls
+pub run_of_calls : (rules : Rules) (p q : Preprocessing) (calls : List Call) (has_ended : Bool) (given : List Given) (state : State) → rules_of p ≡ rules
+    → Stands p state → Made p calls (answers_of given has_ended) q → HasRun rules state calls (outcomes_of has_ended given)
+run_of_calls rules p q calls has_ended given state same stands m =
+    rw (← outcomes_are has_ended given, ← answers_then given has_ended) (run_made rules p q calls (answers_of given has_ended) state same stands m)
 
 -- the item that was given, and those after it
-same_first : (answer : Option Given) (others : List (Option Given)) (g : Given) (given : List Given) → Some g ∷ map Some given ++ None ∷ [] ≡ answer ∷ others
-    → (answer ≡ Some g) × (others ≡ map Some given ++ None ∷ [])
-same_first answer others g given e = (cc, cc)
+same_first : (answer : Option Given) (others end : List (Option Given)) (g : Given) (given : List Given) → Some g ∷ map Some given ++ end ≡ answer ∷ others
+    → (answer ≡ Some g) × (others ≡ map Some given ++ end)
+same_first answer others end g given e = (cc, cc)
 
 -- where errors stand, and what directives hold
-pub record AreReported (given : List Given) (left : List ErrorAt) : Type 0 where
-  pub places : ErrorsStand given left
+pub record AreReported (passes has_ended : Bool) (given : List Given) (before : List ErrorAt) : Type 0 where
+  pub left : List ErrorAt
+  pub places : ErrorsStand passes given before left
+  pub none_left : has_ended ≡ true → left ≡ []
   pub holds : Each GivenHoldsOrdinary given
 
--- pp-rs's rules pass no error of the lexer
-none_passed : (p : Preprocessing) (left : List ErrorAt) → rules_of p ≡ pp_rs → PassesErrors (rules_of p).passes_dead_errors (errors_left p) left
-    → left ≡ errors_left p
-none_passed p left usual h = subst (λ (rules : Rules). PassesErrors rules.passes_dead_errors (errors_left p) left) usual h
+-- it may be that none is passed
+all_left : (errors : List ErrorAt) → AreLeft errors errors
+all_left [] = left.none [] [] refl refl
+all_left (e ∷ errors) = left.kept e _ errors _ errors refl refl (all_left errors)
 
-reported_token : (p q : Preprocessing) (g : Given) (rest : List Given) → rules_of p ≡ pp_rs → GivesNext p (Some g) q → AreReported rest (errors_left q)
-    → AreReported (g ∷ rest) (errors_left p)
-reported_token p q (token t) rest usual g r = record {
-  places = stand.after_token t _ rest _ refl
-      (rw (← (g.given.reports.reports.0 ∙ none_passed p g.given.reports.left usual g.given.reports.passes)) r.places);
-  holds = (g.given.holds, r.holds);
+none_passed : (passes : Bool) (errors : List ErrorAt) → PassesErrors passes errors errors
+none_passed false errors = refl
+none_passed true errors = all_left errors
+
+reported_token : (rules : Rules) (has_ended : Bool) (p q : Preprocessing) (g : Given) (rest : List Given) → rules_of p ≡ rules → GivesNext p (Some g) q
+    → AreReported rules.passes_dead_errors has_ended rest (errors_left q) → AreReported rules.passes_dead_errors has_ended (g ∷ rest) (errors_left p)
+reported_token rules has_ended p q (token t) rest same gives r = record {
+  left = r.left;
+  places = stand.after_token t _ rest _ (errors_left q) r.left refl (rw (gives.given.reports.reports.0, ← same) gives.given.reports.passes) r.places;
+  none_left = r.none_left;
+  holds = (gives.given.holds, r.holds);
 }
-reported_token p q (error fault at) rest usual g r = record {
+reported_token rules has_ended p q (error fault at) rest same gives r = record {
+  left = r.left;
   places =
-      let same = none_passed p g.given.reports.left usual g.given.reports.passes in
-      elim g.given.reports.reports [
-        | place.of_lexer h ↦ stand.of_lexer fault at _ rest _ (errors_left q) refl (rw g.placed (sym same ∙ h)) r.places
-        | place.of_its_own here left ↦ stand.of_its_own fault _ rest _ (rw (g.placed, here)) (rw (← (left ∙ same)) r.places)
+      elim gives.given.reports.reports [
+        | place.of_lexer h ↦ stand.of_lexer fault at _ rest _ (errors_left q) r.left refl (rw (gives.placed, ← h, ← same) gives.given.reports.passes) r.places
+        | place.of_its_own here left ↦ stand.of_its_own fault _ rest _ (errors_left q) r.left (rw (gives.placed, here) refl) (rw (left, ← same) gives.given.reports.passes) r.places
       ];
+  none_left = r.none_left;
   holds = (tt, r.holds);
 }
 
-pub reported : (p q : Preprocessing) (calls : List Call) (answers : List (Option Given)) (given : List Given) → map Some given ++ None ∷ [] ≡ answers
-    → rules_of p ≡ pp_rs → Made p calls answers q → AreReported given (errors_left p)
-reported p q calls answers [] is usual (made.none p1 q1 c a ce ae e) = let bad : None ∷ [] ≡ [] = is ∙ ae in cc
-reported p q calls answers (g ∷ given) is usual (made.none p1 q1 c a ce ae e) = let bad : Some g ∷ map Some given ++ None ∷ [] ≡ [] = is ∙ ae in cc
-reported p q calls answers given is usual (made.added name content tokens p1 q1 r1 rest c a has w m e) =
-    rw (← w.errors) (reported q1 q rest answers given is (w.rules ∙ usual) m)
-reported p q calls answers given is usual (made.refused name content fault p1 r1 rest c a has m e) = reported p q rest answers given is usual m
-reported p q calls answers [] is usual (made.gave None p1 q1 r1 rest c others a g m e b) = record {
-  places = stand.none [] _ refl (sym (none_passed p g.given.reports.left usual g.given.reports.passes) ∙ g.given.reports.reports.0);
+-- the end was not reached, and nothing was given
+reported_none : (passes has_ended : Bool) (errors : List ErrorAt) → end_answer has_ended ≡ [] → AreReported passes has_ended [] errors
+reported_none passes true errors e = cc
+reported_none passes false errors e = record { left = errors; places = stand.none [] _ _ refl (none_passed passes errors); none_left = λ f. cc; holds = tt }
+
+-- an item is no end
+no_end : (has_ended : Bool) (g : Given) (others : List (Option Given)) → end_answer has_ended ≡ Some g ∷ others → ⊥
+no_end true g others e = cc
+no_end false g others e = cc
+
+pub reported : (rules : Rules) (p q : Preprocessing) (calls : List Call) (answers : List (Option Given)) (has_ended : Bool) (given : List Given)
+    → map Some given ++ end_answer has_ended ≡ answers → rules_of p ≡ rules → Made p calls answers q
+    → AreReported rules.passes_dead_errors has_ended given (errors_left p)
+reported rules p q calls answers has_ended [] is same (made.none p1 q1 c a ce ae e) = reported_none rules.passes_dead_errors has_ended (errors_left p) (is ∙ ae)
+reported rules p q calls answers has_ended (g ∷ given) is same (made.none p1 q1 c a ce ae e) =
+    let bad : Some g ∷ map Some given ++ end_answer has_ended ≡ [] = is ∙ ae in cc
+reported rules p q calls answers has_ended given is same (made.added name content tokens p1 q1 r1 rest c a has w m e) =
+    rw (← w.errors) (reported rules q1 q rest answers has_ended given is (w.rules ∙ same) m)
+reported rules p q calls answers has_ended given is same (made.refused name content fault p1 r1 rest c a has m e) =
+    reported rules p q rest answers has_ended given is same m
+reported rules p q calls answers has_ended [] is same (made.gave None p1 q1 r1 rest c others a g m e b) = record {
+  left = [];
+  places = stand.none [] _ _ refl (rw (← g.given.reports.reports.0, ← same) g.given.reports.passes);
+  none_left = λ f. refl;
   holds = tt;
 }
-reported p q calls answers [] is usual (made.gave (Some other) p1 q1 r1 rest c others a g m e b) = let bad : None ∷ [] ≡ Some other ∷ others = is ∙ b in cc
-reported p q calls answers (first ∷ given) is usual (made.gave answer p1 q1 r1 rest c others a g m e b) =
-    let same = same_first answer others first given (is ∙ b) in
-    reported_token p q1 first given usual (rw same.0 at g) (reported q1 q rest others given (sym same.1) (g.rules ∙ usual) m)
+reported rules p q calls answers has_ended [] is same (made.gave (Some other) p1 q1 r1 rest c others a g m e b) = absurd (no_end has_ended other others (is ∙ b))
+reported rules p q calls answers has_ended (first ∷ given) is same (made.gave answer p1 q1 r1 rest c others a g m e b) =
+    let it = same_first answer others (end_answer has_ended) first given (is ∙ b) in
+    reported_token rules has_ended p q1 first given same (rw it.0 at g) (reported rules q1 q rest others has_ended given (sym it.1) (g.rules ∙ same) m)

@@ -3,15 +3,13 @@ use Rattle.std.proofs.Common.{◌≡◌, ◌∙◌, ℕ, inl, inr, Bool, true, f
 use Rattle.std.specs.Prelude.{MatchBool}
 use Rattle.pp_macros.specs.Item.{Item, is_out_of_memory}
 use Rattle.pp_model.specs.Calls.{Fault}
-use Rattle.pp_model.specs.Run.{items_of, content_tokens}
+use Rattle.pp_model.specs.Run.{items_by, content_tokens}
 use Rattle.pp_rs.specs.Adding.{IsAdded, refused, faulty, added}
 use Rattle.pp_rs.specs.Kept.{Preprocessing, is_spent, error_place, rules_of}
 use Rattle.pp_rs.specs.Location.{nowhere}
 use Rattle.pp_rs.specs.Preprocessing.{is_refusal, IsGivenItem, IsNextItem}
 use Rattle.pp_rs.specs.PreprocessorError.{out_of_memory}
-use Rattle.pp_rs.specs.Rules.{pp_rs}
 use Rattle.pp_rs.specs.declared.token.Token.{Token}
-use Rattle.pp_rs.proofs.runs.AddingLemmas.{tokens_by_pp_rs}
 use Rattle.pp_c.specs.Calls.{name_in, content_in, with_answer, with_fault}
 use Rattle.pp_c.specs.Numbers.{error_number}
 use Rattle.pp_c.specs.Preprocessed.{token, error}
@@ -45,16 +43,15 @@ module _ (old new : Preprocessing) (ready : is_spent old ≡ false) where
   next_item (Err fault) reported h = next_error fault reported h
 
 module _ (words : List ℕ) (definition after : Definition) (name content : List ℕ) (old new : Preprocessing)
-    (is_name : name ≡ name_in words definition) (is_content : content ≡ content_in words definition) (usual : rules_of old ≡ pp_rs) where
+    (is_name : name ≡ name_in words definition) (is_content : content ≡ content_in words definition) where
   pub adds_added : IsAdded old name content (Ok tt) new → after ≡ with_answer definition 0 nowhere → AddsOne words definition after old new
   adds_added (refused given same) e = cc
   adds_added (faulty fault has given same) e = cc
   adds_added (added tokens has given h) e =
-      let it : content_tokens (items_of content) ≡ Ok tokens = tokens_by_pp_rs old content usual ∙ has in
       record {
-        made = made.added name content tokens old new new [] _ [] it h (made.none new new [] [] refl refl refl) (rw (is_name, is_content));
+        made = made.added name content tokens old new new [] _ [] has h (made.none new new [] [] refl refl refl) (rw (is_name, is_content));
         spent = h.spent;
-        written = e ∙ ap (with_fault definition) (sym it ∙ ap (λ c. content_tokens (items_of c)) is_content);
+        written = e ∙ ap (with_fault definition) (sym has ∙ ap (λ c. content_tokens (items_by (rules_of old) c)) is_content);
       }
 
   pub adds_refused : (fault : Fault) → is_out_of_memory fault.0 ≡ false → IsAdded old name content (Err fault) new
@@ -65,10 +62,10 @@ module _ (words : List ℕ) (definition after : Definition) (name content : List
       cc
   adds_refused fault reported (faulty other has given same) e =
       let this : other ≡ fault = cc in
-      let it : content_tokens (items_of content) ≡ Err fault = tokens_by_pp_rs old content usual ∙ has ∙ ap (λ (f : Fault). Err f) this in
+      let it : content_tokens (items_by (rules_of old) content) ≡ Err fault = has ∙ ap (λ (f : Fault). Err f) this in
       record {
         made = made.refused name content fault old new [] _ [] it (made.none old new [] [] refl refl same) (rw (is_name, is_content));
         spent = ap is_spent same;
-        written = e ∙ ap (with_fault definition) (sym it ∙ ap (λ c. content_tokens (items_of c)) is_content);
+        written = e ∙ ap (with_fault definition) (sym it ∙ ap (λ c. content_tokens (items_by (rules_of old) c)) is_content);
       }
   adds_refused fault reported (added tokens has given h) e = cc

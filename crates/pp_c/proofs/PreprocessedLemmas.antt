@@ -1,32 +1,45 @@
 -- What a call gives in C.
-use Rattle.std.proofs.Common.{◌≡◌, ◌∙◌, ℕ, ◌+◌, ◌<◌, ◌^◌, List, [], ◌∷◌, ◌++◌, map, length, drop, refl, ap, Some, None, arith}
-use Rattle.pp_macros.specs.LexerErrors.{lexer_errors}
-use Rattle.pp_model.specs.Run.{items_of, start}
+use Rattle.std.proofs.Common.{◌≡◌, ◌∙◌, ℕ, ◌<◌, ◌^◌, Bool, true, false, None, List, ◌++◌, length, drop, ap, sym, arith}
+use Rattle.pp_macros.specs.LexerErrors.{lexer_errors_by}
+use Rattle.pp_model.specs.Run.{items_by, start_by}
 use Rattle.pp_rs.specs.Kept.{Preprocessing, Stands, errors_left, rules_of}
-use Rattle.pp_rs.specs.Rules.{pp_rs}
+use Rattle.pp_rs.specs.declared.rules.Rules.{Rules}
 use Rattle.pp_c.specs.Calls.{calls_from}
 use Rattle.pp_c.specs.Ends.{HasRoom}
 use Rattle.pp_c.specs.Entries.{Entry, in_64_bits, items_from, texts_of, room_of, put_over}
-use Rattle.pp_c.specs.Preprocessed.{AreWritten}
-use Rattle.pp_c.specs.inner.Making.{HasAll, Gives}
+use Rattle.pp_c.specs.Preprocessed.{times_asked, AreWritten, PreprocessesBy, AnswersBy}
+use Rattle.pp_c.specs.inner.Making.{answers_of, HasAll, Gives}
 use Rattle.pp_c.specs.inner.Taking.{Takes, HaveRoom, written_over}
 use Rattle.pp_c.specs.declared.items.Definition.{Definition}
 use Rattle.pp_c.specs.declared.items.Item.{Item}
 use Rattle.pp_c.specs.declared.items.Sizes.{Sizes}
+use Rattle.pp_c.specs.declared.options.Setting.{Setting}
 use Rattle.pp_c.specs.declared.output.Output.{Output}
-use Rattle.pp_c.proofs.MadeLemmas.{run_to_end, reported}
+use Rattle.pp_c.proofs.MadeLemmas.{answers_then, run_of_calls, reported}
 use Rattle.pp_c.proofs.TakingLemmas.{room_after-is, sizes_same}
 
 -- the items of a source, from what was made of it
-pub gives_items : (source words : List ℕ) (definitions : List Definition) (begun new : Preprocessing) (output after : Output)
-    → Stands begun (start (items_of source)) → errors_left begun ≡ lexer_errors source → rules_of begun ≡ pp_rs → HasAll begun output words definitions new after
-    → Gives source words definitions output after
-gives_items source words definitions begun new output after stands errors usual h =
-    let r = run_to_end begun new (calls_from words (length h.given + 1) 0 definitions) h.given (start (items_of source)) stands h.made in
-    let p = reported begun new (calls_from words (length h.given + 1) 0 definitions) (map Some h.given ++ None ∷ []) h.given refl usual h.made in
+pub gives_items : (setting : Setting) (has_ended : Bool) (source words : List ℕ) (definitions : List Definition) (begun new : Preprocessing) (output after : Output)
+    → Stands begun (start_by setting.rules (items_by setting.rules source)) → errors_left begun ≡ lexer_errors_by setting.rules source
+    → rules_of begun ≡ setting.rules → HasAll setting.most_items has_ended begun output words definitions new after
+    → Gives setting has_ended source words definitions output after
+gives_items setting has_ended source words definitions begun new output after stands errors same h =
+    let rules = setting.rules in
+    let calls = calls_from words (times_asked has_ended h.given) 0 definitions in
+    let r = run_of_calls rules begun new calls has_ended h.given (start_by rules (items_by rules source)) same stands h.made in
+    let p = reported rules begun new calls (answers_of h.given has_ended) has_ended h.given (sym (answers_then h.given has_ended)) same h.made in
     record {
       given = h.given;
-      are_items = record { replies = r.replies; run = r.runs; gives = r.gives; places = rw errors at p.places; holds = p.holds };
+      are_items = record {
+        replies = r.replies;
+        run = r.runs;
+        gives = r.gives;
+        left = p.left;
+        places = rw errors at p.places;
+        none_left = p.none_left;
+        holds = p.holds;
+      };
+      stops = h.stops;
       takes = h.takes;
     }
 
@@ -59,3 +72,15 @@ are_written entries output after items items_after texts texts_after sizes i t o
       items_are = λ r. ai ∙ h.items (have r) ∙ rw (zero_items, zero_texts, oi) (over_front (items_from 0 entries) items);
       texts_are = λ r. at ∙ h.texts (have r) ∙ rw (zero_texts, ot) (over_front (texts_of entries) texts);
     }
+
+module _ (rules : Rules) (answer : ℕ) (source words : List ℕ) (definitions : List Definition) (items items_after : List Item) (texts texts_after : List ℕ)
+    (sizes : Sizes) where
+  to_end : (has_ended : Bool) → PreprocessesBy rules None has_ended source words definitions items items_after texts texts_after sizes
+      → PreprocessesBy rules None true source words definitions items items_after texts texts_after sizes
+  to_end true h = h
+  to_end false h = absurd h.stops
+
+  -- where no number is given the end is reached
+  pub all_preprocessed : AnswersBy rules None answer source words definitions items items_after texts texts_after sizes
+      → PreprocessesBy rules None true source words definitions items items_after texts texts_after sizes
+  all_preprocessed h = to_end h.has_ended h.preprocesses

@@ -2,7 +2,7 @@
 use Rattle.std.proofs.Common.{◌≡◌, ℕ, ◌<◌, List, length, get_or, Result, Ok, Err, IsErrAnd, Any, ap}
 use Rattle.std.proofs.lemmas.List.{get_or_default}
 use Rattle.pp_c.specs.declared.status.Refusal.{Refusal}
-use Rattle.pp_c.specs.declared.status.Refusal.TheVariants.{NotUtf8, TooLong, BadDefinition, OutOfMemory}
+use Rattle.pp_c.specs.declared.status.Refusal.TheVariants.{NotUtf8, TooLong, BadDefinition, OutOfMemory, OverBudget}
 use Rattle.pp_c.specs.inner.Refusing.{IsAddingRefusal}
 
 -- a result whose error is known
@@ -21,3 +21,4 @@ refusal_of_all Long Outside xs i d NotUtf8 within h = absurd h
 refusal_of_all Long Outside xs i d TooLong within h = any_at Long xs i d within h
 refusal_of_all Long Outside xs i d BadDefinition within h = any_at Outside xs i d within h
 refusal_of_all Long Outside xs i d OutOfMemory within h = tt
+refusal_of_all Long Outside xs i d OverBudget within h = absurd h

@@ -2,8 +2,10 @@
 use Rattle.std.specs.Prelude.{ℕ, ◌+◌, ◌-◌, ◌^◌, ◌<◌, ◌≤◌, min, max, List, [], ◌∷◌, ◌++◌, length}
 use Rattle.std.specs.Prelude.{replicate, slice_range, IsCharBoundary, Result, Ok, Err}
 use Rattle.pp_model.specs.Calls.{Fault}
-use Rattle.pp_model.specs.Run.{Call, add_define, next, items_of, content_tokens}
+use Rattle.pp_model.specs.Run.{Call, add_define, next, items_by, content_tokens}
 use Rattle.pp_rs.specs.Location.{nowhere}
+use Rattle.pp_rs.specs.Rules.{pp_rs}
+use Rattle.pp_rs.specs.declared.rules.Rules.{Rules}
 use Rattle.pp_rs.specs.declared.token.Location.{Location}
 use Rattle.pp_rs.specs.declared.token.Token.{Token}
 use Rattle.pp_c.specs.Numbers.{error_number}
@@ -46,8 +48,8 @@ abbrev pub adding : List ℕ → Definition → Call
 adding words definition = add_define (name_in words definition) (content_in words definition)
 
 -- The calls for definitions with these words, if `next` is called `all` times in the whole run, the last of which gives
--- the end, and `made` times so far. Before a definition is added, `next` is called until as many items were given as
--- the definition's `after` says, or the end was.
+-- the end if it is reached, and `made` times so far. Before a definition is added, `next` is called until as many items
+-- were given as the definition's `after` says, or no call of `next` is left.
 abbrev pub calls_from : List ℕ → ℕ → ℕ → List Definition → List Call
 calls_from words all made [] = replicate (all - made) next
 calls_from words all made (definition ∷ definitions) =
@@ -68,5 +70,11 @@ abbrev pub with_fault : Definition → Result (List Token) Fault → Definition
 with_fault definition (Ok tokens) = with_answer definition 0 nowhere
 with_fault definition (Err fault) = with_answer definition (error_number fault.0) fault.1
 
+-- with the reply to its content by these rules
+abbrev pub answered_by : Rules → List ℕ → Definition → Definition
+answered_by rules words definition =
+    with_fault definition (content_tokens (items_by rules (content_in words definition)))
+
+-- the same by pp-rs's rules
 abbrev pub answered : List ℕ → Definition → Definition
-answered words definition = with_fault definition (content_tokens (items_of (content_in words definition)))
+answered = answered_by pp_rs

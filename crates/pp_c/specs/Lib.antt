@@ -1,4 +1,5 @@
 pub mod Ends
+pub mod Options
 pub mod Entries
 pub mod Calls
 pub mod Preprocessed

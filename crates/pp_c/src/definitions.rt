@@ -4,8 +4,6 @@ ghost use Rattle.std.specs.Prelude.{◌≡◌, IfOk, IfErr, OnOk};
 ghost use Rattle.pp_c.specs.Calls.{part_of, with_answer, LiesIn, Fits, HasLongContent, LiesOutside};
 ghost use Rattle.pp_c.specs.inner.Making.{AddsOne};
 ghost use Rattle.pp_c.specs.inner.Refusing.{IsAddingRefusal};
-ghost use Rattle.pp_rs.specs.Kept.{rules_of};
-ghost use Rattle.pp_rs.specs.Rules.{pp_rs};
 
 use crate::faults::number_of;
 use crate::items::Definition;
@@ -50,7 +48,6 @@ pub(crate) fn add(
     words: &str,
     definition: &mut Definition,
 ) -> Result<(), Refusal>
-    requires { rules_of pp.old ≡ pp_rs }
     ensures added { OnOk result (AddsOne words.now definition.old definition.new pp.old pp.new) }
     ensures fits { OnOk result (Fits words.now definition.old) }
     ensures err { IfErr result (λ refusal. IsAddingRefusal refusal

@@ -24,6 +24,7 @@ pub(crate) fn lex(alloc: Global, source: &[u8], output: &mut Output<'_>) -> Resu
         ↔ ((length source.now < 2 ^ 32 - 1) × ¬ (IsUtf8 source.now)) }
     ensures too_long { (result ≡ Err Refusal.TooLong) ↔ (2 ^ 32 - 1 ≤ length source.now) }
     ensures no_definition { result ≢ Err Refusal.BadDefinition }
+    ensures no_budget { result ≢ Err Refusal.OverBudget }
 {
     if source.len() >= LIMIT {
         return Err(Refusal::TooLong);

@@ -2,16 +2,18 @@
 //! declares the functions and types here, and says what a caller in C has to uphold.
 #![tactic(auto)]
 
-ghost use Rattle.std.specs.Prelude.{◌≡◌, ◌≢◌, ◌↔◌, ◌⊎◌, ◌<◌, ◌≤◌, ◌-◌, ◌^◌, map, length, IsUtf8, All, Any};
-ghost use Rattle.pp_c.specs.Calls.{answered, Fits, HasLongContent, LiesOutside};
+ghost use Rattle.std.specs.Prelude.{◌≡◌, ◌≢◌, ◌↔◌, ◌⊎◌, ◌<◌, ◌≤◌, ◌-◌, ◌^◌, map, length, None, IsUtf8, All, Any};
+ghost use Rattle.pp_c.specs.Calls.{answered, answered_by, Fits, HasLongContent, LiesOutside};
 ghost use Rattle.pp_c.specs.Ends.{HasRoom};
 ghost use Rattle.pp_c.specs.Lexing.{lexer_entries};
-ghost use Rattle.pp_c.specs.Preprocessed.{AreWritten, Preprocesses};
+ghost use Rattle.pp_c.specs.Options.{AreOptions, rules_in};
+ghost use Rattle.pp_c.specs.Preprocessed.{AreWritten, AnswersBy, HasItems, Preprocesses, PreprocessesWith};
 
 mod definitions;
 mod faults;
 mod items;
 mod lexing;
+mod options;
 mod output;
 mod preprocessing;
 mod status;
@@ -19,9 +21,11 @@ mod words;
 
 pub use items::{Definition, Item, Sizes};
 use lexing::lex;
+pub use options::Options;
+use options::Setting;
 use output::Output;
 use preprocessing::preprocess;
-use status::status_after;
+use status::{Status, status_after};
 use std::alloc::Global;
 
 // The room that the caller provides.
@@ -35,8 +39,44 @@ fn room_of(items: &[Item], texts: &[u8]) -> Sizes
     }
 }
 
-/// Preprocesses `source`, and writes its items into `items` and their texts into `texts`. Error items are among them,
-/// and items follow them.
+// Does what `pp_preprocess_with` does, for what its options ask for.
+fn answer(
+    alloc: Global,
+    setting: Setting,
+    source: &[u8],
+    words: &[u8],
+    definitions: &mut [Definition],
+    items: &mut [Item],
+    texts: &mut [u8],
+    sizes: &mut Sizes,
+) -> u32
+    ensures answer { result < 8 }
+    ensures given { HasItems result → AnswersBy setting.rules setting.most_items result source.now words.now
+        definitions.old items.old items.new texts.old texts.new sizes.new }
+    ensures answered { HasItems result
+        → definitions.new ≡ map (answered_by setting.rules words.now) definitions.old }
+    ensures room { (result ≡ 0) ⊎ (result ≡ 7) → HasRoom (length items.old) (length texts.old) sizes.new }
+    ensures too_small { result ≡ 1 → ¬ (HasRoom (length items.old) (length texts.old) sizes.new) }
+    ensures text { HasItems result → IsUtf8 source.now × IsUtf8 words.now }
+    ensures fit { HasItems result → All (Fits words.now) definitions.old }
+    ensures not_utf8 { (result ≡ 2)
+        ↔ ((length source.now < 2 ^ 32 - 1) × ¬ (IsUtf8 source.now × IsUtf8 words.now)) }
+    ensures long_source { 2 ^ 32 - 1 ≤ length source.now → result ≡ 3 }
+    ensures too_long { result ≡ 3
+        → (2 ^ 32 - 1 ≤ length source.now) ⊎ Any (HasLongContent words.now) definitions.old }
+    ensures bad_definition { result ≡ 4 → Any (LiesOutside words.now) definitions.old }
+    ensures over_budget { result ≡ 6 → setting.budget ≢ None }
+{
+    let room = room_of(items, texts);
+    let mut output = Output::new(items, texts);
+    let end = preprocess(alloc, setting, source, words, definitions, &mut output);
+    let wanted = output.sizes();
+    *sizes = wanted;
+    status_after(end, wanted, room) as u32
+}
+
+/// Preprocesses `source` by pp-rs's rules, and writes its items into `items` and their texts into `texts`. Error items
+/// are among them, and items follow them.
 ///
 /// Each of `definitions` is added as soon as its number of items was given and the definitions before it were added. If
 /// its number isn't reached, it is added after the last item. The error of its content, or 0, is written into it.
@@ -71,12 +111,74 @@ pub extern "C" fn pp_preprocess(
         → (2 ^ 32 - 1 ≤ length source.now) ⊎ Any (HasLongContent words.now) definitions.old }
     ensures bad_definition { result ≡ 4 → Any (LiesOutside words.now) definitions.old }
 {
-    let room = room_of(items, texts);
-    let mut output = Output::new(items, texts);
-    let end = preprocess(alloc, source, words, definitions, &mut output);
-    let wanted = output.sizes();
-    *sizes = wanted;
-    status_after(end, wanted, room) as u32
+    answer(
+        alloc,
+        Setting::PLAIN,
+        source,
+        words,
+        definitions,
+        items,
+        texts,
+        sizes,
+    )
+}
+
+/// Does what [`pp_preprocess`] does, by the rules that the options name, within a budget of steps, and up to a number
+/// of items. With 0 for each of these it is the same.
+///
+/// A step is a token that is read, put on a list, or passed in the body or an argument of a macro, wherever that
+/// happens. If the items need more steps than the budget has, the status is `PP_OVER_BUDGET`. So the time and the
+/// memory that a call takes are bounded by the budget, by the length of the longest token, and by the definitions,
+/// which take no steps.
+///
+/// If `most_items` isn't 0, the call stops after so many items, and takes no more time than these and the definitions
+/// do. Items that belong to another item don't count. Then the status is `PP_PARTIAL`, also if no item follows, and a
+/// definition whose number isn't reached is added after the last item. If there are fewer items, it is `PP_DONE`.
+///
+/// If the options have another size than [`Options`], or rules that aren't among its rules, the status is
+/// `PP_BAD_OPTIONS`.
+#[unsafe(no_mangle)]
+pub extern "C" fn pp_preprocess_with(
+    alloc: Global,
+    options: &Options,
+    source: &[u8],
+    words: &[u8],
+    definitions: &mut [Definition],
+    items: &mut [Item],
+    texts: &mut [u8],
+    sizes: &mut Sizes,
+) -> u32
+    ensures answer { result < 9 }
+    ensures bad_options { (result ≡ 8) ↔ ¬ (AreOptions options.now) }
+    ensures given { HasItems result → PreprocessesWith options.now result source.now words.now definitions.old
+        items.old items.new texts.old texts.new sizes.new }
+    ensures answered { HasItems result
+        → definitions.new ≡ map (answered_by (rules_in options.now) words.now) definitions.old }
+    ensures room { (result ≡ 0) ⊎ (result ≡ 7) → HasRoom (length items.old) (length texts.old) sizes.new }
+    ensures too_small { result ≡ 1 → ¬ (HasRoom (length items.old) (length texts.old) sizes.new) }
+    ensures text { HasItems result → IsUtf8 source.now × IsUtf8 words.now }
+    ensures fit { HasItems result → All (Fits words.now) definitions.old }
+    ensures not_utf8 { AreOptions options.now → ((result ≡ 2)
+        ↔ ((length source.now < 2 ^ 32 - 1) × ¬ (IsUtf8 source.now × IsUtf8 words.now))) }
+    ensures long_source { AreOptions options.now → 2 ^ 32 - 1 ≤ length source.now → result ≡ 3 }
+    ensures too_long { result ≡ 3
+        → (2 ^ 32 - 1 ≤ length source.now) ⊎ Any (HasLongContent words.now) definitions.old }
+    ensures bad_definition { result ≡ 4 → Any (LiesOutside words.now) definitions.old }
+    ensures over_budget { result ≡ 6 → options.now.budget ≢ 0 }
+{
+    let Some(setting) = options.setting() else {
+        return Status::BadOptions as u32;
+    };
+    answer(
+        alloc,
+        setting,
+        source,
+        words,
+        definitions,
+        items,
+        texts,
+        sizes,
+    )
 }
 
 /// Lexes `source`, and writes the items of its lexer into `items` and their texts into `texts`, as [`pp_preprocess`]
@@ -104,5 +206,5 @@ pub extern "C" fn pp_lex(
     let end = lex(alloc, source, &mut output);
     let wanted = output.sizes();
     *sizes = wanted;
-    status_after(end, wanted, room) as u32
+    status_after(end.and(Ok(true)), wanted, room) as u32
 }

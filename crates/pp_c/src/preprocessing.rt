@@ -1,7 +1,7 @@
 //! The items of a preprocessed source.
 
 ghost use Rattle.std.specs.Prelude.{◌≡◌, ◌↔◌, ◌⊎◌, ◌<◌, ◌≤◌, ◌-◌, ◌^◌, ◌∷◌, [], true, false, map, length};
-ghost use Rattle.std.specs.Prelude.{IsOk, OnOk, IfOk, IfErr, IsTrue, IsUtf8, All, Any, Some};
+ghost use Rattle.std.specs.Prelude.{◌≢◌, Option, None, IsOk, OnOk, IfOk, IfErr, IsTrue, IsUtf8, All, Any, Some};
 ghost use Rattle.pp_macros.specs.Item.{is_out_of_memory};
 ghost use Rattle.pp_rs.specs.Preprocessing.{is_refusal};
 ghost use Rattle.pp_rs.specs.TokenRefs.{value_of};
@@ -9,19 +9,20 @@ ghost use Rattle.pp_c.specs.Preprocessed.{given_entries};
 ghost use Rattle.pp_rs.specs.Preorder.{preorder, inner, leaf_of};
 ghost use Rattle.pp_rs.specs.TokenValue.{is_ordinary};
 ghost use Rattle.pp_rs.specs.Kept.{is_spent, most_items, rules_of};
-ghost use Rattle.pp_rs.specs.Rules.{pp_rs};
-ghost use Rattle.pp_c.specs.Calls.{answered, Fits, HasLongContent, LiesOutside};
+ghost use Rattle.pp_c.specs.Calls.{answered_by, Fits, HasLongContent, LiesOutside};
 ghost use Rattle.pp_c.specs.Entries.{in_32_bits};
 ghost use Rattle.pp_c.specs.Tokens.{item_at, leaf_entry, token_entries, error_entries};
 ghost use Rattle.pp_c.specs.inner.Kinds.{kind_number};
-ghost use Rattle.pp_c.specs.inner.Refusing.{IsAddingRefusal};
+ghost use Rattle.pp_c.specs.inner.Refusing.{IsAddingRefusal, IsRefusalWithin};
 ghost use Rattle.pp_c.specs.inner.Making.{given_of, NextIsWritten, IsUntil, GoesOn, HasRest, HasAll, Gives};
+ghost use Rattle.pp_c.specs.inner.Making.{up_to};
 ghost use Rattle.pp_c.specs.inner.Taking.{Takes};
 
 use crate::definitions::{LIMIT, add};
 use crate::items::{
     COMMENTS_BEFORE, Definition, FIRST_DIRECTIVE, Item, Kind, NON_DIRECTIVE_BEFORE, bit_if,
 };
+use crate::options::Setting;
 use crate::output::Output;
 use crate::status::Refusal;
 use crate::words::{give_error, give_float, give_integer, give_name, give_punctuator, item_at};
@@ -30,16 +31,18 @@ use pp_rs::token::{Location, PreprocessorError, Token, TokenValue};
 use std::alloc::{AllocError, Global};
 use std::str;
 
-/// Gives the items of a source, with the definitions added at their numbers.
+/// Gives the items of a source, with the definitions added at their numbers. Returns whether the end was reached.
 pub(crate) fn preprocess(
     alloc: Global,
+    setting: Setting,
     source: &[u8],
     words: &[u8],
     definitions: &mut [Definition],
     output: &mut Output<'_>,
-) -> Result<(), Refusal>
-    ensures given { OnOk result (Gives source.now words.now definitions.old output.old output.new) }
-    ensures answered { OnOk result (definitions.new ≡ map (answered words.now) definitions.old) }
+) -> Result<bool, Refusal>
+    ensures given { IfOk result (λ has_ended.
+        Gives setting has_ended source.now words.now definitions.old output.old output.new) }
+    ensures answered { OnOk result (definitions.new ≡ map (answered_by setting.rules words.now) definitions.old) }
     ensures text { IsOk result → IsUtf8 source.now × IsUtf8 words.now }
     ensures fit { IsOk result → All (Fits words.now) definitions.old }
     ensures not_utf8 { (result ≡ Err Refusal.NotUtf8)
@@ -49,6 +52,7 @@ pub(crate) fn preprocess(
         → (2 ^ 32 - 1 ≤ length source.now) ⊎ Any (HasLongContent words.now) definitions.old }
     ensures bad_definition { result ≡ Err Refusal.BadDefinition
         → Any (LiesOutside words.now) definitions.old }
+    ensures over_budget { result ≡ Err Refusal.OverBudget → setting.budget ≢ None }
 {
     if source.len() >= LIMIT {
         return Err(Refusal::TooLong);
@@ -56,10 +60,49 @@ pub(crate) fn preprocess(
     let (Ok(source), Ok(words)) = (str::from_utf8(source), str::from_utf8(words)) else {
         return Err(Refusal::NotUtf8);
     };
-    let mut pp = Preprocessor::new(alloc, source);
-    let end = give_all(&mut pp, words, definitions, output);
+    let mut pp = Preprocessor::with_rules(alloc, source, setting.rules);
+    let end = give_within(&mut pp, setting, words, definitions, output);
     drop(pp);
     end
+}
+
+// Gives the items within the budget. Returns whether the end was reached.
+fn give_within(
+    pp: &mut Preprocessor<'_>,
+    setting: Setting,
+    words: &str,
+    definitions: &mut [Definition],
+    output: &mut Output<'_>,
+) -> Result<bool, Refusal>
+    requires { is_spent pp.old ≡ false }
+    ensures given { IfOk result (λ has_ended. HasAll setting.most_items has_ended pp.old output.old
+        words.now definitions.old pp.new output.new) }
+    ensures answered { OnOk result (definitions.new
+        ≡ map (answered_by (rules_of pp.old) words.now) definitions.old) }
+    ensures fit { OnOk result (All (Fits words.now) definitions.old) }
+    ensures err { IfErr result (λ refusal. IsRefusalWithin setting.budget refusal
+        (Any (HasLongContent words.now) definitions.old) (Any (LiesOutside words.now) definitions.old)) }
+{
+    set_budget(pp, setting.budget)?;
+    match give_all(pp, setting.most_items, words, definitions, output) {
+        Err(Refusal::OutOfMemory) if setting.budget.is_some() && pp.is_over_budget() => {
+            Err(Refusal::OverBudget)
+        }
+        end => end,
+    }
+}
+
+// Bounds the steps, if there is a budget.
+fn set_budget(pp: &mut Preprocessor<'_>, budget: Option<u64>) -> Result<(), AllocError>
+    ensures { pp.new ≡ pp.old }
+{
+    let Some(steps) = budget else {
+        return Ok(());
+    };
+    match pp.set_budget(steps) {
+        Ok(()) => Ok(()),
+        Err(_) => Err(AllocError),
+    }
 }
 
 // How many items were given so far, and whether the end was reached.
@@ -69,17 +112,19 @@ struct Progress {
     has_ended: bool,
 }
 
-// Gives all items, with the definitions added at their numbers.
+// Gives the items, `most` or all, with the definitions added at their numbers. Returns whether the end was reached.
 fn give_all(
     pp: &mut Preprocessor<'_>,
+    most: Option<u64>,
     words: &str,
     definitions: &mut [Definition],
     output: &mut Output<'_>,
-) -> Result<(), Refusal>
-    requires unspent { is_spent pp.old ≡ false }
-    requires rules { rules_of pp.old ≡ pp_rs }
-    ensures given { OnOk result (HasAll pp.old output.old words.now definitions.old pp.new output.new) }
-    ensures answered { OnOk result (definitions.new ≡ map (answered words.now) definitions.old) }
+) -> Result<bool, Refusal>
+    requires { is_spent pp.old ≡ false }
+    ensures given { IfOk result (λ has_ended. HasAll most has_ended pp.old output.old
+        words.now definitions.old pp.new output.new) }
+    ensures answered { OnOk result (definitions.new
+        ≡ map (answered_by (rules_of pp.old) words.now) definitions.old) }
     ensures fit { OnOk result (All (Fits words.now) definitions.old) }
     ensures err { IfErr result (λ refusal. IsAddingRefusal refusal
         (Any (HasLongContent words.now) definitions.old) (Any (LiesOutside words.now) definitions.old)) }
@@ -89,12 +134,26 @@ fn give_all(
         has_ended: false,
     };
     for i in 0..definitions.len() {
-        let after = definitions[i].after;
+        let after = up_to(most, definitions[i].after);
         give_until(pp, after, &mut progress, output)?;
         add(pp, words, &mut definitions[i])?;
     }
-    give_rest(pp, progress, output)?;
-    Ok(())
+    let Some(most) = most else {
+        give_rest(pp, progress, output)?;
+        return Ok(true);
+    };
+    give_until(pp, most, &mut progress, output)?;
+    Ok(progress.has_ended)
+}
+
+// The smaller of both, if there are two.
+fn up_to(most: Option<u64>, count: u64) -> u64
+    ensures { result ≡ up_to most count }
+{
+    match most {
+        Some(most) => count.min(most),
+        None => count,
+    }
 }
 
 // Gives items until `count` items were given, or to the end.

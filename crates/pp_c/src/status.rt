@@ -1,6 +1,6 @@
 //! How a call ends.
 
-ghost use Rattle.std.specs.Prelude.{◌≡◌, ◌⊎◌, ◌↔◌, IsOk};
+ghost use Rattle.std.specs.Prelude.{◌≡◌, ◌≢◌, ◌⊎◌, ◌↔◌, true, false, IsOk};
 ghost use Rattle.pp_c.specs.Ends.{HasRoom};
 
 use crate::items::Sizes;
@@ -21,6 +21,12 @@ pub(crate) enum Status {
     BadDefinition,
     /// An allocation failed.
     OutOfMemory,
+    /// The items need more steps than the budget has.
+    OverBudget,
+    /// As many items as were asked for were written. The end wasn't reached.
+    Partial,
+    /// This library doesn't know the options.
+    BadOptions,
 }
 
 /// Why a call can't give the items.
@@ -30,6 +36,7 @@ pub(crate) enum Refusal {
     TooLong,
     BadDefinition,
     OutOfMemory,
+    OverBudget,
 }
 
 impl From<AllocError> for Refusal {
@@ -43,21 +50,32 @@ impl From<AllocError> for Refusal {
     }
 }
 
-/// The status of a call, from how its items ended, how much room they take and how much there is.
-pub(crate) fn status_after(end: Result<(), Refusal>, sizes: Sizes, room: Sizes) -> Status
-    ensures given { (result ≡ Status.Done) ⊎ (result ≡ Status.TooSmall) → IsOk end }
+/// The status of a call, from whether its items ended with the source's, how much room they take and how much there is.
+pub(crate) fn status_after(end: Result<bool, Refusal>, sizes: Sizes, room: Sizes) -> Status
+    ensures done { result ≡ Status.Done → end ≡ Ok true }
+    ensures partial { result ≡ Status.Partial → end ≡ Ok false }
+    ensures too_small { result ≡ Status.TooSmall → IsOk end }
     ensures not_utf8 { (result ≡ Status.NotUtf8) ↔ (end ≡ Err Refusal.NotUtf8) }
     ensures too_long { (result ≡ Status.TooLong) ↔ (end ≡ Err Refusal.TooLong) }
     ensures bad_definition { (result ≡ Status.BadDefinition) ↔ (end ≡ Err Refusal.BadDefinition) }
-    ensures done { result ≡ Status.Done → HasRoom room.items room.texts sizes }
-    ensures too_small { result ≡ Status.TooSmall → ¬ (HasRoom room.items room.texts sizes) }
+    ensures over_budget { (result ≡ Status.OverBudget) ↔ (end ≡ Err Refusal.OverBudget) }
+    ensures good_options { result ≢ Status.BadOptions }
+    ensures room { (result ≡ Status.Done) ⊎ (result ≡ Status.Partial) → HasRoom room.items room.texts sizes }
+    ensures no_room { result ≡ Status.TooSmall → ¬ (HasRoom room.items room.texts sizes) }
 {
     match end {
-        Ok(()) if sizes.items <= room.items && sizes.texts <= room.texts => Status::Done,
-        Ok(()) => Status::TooSmall,
+        Ok(has_ended) if sizes.items <= room.items && sizes.texts <= room.texts => {
+            if has_ended {
+                Status::Done
+            } else {
+                Status::Partial
+            }
+        }
+        Ok(_) => Status::TooSmall,
         Err(Refusal::NotUtf8) => Status::NotUtf8,
         Err(Refusal::TooLong) => Status::TooLong,
         Err(Refusal::BadDefinition) => Status::BadDefinition,
         Err(Refusal::OutOfMemory) => Status::OutOfMemory,
+        Err(Refusal::OverBudget) => Status::OverBudget,
     }
 }

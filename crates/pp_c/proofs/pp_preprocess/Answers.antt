@@ -1,39 +1,6 @@
-use Rattle.std.proofs.Common.{◌∙◌, ap, sym, arith}
-use denote.Enum.Declared.{tag_of}
-use Rattle.pp_c.specs.contracts.status.Status.{the_type}
-use Rattle.pp_c.proofs.PreprocessedLemmas.{are_written}
-use Rattle.pp_c.proofs.ResultLemmas.{if_ok}
-use Rattle.pp_c.proofs.StatusLemmas.{below_two, by_number}
-use Rattle.pp_c.specs.Preprocessed.{entries_of}
+use Rattle.std.proofs.Common.{inl}
+use Rattle.pp_c.proofs.PreprocessedLemmas.{all_preprocessed}
 use Rattle.pp_c.proofs.pp_preprocess.Goals as goal
 
 pub returns-clause-given : goal.returns-clause-given
-returns-clause-given c = λ h.
-    let gives = if_ok c.preprocess-end.result (c.status_after.ensures.given (below_two c.status_after.result h)) c.preprocess-end.ensures.given in
-    let same_items = sym c.new-output.ensures.same_items ∙ sym gives.takes.same_items in
-    let same_texts = sym c.new-output.ensures.same_texts ∙ sym gives.takes.same_texts in
-    record {
-      given = gives.given;
-      are_items = gives.are_items;
-      written = are_written (entries_of gives.given) c.new-output.result c.preprocess-end.new.output c.args.items.now _ c.args.texts.now _ c.sizes-wanted.result
-          (omega arith) (omega arith) c.new-output.ensures.items c.new-output.ensures.texts c.new-output.ensures.sizes gives.takes
-          (c.items-1.given.1.1 same_items) (c.texts-1.given.1.1 same_texts) c.sizes-wanted.ensures;
-    }
-
-pub returns-clause-not_utf8 : goal.returns-clause-not_utf8
-returns-clause-not_utf8 c = (
-  λ e. c.preprocess-end.ensures.not_utf8.0 (c.status_after.ensures.not_utf8.0 (by_number c.status_after.result 2 e)),
-  λ h. ap (tag_of the_type) (c.status_after.ensures.not_utf8.1 (c.preprocess-end.ensures.not_utf8.1 h)),
-)
-
-pub returns-clause-fit : goal.returns-clause-fit
-returns-clause-fit c = λ h. c.preprocess-end.ensures.fit (c.status_after.ensures.given (below_two c.status_after.result h))
-
-pub returns-clause-long_source : goal.returns-clause-long_source
-returns-clause-long_source c = λ h. ap (tag_of the_type) (c.status_after.ensures.too_long.1 (c.preprocess-end.ensures.long_source h))
-
-pub returns-clause-too_long : goal.returns-clause-too_long
-returns-clause-too_long c = λ e. c.preprocess-end.ensures.too_long (c.status_after.ensures.too_long.0 (by_number c.status_after.result 3 e))
-
-pub returns-clause-bad_definition : goal.returns-clause-bad_definition
-returns-clause-bad_definition c = λ e. c.preprocess-end.ensures.bad_definition (c.status_after.ensures.bad_definition.0 (by_number c.status_after.result 4 e))
+returns-clause-given c = λ h. all_preprocessed _ _ _ _ _ _ _ _ _ _ (c.answer.ensures.given (inl h))

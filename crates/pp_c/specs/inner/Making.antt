@@ -1,20 +1,21 @@
 -- How far the calls of the preprocessor have got. No contract of a public call cites this.
-use Rattle.std.specs.Prelude.{◌≡◌, ℕ, ◌+◌, ◌-◌, ◌<◌, ◌≤◌, ◌^◌, max, Bool, true, false, if◌then◌else◌}
+use Rattle.std.specs.Prelude.{◌≡◌, ℕ, ◌+◌, ◌-◌, ◌<◌, ◌≤◌, ◌^◌, min, max, Bool, true, false, if◌then◌else◌}
 use Rattle.std.specs.Prelude.{List, [], ◌∷◌, ◌++◌, map, length, drop, replicate}
 use Rattle.std.specs.Prelude.{Option, Some, None, option_map, is_some, MatchOption, Ok, Err, ⊤}
 use Rattle.std.specs.Str.{chars}
 use Rattle.pp_macros.specs.Item.{Item as Given_item}
 use Rattle.pp_model.specs.Calls.{Fault}
-use Rattle.pp_model.specs.Run.{Call, add_define, next, items_of, content_tokens}
+use Rattle.pp_model.specs.Run.{Call, add_define, next, items_by, content_tokens}
 use Rattle.pp_rs.specs.Adding.{IsWithAdded}
 use Rattle.pp_rs.specs.Kept.{Preprocessing, is_spent, error_place, rules_of}
 use Rattle.pp_rs.specs.Preprocessing.{IsGivenItem}
 use Rattle.pp_rs.specs.declared.token.Location.{Location}
 use Rattle.pp_rs.specs.declared.token.Token.{Token}
-use Rattle.pp_c.specs.Calls.{adding, answered, calls_from}
-use Rattle.pp_c.specs.Preprocessed.{Given, token, error, given_entries, entries_of, AreItemsOf}
+use Rattle.pp_c.specs.Calls.{adding, answered_by, calls_from}
+use Rattle.pp_c.specs.Preprocessed.{Given, token, error, given_entries, entries_of, times_asked, AreItemsBy, StopsAt}
 use Rattle.pp_c.specs.inner.Taking.{Takes}
 use Rattle.pp_c.specs.declared.items.Definition.{Definition}
+use Rattle.pp_c.specs.declared.options.Setting.{Setting}
 use Rattle.pp_c.specs.declared.output.Output.{Output}
 use Rattle.pp_c.specs.declared.preprocessing.Progress.{Progress}
 
@@ -47,14 +48,14 @@ pub data Made : Preprocessing → List Call → List (Option Given) → Preproce
       → Made p calls answers q
   added : (name content : List ℕ) (tokens : List Token) (p q r : Preprocessing)
       (rest calls : List Call) (answers : List (Option Given))
-      → content_tokens (items_of content) ≡ Ok tokens
+      → content_tokens (items_by (rules_of p) content) ≡ Ok tokens
       → IsWithAdded (chars name) tokens p q
       → Made q rest answers r
       → calls ≡ add_define name content ∷ rest
       → Made p calls answers r
   refused : (name content : List ℕ) (fault : Fault) (p r : Preprocessing)
       (rest calls : List Call) (answers : List (Option Given))
-      → content_tokens (items_of content) ≡ Err fault
+      → content_tokens (items_by (rules_of p) content) ≡ Err fault
       → Made p rest answers r
       → calls ≡ add_define name content ∷ rest
       → Made p calls answers r
@@ -81,6 +82,16 @@ answers_of given true = map Some given ++ None ∷ []
 -- how many calls of `next` were made
 abbrev pub made_of : Progress → ℕ
 made_of progress = progress.given + (if progress.has_ended then 1 else 0)
+
+-- the count is at most this one, if there is one
+abbrev pub IsWithin : Option ℕ → ℕ → Type 0
+IsWithin None count = ⊤
+IsWithin (Some most) count = count ≤ most
+
+-- the smaller of both, if there are two
+abbrev pub up_to : Option ℕ → ℕ → ℕ
+up_to None count = count
+up_to (Some most) count = min count most
 
 -- the memory is smaller than 2^63, as all memory is
 pub record IsSmall (output : Output) : Type 0 where
@@ -148,24 +159,28 @@ pub record GivesRest (old : Preprocessing) (output : Output) (new : Preprocessin
   pub unspent : is_spent new ≡ false
 
 -- `next` may be called `all` times in the whole run
-pub record IsPossible (progress : Progress) (all : ℕ) : Type 0 where
+pub record IsPossible (most : Option ℕ) (progress : Progress) (all : ℕ) : Type 0 where
   pub ended : progress.has_ended ≡ true → all ≡ progress.given + 1
-  pub goes_on : progress.has_ended ≡ false → progress.given < all
+  pub goes_on : progress.has_ended ≡ false → progress.given ≤ all
+  pub within : IsWithin most all
 
 -- the definitions before the one at this index were added, and the items before it were given
-pub record HasAdded (start : Preprocessing) (first : Output) (words : List ℕ) (definitions : List Definition) (at : ℕ)
-    (progress : Progress) (new : Preprocessing) (output_after : Output) : Type 0 where
+pub record HasAdded (most : Option ℕ) (start : Preprocessing) (first : Output) (words : List ℕ)
+    (definitions : List Definition) (at : ℕ) (progress : Progress) (new : Preprocessing)
+    (output_after : Output) : Type 0 where
   pub calls : List Call
   pub come : HasCome start first calls progress new output_after
-  pub plan : (all : ℕ) → IsPossible progress all
+  pub plan : (all : ℕ) → IsPossible most progress all
       → calls_from words all 0 definitions ≡ calls ++ calls_from words all (made_of progress) (drop at definitions)
+  pub within : IsWithin most (made_of progress)
   pub unspent : is_spent new ≡ false
 
--- all calls were made, and what they gave was written
-pub record HasAll (start : Preprocessing) (output : Output) (words : List ℕ) (definitions : List Definition)
-    (new : Preprocessing) (output_after : Output) : Type 0 where
+-- all calls were made, up to the end or to the most items, and what they gave was written
+pub record HasAll (most : Option ℕ) (has_ended : Bool) (start : Preprocessing) (output : Output) (words : List ℕ)
+    (definitions : List Definition) (new : Preprocessing) (output_after : Output) : Type 0 where
   pub given : List Given
-  pub made : Made start (calls_from words (length given + 1) 0 definitions) (map Some given ++ None ∷ []) new
+  pub made : Made start (calls_from words (times_asked has_ended given) 0 definitions) (answers_of given has_ended) new
+  pub stops : StopsAt most has_ended (length given)
   pub takes : Takes output (entries_of given) output_after
 
 -- one definition was added or refused, and the reply is written into it
@@ -173,10 +188,12 @@ pub record AddsOne (words : List ℕ) (definition definition_after : Definition)
     (old new : Preprocessing) : Type 0 where
   pub made : Made old (adding words definition ∷ []) [] new
   pub spent : is_spent new ≡ is_spent old
-  pub written : definition_after ≡ answered words definition
+  pub written : definition_after ≡ answered_by (rules_of old) words definition
 
 -- the items of a source were written
-pub record Gives (source words : List ℕ) (definitions : List Definition) (output output_after : Output) : Type 0 where
+pub record Gives (setting : Setting) (has_ended : Bool) (source words : List ℕ) (definitions : List Definition)
+    (output output_after : Output) : Type 0 where
   pub given : List Given
-  pub are_items : AreItemsOf source words definitions given
+  pub are_items : AreItemsBy setting.rules source words definitions has_ended given
+  pub stops : StopsAt setting.most_items has_ended (length given)
   pub takes : Takes output (entries_of given) output_after

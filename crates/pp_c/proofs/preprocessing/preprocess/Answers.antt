@@ -1,9 +1,9 @@
 use Rattle.pp_c.proofs.PreprocessedLemmas.{gives_items}
-use Rattle.pp_c.proofs.ResultLemmas.{on_ok}
+use Rattle.pp_c.proofs.ResultLemmas.{if_ok_then}
 use Rattle.pp_c.proofs.preprocessing.preprocess.Goals as goal
 
 pub returns-clause-given : goal.returns-clause-given
 returns-clause-given c =
-    on_ok c.give_all-end.result (λ h. rw (← c.in-Ok-Ok.ensures.cases.0, ← c.in-Ok-Ok.ensures'.cases.0)
-    (gives_items c.in-Ok-Ok.source.now c.in-Ok-Ok.words.now c.args.definitions.now c.new-pp.result c.give_all-end.new.pp c.args.output.now
-    c.give_all-end.new.output c.new-pp.ensures.stands c.new-pp.ensures.errors c.new-pp.ensures.rules h)) c.give_all-end.ensures.given
+    if_ok_then c.give_within-end.result (λ has_ended h. rw (← c.in-Ok-Ok.ensures.cases.0, ← c.in-Ok-Ok.ensures'.cases.0)
+    (gives_items c.args.setting has_ended c.in-Ok-Ok.source.now c.in-Ok-Ok.words.now c.args.definitions.now c.with_rules-pp.result c.give_within-end.new.pp c.args.output.now
+    c.give_within-end.new.output c.with_rules-pp.ensures.stands c.with_rules-pp.ensures.errors c.with_rules-pp.ensures.rules h)) c.give_within-end.ensures.given

@@ -1,0 +1,31 @@
+-- What the options of a call ask for.
+use Rattle.std.specs.Prelude.{◌≡◌, ℕ, ◌<◌, if◌then◌else◌, nat_eq, Option, Some, None}
+use Rattle.pp_rs.specs.Rules.{pp_rs, glsl}
+use Rattle.pp_rs.specs.declared.rules.Profile.TheVariants.{Core, Compatibility, Es}
+use Rattle.pp_rs.specs.declared.rules.Rules.{Rules}
+use Rattle.pp_c.specs.declared.options.Options.{Options}
+
+-- options that this library knows
+pub record AreOptions (options : Options) : Type 0 where
+  pub size : options.size ≡ 32
+  pub rules : options.rules < 4
+
+-- the rules with a number: GLSL's for a version and a profile, or pp-rs's
+abbrev pub rules_numbered : ℕ → ℕ → Rules
+rules_numbered number version =
+    if nat_eq number 1 then glsl version Core
+    else if nat_eq number 2 then glsl version Compatibility
+    else if nat_eq number 3 then glsl version Es
+    else pp_rs
+
+-- the rules by which a source and the contents of definitions are read
+abbrev pub rules_in : Options → Rules
+rules_in options = rules_numbered options.rules options.version
+
+-- a count, of which 0 stands for none
+abbrev pub unless_zero : ℕ → Option ℕ
+unless_zero count = if nat_eq count 0 then None else Some count
+
+-- after how many items a call stops, if not at the end
+abbrev pub most_in : Options → Option ℕ
+most_in options = unless_zero options.most_items

@@ -1,0 +1,83 @@
+//! How a caller in C wants a source to be preprocessed.
+
+ghost use Rattle.std.specs.Prelude.{◌≡◌, IfSome, None};
+ghost use Rattle.pp_c.specs.Options.{AreOptions, rules_numbered, unless_zero};
+ghost use Rattle.pp_c.specs.inner.Settings.{setting_in};
+
+use pp_rs::rules::{Profile, Rules};
+
+/// The bytes that [`Options`] take.
+pub(crate) const SIZE: u64 = 32;
+
+/// How a source is preprocessed.
+#[repr(C)]
+#[derive(Clone, Copy)]
+pub struct Options {
+    /// The bytes that these options take. A later library may know longer ones.
+    pub size: u64,
+    /// Whose rules the source and the contents of the definitions are read by: 0 for those of pp-rs, and 1, 2 and 3 for
+    /// GLSL's of the profile `core`, `compatibility` and `es`.
+    pub rules: u32,
+    /// The version of GLSL, by its number in `#version`. Those of pp-rs have none.
+    pub version: u32,
+    /// How many steps the items may take, or 0 if any number.
+    pub budget: u64,
+    /// After how many items to stop, or 0 at the end. Items that belong to another item don't count.
+    pub most_items: u64,
+}
+
+/// What options ask for.
+#[derive(Clone, Copy)]
+pub(crate) struct Setting {
+    /// The rules by which the source and the contents of the definitions are read.
+    pub(crate) rules: Rules,
+    /// How many steps the items may take, if they are bounded.
+    pub(crate) budget: Option<u64>,
+    /// After how many items to stop, if not at the end.
+    pub(crate) most_items: Option<u64>,
+}
+
+impl Setting {
+    /// What a call without options asks for.
+    pub(crate) const PLAIN: Setting = Setting {
+        rules: Rules::PP_RS,
+        budget: None,
+        most_items: None,
+    };
+}
+
+impl Options {
+    /// What these options ask for, or `None` if this library doesn't know them.
+    pub(crate) fn setting(&self) -> Option<Setting>
+        ensures known { IfSome result (λ setting. AreOptions self.now × (setting ≡ setting_in self.now)) }
+        ensures unknown { result ≡ None → ¬ (AreOptions self.now) }
+    {
+        if self.size != SIZE || self.rules > 3 {
+            return None;
+        }
+        Some(Setting {
+            rules: rules_numbered(self.rules, self.version),
+            budget: unless_zero(self.budget),
+            most_items: unless_zero(self.most_items),
+        })
+    }
+}
+
+// The rules with this number.
+fn rules_numbered(number: u32, version: u32) -> Rules
+    ensures { result ≡ rules_numbered number version }
+{
+    match number {
+        1 => Rules::glsl(version as u64, Profile::Core),
+        2 => Rules::glsl(version as u64, Profile::Compatibility),
+        3 => Rules::glsl(version as u64, Profile::Es),
+        _ => Rules::PP_RS,
+    }
+}
+
+// The count, unless it is 0.
+fn unless_zero(count: u64) -> Option<u64>
+    ensures { result ≡ unless_zero count }
+{
+    if count == 0 { None } else { Some(count) }
+}
