@@ -324,7 +324,39 @@ static void check_most(void) {
     check("items of a source without end", call_by(bomb, MOST, 4 * MOST) == PP_PARTIAL && count_outer() == 50);
 }
 
-int main(void) {
+/* A source with lines of each kind: the position of each byte and beyond. */
+static void check_positions(void) {
+    static const char lines[] = "a\xc3\xa9\\\nb\r\nc\rd\n";
+    static const uint32_t wanted[][2] = {
+        {1, 1}, {1, 2}, {1, 2}, {1, 3}, {1, 4}, {2, 1}, {2, 2}, {2, 2}, {3, 1}, {3, 2}, {4, 1}, {4, 2}, {5, 1}, {5, 1},
+    };
+    bool right = true;
+    for (uint64_t at = 0; at < sizeof wanted / sizeof *wanted; at++) {
+        pp_position it = {0, 0};
+        right &= pp_line_column((const uint8_t *)lines, strlen(lines), at, &it) == PP_DONE;
+        right &= it.line == wanted[at][0] && it.column == wanted[at][1];
+    }
+    check("lines and columns", right);
+    pp_position it;
+    check("an offset far beyond", pp_line_column((const uint8_t *)lines, strlen(lines), UINT64_MAX, &it) == PP_DONE && it.line == 5);
+    check("a position in no text", pp_line_column((const uint8_t *)"a\xff", 2, 0, &it) == PP_NOT_UTF8);
+    check("the version", pp_version() == PP_API_VERSION);
+}
+
+/* What each number is called. */
+static void print_names(void) {
+    for (uint32_t number = 0; number < 200; number++) {
+        if (*pp_kind_name(number)) printf("kind %u %s\n", number, pp_kind_name(number));
+        if (*pp_error_name(number)) printf("error %u %s\n", number, pp_error_name(number));
+        if (*pp_error_sentence(number)) printf("sentence %u %s\n", number, pp_error_sentence(number));
+    }
+}
+
+int main(int count, char **arguments) {
+    if (count > 1 && strcmp(arguments[1], "names") == 0) {
+        print_names();
+        return 0;
+    }
     check_rooms();
     check_definitions();
     check_sources();
@@ -333,5 +365,6 @@ int main(void) {
     check_rules();
     check_budget();
     check_most();
+    check_positions();
     return 0;
 }

@@ -25,6 +25,9 @@
 #include <stddef.h>
 #include <stdint.h>
 
+/* The version of this interface, from 1. A library of a later one has all that is declared here. */
+#define PP_API_VERSION 1
+
 #ifdef __cplusplus
 extern "C" {
 #endif
@@ -88,7 +91,7 @@ typedef struct pp_item {
     uint16_t error; /* 0 unless it is a PP_ERROR */
     uint32_t flags;
     uint32_t children; /* how many of the items that follow it holds, with those that these hold */
-    int32_t width;     /* of a number, in bits: 32 */
+    int32_t width;     /* of a number, in bits: 32, or by GLSL's rules 16 or 64 too */
     uint32_t start;    /* byte offsets in the source, or in the content of a definition */
     uint32_t end;
     uint32_t line; /* from 1 */
@@ -165,6 +168,26 @@ uint32_t pp_preprocess_with(const pp_options *options, const uint8_t *source, si
  * of the written rules, errors and what comes after them too. */
 uint32_t pp_lex(const uint8_t *source, size_t source_length, pp_item *items, size_t items_length, uint8_t *texts,
                 size_t texts_length, pp_sizes *sizes);
+
+/* A line, and a column in characters, both from 1. */
+typedef struct pp_position {
+    uint32_t line;
+    uint32_t column;
+} pp_position;
+
+/* Says where a byte of `source` is: PP_DONE, PP_NOT_UTF8 or PP_TOO_LONG. Lines are those of items. A byte inside of a
+ * character is at that character, and an offset past the source is at its end. The time grows with the offset. */
+uint32_t pp_line_column(const uint8_t *source, size_t source_length, uint64_t offset, pp_position *position);
+
+/* The PP_API_VERSION of the library. */
+uint32_t pp_version(void);
+
+/* What an item or an error is called: "Ident" of PP_IDENT, "DivisionByZero" of PP_DIVISION_BY_ZERO; and what is wrong, in
+ * lower case and without a full stop: "division by zero". Of any other number it is an empty text. These three aren't
+ * proved, and are in pp_names.c: a program that links libpp_c.a in place of libpp compiles that file itself. */
+const char *pp_kind_name(uint32_t kind);
+const char *pp_error_name(uint32_t error);
+const char *pp_error_sentence(uint32_t error);
 
 #ifdef __cplusplus
 }

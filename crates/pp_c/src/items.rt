@@ -64,6 +64,16 @@ pub struct Sizes {
     pub texts: u64,
 }
 
+/// A line and a column of a source.
+#[repr(C)]
+#[derive(Clone, Copy)]
+pub struct Position {
+    /// The line, from 1.
+    pub line: u32,
+    /// The column, in characters from 1.
+    pub column: u32,
+}
+
 /// What an item is. Its number is that of the header.
 #[derive(Clone, Copy)]
 pub(crate) enum Kind {

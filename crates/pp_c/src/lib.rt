@@ -3,6 +3,7 @@
 #![tactic(auto)]
 
 ghost use Rattle.std.specs.Prelude.{◌≡◌, ◌≢◌, ◌↔◌, ◌⊎◌, ◌<◌, ◌≤◌, ◌-◌, ◌^◌, map, length, None, IsUtf8, All, Any};
+ghost use Rattle.pp_rs.specs.Positions.{line_column};
 ghost use Rattle.pp_c.specs.Calls.{answered, answered_by, Fits, HasLongContent, LiesOutside};
 ghost use Rattle.pp_c.specs.Ends.{HasRoom};
 ghost use Rattle.pp_c.specs.Lexing.{lexer_entries};
@@ -19,14 +20,17 @@ mod preprocessing;
 mod status;
 mod words;
 
-pub use items::{Definition, Item, Sizes};
+use definitions::LIMIT;
+pub use items::{Definition, Item, Position, Sizes};
 use lexing::lex;
 pub use options::Options;
 use options::Setting;
 use output::Output;
+use pp_rs::lexer::line_column;
 use preprocessing::preprocess;
 use status::{Status, status_after};
 use std::alloc::Global;
+use std::str;
 
 // The room that the caller provides.
 fn room_of(items: &[Item], texts: &[u8]) -> Sizes
@@ -207,4 +211,39 @@ pub extern "C" fn pp_lex(
     let wanted = output.sizes();
     *sizes = wanted;
     status_after(end.and(Ok(true)), wanted, room) as u32
+}
+
+/// Says on which line and in which column a byte of `source` is.
+///
+/// Lines are those of items, and columns count characters. A byte inside of a character is at that character, and an
+/// offset past the source is at its end. The time grows with the offset.
+///
+/// Returns a [`Status`] as a number: `PP_DONE`, `PP_NOT_UTF8` or `PP_TOO_LONG`.
+#[unsafe(no_mangle)]
+pub extern "C" fn pp_line_column(source: &[u8], offset: u64, position: &mut Position) -> u32
+    ensures answer { (result ≡ 0) ⊎ (result ≡ 2) ⊎ (result ≡ 3) }
+    ensures given { result ≡ 0
+        → line_column source.now offset ≡ (position.new.line, position.new.column) }
+    ensures not_utf8 { (result ≡ 2) ↔ ((length source.now < 2 ^ 32 - 1) × ¬ (IsUtf8 source.now)) }
+    ensures too_long { (result ≡ 3) ↔ (2 ^ 32 - 1 ≤ length source.now) }
+{
+    if source.len() >= LIMIT {
+        return Status::TooLong as u32;
+    }
+    let Ok(source) = str::from_utf8(source) else {
+        return Status::NotUtf8 as u32;
+    };
+    let Some((line, column)) = line_column(source, offset as usize) else {
+        return Status::TooLong as u32;
+    };
+    *position = Position { line, column };
+    Status::Done as u32
+}
+
+/// Returns the version of this library's interface, `PP_API_VERSION` of its header.
+#[unsafe(no_mangle)]
+pub extern "C" fn pp_version() -> u32
+    ensures { result ≡ 1 }
+{
+    1
 }
