@@ -13,11 +13,27 @@ from __future__ import annotations
 
 import ctypes
 import enum
+import itertools
 import os
 import struct
-from typing import Callable, Dict, Iterable, Iterator, Mapping, NamedTuple, Optional, Tuple, Type, Union
+from typing import Callable, Dict, Iterable, Iterator, List, Mapping, NamedTuple, Optional, Tuple, Type, Union
 
-__all__ = ["Definition", "Error", "ErrorKind", "Flag", "Item", "Kind", "Token", "lex", "preprocess"]
+__all__ = [
+    "Definition",
+    "Error",
+    "ErrorKind",
+    "Flag",
+    "Glsl",
+    "Item",
+    "Kind",
+    "OverBudget",
+    "Profile",
+    "Token",
+    "lex",
+    "line_column",
+    "preprocess",
+    "stream",
+]
 
 
 class Kind(enum.IntEnum):
@@ -108,6 +124,11 @@ class ErrorKind(enum.IntEnum):
     DIVISION_BY_ZERO = 25
     REMAINDER_BY_ZERO = 26
 
+    @property
+    def sentence(self) -> str:
+        """What is wrong, in lower case and without a full stop: "division by zero"."""
+        return str(_LIBRARY.pp_error_sentence(self).decode())
+
 
 class Flag(enum.IntFlag):
     """What else is known of a token, as in pp.h. The last two are those of `lex`."""
@@ -146,7 +167,8 @@ class Error(Exception):
         """The token that can't stand there, of an UNEXPECTED_TOKEN."""
 
     def __str__(self) -> str:
-        return f"line {self.line}: {self.kind.name.lower().replace('_', ' ')}"
+        token = f" `{self.token.text}`" if self.token else ""
+        return f"line {self.line}: {self.kind.sentence}{token}"
 
 
 Item = Union[Token, Error]
@@ -160,24 +182,73 @@ class Definition(NamedTuple):
     after: int = 0
 
 
-def preprocess(source: Union[str, bytes], definitions: Union[Mapping[str, str], Iterable[Definition]] = ()) -> Iterator[Item]:
+Definitions = Union[Mapping[str, str], Iterable[Definition]]
+
+
+class Profile(enum.IntEnum):
+    """The profile of a version of GLSL. The numbers are those of pp.h."""
+
+    CORE = 1
+    COMPATIBILITY = 2
+    ES = 3
+
+
+class Glsl(NamedTuple):
+    """GLSL's rules for a version, by its number in #version: `Glsl(450)`, or `Glsl(310, Profile.ES)`."""
+
+    version: int
+    profile: Profile = Profile.CORE
+
+
+class OverBudget(Exception):
+    """The items need more steps than the budget has."""
+
+
+def preprocess(
+    source: Union[str, bytes],
+    definitions: Definitions = (),
+    rules: Optional[Glsl] = None,
+    budget: int = 0,
+    most_items: int = 0,
+) -> Iterator[Item]:
     """The preprocessed tokens of a source, and its errors. The call makes all of them, and the iterator reads them.
 
-    Raises the first `Error` of a definition's content; ValueError if the source isn't UTF-8, or it or a content has
-    2^32 - 1 bytes or more; MemoryError if memory runs out."""
-    given = definitions.items() if isinstance(definitions, Mapping) else definitions
-    added = [Definition(*it) for it in given]
-    words, entries = _definitions(added)
-    items = _items(source, lambda data, room: _LIBRARY.pp_preprocess(*data, words, len(words), entries, len(added), *room))
-    for entry in entries[: len(added)]:
-        if entry.error:
-            raise Error(ErrorKind(entry.error), entry.start, entry.end, entry.line)
-    return items
+    The rules are those of pp-rs, or those of a version of GLSL. The items may take `budget` steps, or any number if it is 0:
+    a step is a token that is read, put on a list, or passed in the body or an argument of a macro. If `most_items` isn't 0,
+    there are no more than so many.
+
+    Raises the first `Error` of a definition's content; OverBudget; ValueError if the source isn't UTF-8, or it or a content
+    has 2^32 - 1 bytes or more; MemoryError if memory runs out."""
+    return _preprocess(source, _added(definitions), _Options(rules, budget, most_items))[1]
+
+
+def stream(
+    source: Union[str, bytes], definitions: Definitions = (), rules: Optional[Glsl] = None, budget: int = 0
+) -> Iterator[Item]:
+    """The same items, made as they are read: some at a time, each time twice as many as before, from the beginning. What
+    `preprocess` raises is raised as soon as it is met."""
+    data, added = _data(source), _added(definitions)
+    given, most = 0, _FIRST_ITEMS
+    answer = _PARTIAL
+    while answer == _PARTIAL:
+        answer, items = _preprocess(data, added, _Options(rules, budget, most))
+        yield from itertools.islice(items, given, None)
+        given, most = most, 2 * most
 
 
 def lex(source: Union[str, bytes]) -> Iterator[Item]:
     """The tokens of a source before preprocessing, newlines and number signs among them. Raises as `preprocess` does."""
-    return _items(source, lambda data, room: _LIBRARY.pp_lex(*data, *room))
+    return _items(_data(source), lambda data, room: _LIBRARY.pp_lex(*data, *room))[1]
+
+
+def line_column(source: Union[str, bytes], offset: int) -> Tuple[int, int]:
+    """The line and the column of a byte of the source as UTF-8, both from 1. Columns count characters. Raises ValueError as
+    `preprocess` does, and if the offset is negative."""
+    if offset < 0:
+        raise ValueError("the offset is negative")
+    data, position = _data(source), _Position()
+    _check(_LIBRARY.pp_line_column(data, len(data), min(offset, len(data)), position))
+    return position.line, position.column
 
 
 class _Definition(ctypes.Structure):
@@ -191,15 +262,40 @@ class _Sizes(ctypes.Structure):
     _fields_ = [("items", ctypes.c_uint64), ("texts", ctypes.c_uint64)]
 
 
+class _Position(ctypes.Structure):
+    _fields_ = [("line", ctypes.c_uint32), ("column", ctypes.c_uint32)]
+
+
+class _Options(ctypes.Structure):
+    _fields_ = [
+        ("size", ctypes.c_uint64),
+        ("rules", ctypes.c_uint32),
+        ("version", ctypes.c_uint32),
+        ("budget", ctypes.c_uint64),
+        ("most_items", ctypes.c_uint64),
+    ]
+
+    def __init__(self, rules: Optional[Glsl], budget: int, most_items: int) -> None:
+        version, profile = rules or (0, 0)
+        for name, number, bits in (("version", version, 32), ("budget", budget, 64), ("most_items", most_items, 64)):
+            if not 0 <= number < 1 << bits:
+                raise ValueError(f"{name} is {number}, and not below 2^{bits}")
+        super().__init__(ctypes.sizeof(_Options), profile, version, budget, most_items)
+
+
 # A pp_item: kind, error, flags, children, width, start, end, line, text_length and value.
 _ITEM = struct.Struct("=HHIIiIIIIQ")
 _WORDS_OF_AN_ITEM = _ITEM.size // 8
 _ERROR = 0
-_DONE, _TOO_SMALL = 0, 1
+_DONE, _TOO_SMALL, _PARTIAL = 0, 1, 7
+# How many items are asked for first.
+_FIRST_ITEMS = 256
 _REFUSED: Dict[int, Tuple[Type[Exception], str]] = {
     2: (ValueError, "the source isn't UTF-8"),
     3: (ValueError, "the source or a content has 2^32 - 1 bytes or more"),
     5: (MemoryError, "the library has no memory left"),
+    6: (OverBudget, "the items need more steps than the budget has"),
+    8: (ValueError, "the library doesn't know these rules"),
 }
 _KINDS = {int(it): it for it in Kind}
 _FLAGS = [Flag(it) for it in range(64)]
@@ -213,14 +309,18 @@ def _load() -> ctypes.CDLL:
     path = os.path.join(folder, name) if folder else beside if os.path.exists(beside) else name
     try:
         library = ctypes.CDLL(path)
-    except OSError as error:
+        library.pp_version()
+    except (OSError, AttributeError) as error:
         raise ImportError(f"{error}: ./install PREFIX makes it, and PP_LIB_DIR may name its folder") from error
     text = [ctypes.c_char_p, ctypes.c_size_t]
     room = [ctypes.c_void_p, ctypes.c_size_t, *text, ctypes.POINTER(_Sizes)]
-    library.pp_preprocess.argtypes = [*text, *text, ctypes.POINTER(_Definition), ctypes.c_size_t, *room]
+    words = [*text, ctypes.POINTER(_Definition), ctypes.c_size_t]
+    library.pp_preprocess_with.argtypes = [ctypes.POINTER(_Options), *text, *words, *room]
     library.pp_lex.argtypes = [*text, *room]
-    for call in (library.pp_preprocess, library.pp_lex):
+    library.pp_line_column.argtypes = [*text, ctypes.c_uint64, ctypes.POINTER(_Position)]
+    for call in (library.pp_preprocess_with, library.pp_lex, library.pp_line_column):
         call.restype = ctypes.c_uint32
+    library.pp_error_sentence.argtypes, library.pp_error_sentence.restype = [ctypes.c_uint32], ctypes.c_char_p
     return library
 
 
@@ -237,20 +337,44 @@ def _definitions(added: Iterable[Definition]) -> Tuple[bytes, ctypes.Array[_Defi
     return words, (_Definition * (len(entries) + 1))(*entries)
 
 
-def _items(source: Union[str, bytes], call: Callable[..., int]) -> Iterator[Item]:
-    """The items of a call, which is made with more room until there is enough. The first room is a guess."""
-    data = source.encode() if isinstance(source, str) else bytes(memoryview(source))
+def _added(definitions: Definitions) -> List[Definition]:
+    given = definitions.items() if isinstance(definitions, Mapping) else definitions
+    return [Definition(*it) for it in given]
+
+
+def _data(source: Union[str, bytes]) -> bytes:
+    return source.encode() if isinstance(source, str) else bytes(memoryview(source))
+
+
+def _preprocess(source: Union[str, bytes], added: List[Definition], options: _Options) -> Tuple[int, Iterator[Item]]:
+    """The answer of a call and its items. Raises the first error of a definition."""
+    words, entries = _definitions(added)
+    call = _LIBRARY.pp_preprocess_with
+    given = _items(_data(source), lambda data, room: call(options, *data, words, len(words), entries, len(added), *room))
+    for entry in entries[: len(added)]:
+        if entry.error:
+            raise Error(ErrorKind(entry.error), entry.start, entry.end, entry.line)
+    return given
+
+
+def _check(answer: int) -> None:
+    """Raises what an answer without items means."""
+    if answer in _REFUSED:
+        kind, sentence = _REFUSED[answer]
+        raise kind(sentence)
+
+
+def _items(data: bytes, call: Callable[..., int]) -> Tuple[int, Iterator[Item]]:
+    """The answer of a call, which is made with more room until there is enough, and its items. The first room is a guess."""
     sizes = _Sizes(len(data) // 2 + 16, len(data) + 16)
     answer = _TOO_SMALL
     while answer == _TOO_SMALL:
         count, length = sizes.items, sizes.texts + 1
         items, texts = (ctypes.c_uint64 * (_WORDS_OF_AN_ITEM * count))(), ctypes.create_string_buffer(length)
         answer = call((data, len(data)), (items, count, texts, length, sizes))
-    if answer != _DONE:
-        kind, sentence = _REFUSED[answer]
-        raise kind(sentence)
+    _check(answer)
     written = memoryview(items).cast("B")[: sizes.items * _ITEM.size]
-    return _read(_ITEM.iter_unpack(written), ctypes.string_at(texts, sizes.texts))
+    return answer, _read(_ITEM.iter_unpack(written), ctypes.string_at(texts, sizes.texts))
 
 
 _Entries = Iterator[Tuple[int, ...]]
