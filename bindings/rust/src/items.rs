@@ -2,10 +2,19 @@
 use crate::raw;
 use crate::token::*;
 
-/// All items of a source with their texts.
+/// Items of a source with their texts.
 pub struct Items {
     items: Vec<raw::Item>,
     texts: String,
+    /// Whether more items may follow.
+    pub is_front: bool,
+}
+
+/// An error with its place in the item, as pp-rs has it, and its true place.
+pub struct Fault {
+    pub error: PreprocessorError,
+    pub location: Location,
+    pub place: Location,
 }
 
 #[rustfmt::skip]
@@ -63,20 +72,22 @@ pub fn error_of(number: u16, carried: Option<TokenValue>) -> Option<Preprocessor
 }
 
 impl Items {
-    pub fn new(items: Vec<raw::Item>, texts: Vec<u8>) -> Items {
+    pub fn new(items: Vec<raw::Item>, texts: Vec<u8>, is_front: bool) -> Items {
         Items {
             items,
             texts: String::from_utf8(texts).expect("texts are UTF-8"),
+            is_front,
         }
     }
 
     /// The item of a number, and the number of the one after it and what it holds.
-    pub fn item(&self, at: &mut usize) -> Option<Result<Token, (PreprocessorError, Location)>> {
+    pub fn item(&self, at: &mut usize) -> Option<Result<Token, Fault>> {
         let item = self.items.get(*at)?;
         if item.kind != raw::ERROR {
             return Some(Ok(self.token(at)));
         }
         let end = *at + 1 + item.children as usize;
+        let place = location(&self.items[*at + 1]);
         // After its place.
         let mut held = *at + 2;
         let carried = if held < end {
@@ -85,10 +96,11 @@ impl Items {
             None
         };
         *at = end;
-        Some(Err((
-            error_of(item.error, carried).expect("an error"),
-            location(item),
-        )))
+        Some(Err(Fault {
+            error: error_of(item.error, carried).expect("an error"),
+            location: location(item),
+            place,
+        }))
     }
 
     // The token of a number, and the number of the one after it and what it holds.

@@ -8,4 +8,6 @@ mod heap;
 mod items;
 pub mod pp;
 mod raw;
+pub mod reader;
+mod source;
 pub mod token;

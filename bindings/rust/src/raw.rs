@@ -36,10 +36,40 @@ pub struct Sizes {
     pub texts: u64,
 }
 
+#[repr(C)]
+#[derive(Clone, Copy)]
+pub struct Options {
+    pub size: u64,
+    pub rules: u32,
+    pub version: u32,
+    pub budget: u64,
+    pub most_items: u64,
+}
+
+impl Options {
+    /// These rules, without a bound.
+    pub fn with_rules(rules: u32, version: u32) -> Options {
+        Options {
+            size: std::mem::size_of::<Options>() as u64,
+            rules,
+            version,
+            budget: 0,
+            most_items: 0,
+        }
+    }
+}
+
 pub const DONE: u32 = 0;
 pub const TOO_SMALL: u32 = 1;
 pub const TOO_LONG: u32 = 3;
 pub const OUT_OF_MEMORY: u32 = 5;
+pub const OVER_BUDGET: u32 = 6;
+pub const PARTIAL: u32 = 7;
+
+pub const RULES_PP_RS: u32 = 0;
+pub const RULES_CORE: u32 = 1;
+pub const RULES_COMPATIBILITY: u32 = 2;
+pub const RULES_ES: u32 = 3;
 
 pub const ERROR: u16 = 0;
 pub const IDENT: u16 = 2;
@@ -58,7 +88,8 @@ pub const NON_DIRECTIVE_BEFORE: u32 = 8;
 pub const UNEXPECTED_TOKEN: u16 = 4;
 
 extern "C" {
-    pub fn pp_preprocess(
+    pub fn pp_preprocess_with(
+        options: *const Options,
         source: *const u8,
         source_length: usize,
         words: *const u8,

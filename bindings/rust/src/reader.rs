@@ -1,0 +1,193 @@
+//! What pp-rs doesn't have: GLSL's rules, a budget, items that are made as they are read, and the place of each error.
+//!
+//! ```
+//! use pp_rs::reader::{Error, Profile, Reader, Rules};
+//!
+//! let source = "#if 0\nit's dead\n#endif\n#else\nfloat a = 1.0;";
+//! let mut reader = Reader::with_rules(source, Rules::glsl(310, Profile::Es));
+//! reader.set_budget(100_000_000);
+//! match reader.next() {
+//!     Some(Err(Error::Source { error, place })) => {
+//!         assert_eq!(error.to_string(), "`#else` without `#if`");
+//!         assert_eq!((place.start, place.line()), (24, 4));
+//!     }
+//!     _ => unreachable!(),
+//! }
+//! let texts: Vec<_> = reader.flatten().map(|token| token.value.to_string()).collect();
+//! assert_eq!(texts, ["float", "a", "=", "1.0", ";"]);
+//! ```
+use crate::items::Items;
+use crate::raw;
+use crate::source::{OverBudget, Source};
+use crate::token::{Location, PreprocessorError, Token};
+use std::fmt;
+
+// How many items are asked for first.
+const FIRST: u64 = 256;
+
+/// The profile of a version of GLSL.
+#[derive(Clone, Copy, PartialEq, Eq, Debug)]
+pub enum Profile {
+    /// `core`, also of versions before 1.50, which have no profiles.
+    Core,
+    /// `compatibility`.
+    Compatibility,
+    /// `es`.
+    Es,
+}
+
+/// Whose rules a source is read by.
+#[derive(Clone, Copy, PartialEq, Eq, Debug)]
+pub enum Rules {
+    /// Those of pp-rs.
+    PpRs,
+    /// GLSL's.
+    Glsl {
+        /// The version, by its number in `#version`.
+        version: u32,
+        /// Its profile.
+        profile: Profile,
+    },
+}
+
+impl Rules {
+    /// GLSL's rules for a version, by its number in `#version`: 450, or 310 with [`Profile::Es`].
+    pub fn glsl(version: u32, profile: Profile) -> Rules {
+        Rules::Glsl { version, profile }
+    }
+
+    fn options(self) -> raw::Options {
+        let (rules, version) = match self {
+            Rules::PpRs => (raw::RULES_PP_RS, 0),
+            Rules::Glsl { version, profile } => match profile {
+                Profile::Core => (raw::RULES_CORE, version),
+                Profile::Compatibility => (raw::RULES_COMPATIBILITY, version),
+                Profile::Es => (raw::RULES_ES, version),
+            },
+        };
+        raw::Options::with_rules(rules, version)
+    }
+}
+
+/// Why there is no token.
+#[derive(Clone, PartialEq, Debug)]
+#[non_exhaustive]
+pub enum Error {
+    /// The source is wrong. Items go on after it.
+    Source {
+        /// What is wrong.
+        error: PreprocessorError,
+        /// Where, also if it is an error of the lexer.
+        place: Location,
+    },
+    /// The items need more steps than the budget has. Nothing comes after it.
+    OverBudget,
+}
+
+impl fmt::Display for Error {
+    fn fmt(&self, f: &mut fmt::Formatter<'_>) -> fmt::Result {
+        match self {
+            Error::Source { error, place } => write!(f, "line {}: {}", place.line(), error),
+            Error::OverBudget => f.write_str("the source needs more steps than the budget has"),
+        }
+    }
+}
+
+impl std::error::Error for Error {
+    fn source(&self) -> Option<&(dyn std::error::Error + 'static)> {
+        match self {
+            Error::Source { error, .. } => Some(error),
+            Error::OverBudget => None,
+        }
+    }
+}
+
+/// A source as an iterator of its preprocessed tokens, which are made as they are read. It goes on after an error of the
+/// source.
+///
+/// Some items are made at a time, each time twice as many as before, from the beginning of the source. An `add_define`
+/// between items lets the next `next` begin anew too: the items before it stay what they were.
+pub struct Reader<'a> {
+    source: Source<'a>,
+    items: Option<Items>,
+    // How often `next` was called, also at the end, and the number of the next item in the list.
+    asked: u64,
+    at: usize,
+    is_over_budget: bool,
+}
+
+impl<'a> Reader<'a> {
+    /// Reads a source by pp-rs's rules.
+    pub fn new(input: &'a str) -> Reader<'a> {
+        Reader::with_rules(input, Rules::PpRs)
+    }
+
+    /// Reads a source, and the contents of definitions, by these rules. A float has the value of an `f32`, whatever its
+    /// width is.
+    pub fn with_rules(input: &'a str, rules: Rules) -> Reader<'a> {
+        Reader {
+            source: Source::new(input, rules.options()),
+            items: None,
+            asked: 0,
+            at: 0,
+            is_over_budget: false,
+        }
+    }
+
+    /// Bounds the steps that the items may take, from the first item on, or not if it is 0, as without this call.
+    ///
+    /// A step is a token that is read, put on a list, or passed in the body or an argument of a macro. If more are needed
+    /// for the items that are made next, `next` returns [`Error::OverBudget`]. So the time and the memory that a `next`
+    /// takes are bounded by the number, and by the length of the longest token.
+    pub fn set_budget(&mut self, steps: u64) {
+        self.source.set_budget(steps);
+    }
+
+    /// Defines a name as an object-like macro, replacing any definition of it. After an error nothing is changed.
+    pub fn add_define(
+        &mut self,
+        name: &str,
+        content: &str,
+    ) -> Result<(), (PreprocessorError, Location)> {
+        self.source.add_define(name, content, self.asked)?;
+        self.items = None;
+        Ok(())
+    }
+
+    // The next of the items that were made, if there is one, or the end.
+    fn next_made(&mut self) -> Option<Option<<Self as Iterator>::Item>> {
+        let items = self.items.as_ref()?;
+        match items.item(&mut self.at) {
+            None if items.is_front => None,
+            item => Some(item.map(|item| {
+                item.map_err(|fault| Error::Source {
+                    error: fault.error,
+                    place: fault.place,
+                })
+            })),
+        }
+    }
+}
+
+impl<'a> Iterator for Reader<'a> {
+    type Item = Result<Token, Error>;
+
+    fn next(&mut self) -> Option<Self::Item> {
+        if self.is_over_budget {
+            return None;
+        }
+        loop {
+            if let Some(item) = self.next_made() {
+                self.asked += 1;
+                return item;
+            }
+            match self.source.items(FIRST.max(2 * self.asked)) {
+                Ok(items) => self.items = Some(items),
+                Err(OverBudget) => {
+                    self.is_over_budget = true;
+                    return Some(Err(Error::OverBudget));
+                }
+            }
+        }
+    }
+}
