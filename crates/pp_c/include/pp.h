@@ -17,8 +17,8 @@
  * - malloc, realloc and free are one allocator's and align as C says, and no call is made from a signal handler or in a
  *   forked child of a process with threads.
  *
- * Any bytes may be handed in as source and words, and any numbers in options and definitions. Calls share nothing and keep nothing: each thread may make its
- * own, if it has 256 KB of stack. */
+ * Any bytes may be handed in as source and words, and any numbers in options and definitions. Calls share nothing and keep
+ * nothing: each thread may make its own, if it has 256 KB of stack. */
 #ifndef PP_H
 #define PP_H
 
@@ -119,7 +119,8 @@ typedef struct pp_definition {
     uint32_t line;
 } pp_definition;
 
-/* How many items there are, with those that others hold, and how many bytes their texts have. */
+/* How many items there are, with those that others hold, and how many bytes their texts have. It is so with PP_DONE,
+ * PP_TOO_SMALL and PP_PARTIAL; after another answer it says nothing. */
 typedef struct pp_sizes {
     uint64_t items;
     uint64_t texts;

@@ -82,6 +82,7 @@ fn give_within(
     ensures fit { OnOk result (All (Fits words.now) definitions.old) }
     ensures err { IfErr result (λ refusal. IsRefusalWithin setting.budget refusal
         (Any (HasLongContent words.now) definitions.old) (Any (LiesOutside words.now) definitions.old)) }
+    ensures spent { result ≡ Err Refusal.OverBudget → is_spent pp.new ≡ true }
 {
     set_budget(pp, setting.budget)?;
     match give_all(pp, setting.most_items, words, definitions, output) {
