@@ -11,5 +11,6 @@ pub mod AllLemmas
 pub mod WrittenLemmas
 pub mod PreprocessedLemmas
 pub mod StatusLemmas
+pub mod FrontLemmas
 pub mod LexLemmas
 pub mod RefusingLemmas

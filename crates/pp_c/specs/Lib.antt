@@ -3,6 +3,7 @@ pub mod Options
 pub mod Entries
 pub mod Calls
 pub mod Preprocessed
+pub mod Fronts
 pub mod Lexing
 pub mod Numbers
 pub mod Tokens

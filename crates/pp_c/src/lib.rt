@@ -13,6 +13,7 @@ ghost use Rattle.pp_c.specs.Preprocessed.{AreWritten, AnswersBy, HasItems, Prepr
 mod definitions;
 mod faults;
 mod items;
+pub mod laws;
 mod lexing;
 mod options;
 mod output;

@@ -1,0 +1,11 @@
+//! A law of what calls give, over the definitions alone. The body does nothing.
+
+ghost use Rattle.pp_c.specs.Fronts.{FrontsStay};
+
+/// The items of a call that stops are the first of those of a call that goes on, over the same source and definitions
+/// and by the same rules, up to and with the first error.
+pub fn fronts()
+    ensures { FrontsStay }
+{
+    pp_rs::laws::runs()
+}
