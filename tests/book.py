@@ -11,12 +11,13 @@ import programs
 
 class Case:
     """A source, the words of the calls over it, and the replies to these and the items that are left, up to the first error
-    and after it. In a case of the sheet `places` has the place of each error, and `lexed` what the lexer gives."""
+    and after it. In a case of the sheet `places` has the place of each error, and `lexed` what the lexer gives. A case may be
+    read by GLSL's rules for version 460, profile core."""
 
     def __init__(self, name):
         self.name, self.lines, self.calls, self.replies = name, [], [], []
         self.places = self.lexed = None
-        self.has_replies = False
+        self.has_replies = self.is_glsl = False
 
     @property
     def source(self):
@@ -78,7 +79,7 @@ def unescaped(text):
 
 
 # What a binding can't do, or what changes what comes after it.
-OTHERS = ("glsl", "all", "drain")
+OTHERS = ("all", "drain")
 BOUND = "at-most-"
 
 
@@ -87,9 +88,11 @@ def calls_of(case, answers):
     the lexer gives."""
     is_open = True
     for word, lines in answers:
-        if word == "lexer":
+        if word == "glsl" and not (case.calls or case.has_replies or case.places or case.lexed):
+            case.is_glsl = True
+        elif word == "lexer":
             case.lexed = lines[:-1]
-        elif word in OTHERS or word.startswith(BOUND):
+        elif word in OTHERS or word == "glsl" or word.startswith(BOUND):
             is_open = False
         elif not is_open:
             continue

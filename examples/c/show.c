@@ -1,10 +1,11 @@
 /* Prints the items of the source on standard input, a line each and indented those that an item holds, and the answers to
  * definitions between them:
  *
- *     show [--room=ITEMS,TEXTS] [NAME=CONTENT | next]... < shader.frag
+ *     show [--room=ITEMS,TEXTS] [--options=RULES,VERSION,STEPS,ITEMS] [NAME=CONTENT | next]... < shader.frag
  *     show [--room=ITEMS,TEXTS] --lex < shader.frag
  *
- * A definition is added after as many items as there are words `next` before it. The room is what the first call gets. */
+ * A definition is added after as many items as there are words `next` before it. The room is what the first call gets. The
+ * options are the numbers of a pp_options. */
 #include "pp.h"
 
 #include <inttypes.h>
@@ -23,6 +24,8 @@ typedef struct {
     uint8_t *texts;
     pp_sizes room;
     pp_sizes sizes;
+    pp_options options;
+    int has_options;
     int only_lexes;
 } shown;
 
@@ -58,6 +61,12 @@ static void add_word(shown *it, const char *word, size_t length, uint64_t *start
     it->words_length += length;
 }
 
+static int read_options(const char *argument, pp_options *options) {
+    options->size = sizeof *options;
+    return sscanf(argument, "--options=%" SCNu32 ",%" SCNu32 ",%" SCNu64 ",%" SCNu64, &options->rules, &options->version,
+                  &options->budget, &options->most_items) == 4;
+}
+
 static void read_arguments(shown *it, int count, char **arguments) {
     size_t length = 0;
     uint64_t after = 0;
@@ -67,6 +76,10 @@ static void read_arguments(shown *it, int count, char **arguments) {
     for (int i = 1; i < count; i++) {
         const char *argument = arguments[i], *content = strchr(argument, '=');
         if (sscanf(argument, "--room=%" SCNu64 ",%" SCNu64, &it->room.items, &it->room.texts) == 2) continue;
+        if (read_options(argument, &it->options)) {
+            it->has_options = 1;
+            continue;
+        }
         if (strcmp(argument, "--lex") == 0) {
             it->only_lexes = 1;
         } else if (strcmp(argument, "next") == 0) {
@@ -83,6 +96,9 @@ static void read_arguments(shown *it, int count, char **arguments) {
 static uint32_t call(shown *it) {
     if (it->only_lexes)
         return pp_lex(it->source, it->source_length, it->items, it->room.items, it->texts, it->room.texts, &it->sizes);
+    if (it->has_options)
+        return pp_preprocess_with(&it->options, it->source, it->source_length, it->words, it->words_length, it->definitions,
+                                  it->definition_count, it->items, it->room.items, it->texts, it->room.texts, &it->sizes);
     return pp_preprocess(it->source, it->source_length, it->words, it->words_length, it->definitions,
                          it->definition_count, it->items, it->room.items, it->texts, it->room.texts, &it->sizes);
 }
@@ -165,12 +181,13 @@ int main(int argc, char **argv) {
     read_source(&it);
     read_arguments(&it, argc, argv);
     uint32_t status = call_with_room(&it);
-    if (status == PP_DONE) print_all(&it);
+    int is_given = status == PP_DONE || status == PP_PARTIAL;
+    if (is_given) print_all(&it);
     else fprintf(stderr, "show: status %" PRIu32 "\n", status);
     free(it.source);
     free(it.words);
     free(it.definitions);
     free(it.items);
     free(it.texts);
-    return status != PP_DONE;
+    return !is_given;
 }
