@@ -23,7 +23,7 @@ int main(void) {
     for (uint64_t n = 0; n < sizes.items; n += 1 + items[n].children) { /* children: the tokens of a directive */
         const pp_item *it = &items[n];
         if (it->kind == PP_ERROR) {
-            fprintf(stderr, "error %u, %u..%u\n", it->error, items[n + 1].start, items[n + 1].end);
+            fprintf(stderr, "%s, %u..%u\n", pp_error_sentence(it->error), items[n + 1].start, items[n + 1].end);
             return 1;
         }
         if (it->kind == PP_IDENT)
