@@ -1,6 +1,6 @@
 -- What each item of a source adds to the output.
 use Rattle.std.specs.Prelude.{◌≡◌, ◌⊎◌, ℕ, Bool, true, false, IsTrue, List, ◌++◌, codes, Option, Some, None}
-use Rattle.std.specs.Prelude.{◌==◌, unwrap_or, MatchBool}
+use Rattle.std.specs.Prelude.{◌==◌, option_map, unwrap_or, MatchBool}
 use Rattle.pp_lexer.specs.declared.rules.Rules.{Rules}
 use Rattle.pp_lexer.specs.declared.token.Location.{Location}
 use Rattle.pp_lexer.specs.declared.token.Token.{Token}

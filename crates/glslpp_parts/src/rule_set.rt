@@ -51,7 +51,7 @@ impl<'a> Setting<'a> {
     pub fn begin<'s>(self, alloc: Global, source: &'s str) -> Result<Preprocessor<'s>, AllocError>
         requires { length source.now < 2 ^ 32 - 1 }
         ensures unspent { IfOk result (λ items. is_spent items ≡ false) }
-        ensures rules { IfOk result (λ items. rules_of items ≡ self.rules) }
+        ensures rules { IfOk result (λ items. rules_of items ≡ self.entry.rules) }
     {
         let mut items = Preprocessor::with_rules(alloc, source, self.rules);
         let Some(steps) = self.budget else {
