@@ -222,6 +222,9 @@ impl MacroProcessor {
 
     /// Appends to the items what the open macros give, over a list: up to `__LINE__`, to the name of a macro with
     /// parentheses, or to the end of all open macros.
+    ///
+    /// It is a function of its own, so that calls inside each other keep no room for it on the stack.
+    #[inline(never)]
     pub fn give_frames(
         &mut self,
         list: &ListLexer<'_>,
