@@ -129,7 +129,8 @@ pub record PreprocessesBy (rules : Rules) (most : Option ℕ) (has_ended : Bool)
   pub written : AreWritten (entries_of given) items items_after texts texts_after sizes
 
 -- all items of a source by pp-rs's rules are written
-abbrev pub Preprocesses : List ℕ → List ℕ → List Definition → List Item → List Item → List ℕ → List ℕ → Sizes → Type 0
+abbrev pub Preprocesses : List ℕ → List ℕ → List Definition
+    → List Item → List Item → List ℕ → List ℕ → Sizes → Type 0
 Preprocesses = PreprocessesBy pp_rs None true
 
 -- the answers of `pp_preprocess_with` with which items are there, or would be with more room
