@@ -4,9 +4,9 @@ use Rattle.std.specs.Prelude.{Ok}
 use Rattle.pp_lexer.specs.TokenValue.{is_ordinary}
 use Rattle.pp_lexer.specs.declared.token.Location.{Location}
 use Rattle.pp_lexer.specs.declared.token.Token.{Token}
+use Rattle.pp_model.specs.Places.{Fault}
 use Rattle.pp_model.specs.Names.{Name}
 use Rattle.pp_model.specs.Definitions.{with_change}
-use Rattle.pp_model.specs.Calls.{Fault}
 use Rattle.pp_model.specs.DefineLines.{defined_on}
 use Rattle.pp_model.specs.Sights.{sight_of}
 use Rattle.pp_model.specs.Blocks.{is_live}

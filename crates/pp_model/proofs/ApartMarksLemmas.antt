@@ -47,7 +47,7 @@ module _ {R : Type 0} (I : Reading R) where
       → IsRest e.list f.list → HasApartMarks f.list → HasApartMarks (with_macro m line arguments f).list
   opened_is_apart o m line arguments d e f t h r apart =
       let both : AreApart (m.name ∷ open_names f.list) = (opens_new o m d e f.list t h r, apart) in
-      rw (open_spliced m.name m.definition (called_at m.token line) arguments f.list) both
+      rw (open_spliced m.name m.definition (called_at m.text m.token line) arguments f.list) both
 
   pub item_keeps_apart : (A : Answers) (o : Taken) (e f : Expander R) → Emits I A e o f → HasApartMarks e.list → HasApartMarks f.list
   item_keeps_apart A o e f (itself o1 e1 f1 t h) apart = rest_is_apart e.list f.list (taking_leaves_rest o e f t) apart

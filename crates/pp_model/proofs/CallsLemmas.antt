@@ -1,13 +1,14 @@
 -- The search for a call's arguments, and the call, have one outcome if the reader and the answers have one.
 use Rattle.std.proofs.Common.{◌≡◌, ◌∙◌, ℕ, List, [], refl, sym, Option, Some, None}
 use Rattle.std.specs.Prelude.{Result, Ok, Err}
-use Rattle.pp_lexer.specs.declared.token.Location.{Location}
 use Rattle.pp_lexer.specs.declared.token.PreprocessorError.TheVariants.{IntegerOverflow, UnexpectedEndOfInput}
+use Rattle.pp_model.specs.declared.place.Place.{Place}
+use Rattle.pp_model.specs.Places.{PlacedFault, place_of}
 use Rattle.pp_model.specs.Definitions.{Definition}
 use Rattle.pp_model.specs.declared.read.Read.{Read}
 use Rattle.pp_model.specs.Reading.{Reading, Expander}
 use Rattle.pp_model.specs.Taking.{Takes}
-use Rattle.pp_model.specs.Calls.{Fault, Nesting, closes, within, too_many, nesting, before, Gathered, Gathers, closed, inside, overfull, ended, failed, Answers, site_of, Called, no_call, refused, called_by, paren_at, Calls, alone, broken, whole}
+use Rattle.pp_model.specs.Calls.{Nesting, closes, within, too_many, nesting, before, Gathered, Gathers, closed, inside, overfull, ended, failed, Answers, site_of, Called, no_call, refused, called_by, paren_at, Calls, alone, broken, whole}
 use Rattle.pp_model.specs.ExpansionLaws.{OneReads, OneGathering, OneAnswer, OneCall}
 use Rattle.pp_model.specs.declared.read.Taken.{Taken}
 use Rattle.pp_model.specs.declared.read.Taken.TheVariants as taken
@@ -15,17 +16,17 @@ use Rattle.pp_model.proofs.TakingLemmas.{one_pair, one_taking}
 
 module _ {R : Type 0} (I : Reading R) (one : OneReads I) where
   -- what a search gathers, by what it takes first
-  abbrev ByNesting : Nesting → Read → Expander R → Result Gathered Fault → Expander R → Type 0
+  abbrev ByNesting : Nesting → Read → Expander R → Result Gathered PlacedFault → Expander R → Type 0
   ByNesting closes t f x g = (x ≡ Ok (record { tokens = []; closing = t.token.location })) × (g ≡ f)
-  ByNesting (within k) t f x g = (rest : Result Gathered Fault) × Gathers I k t.token.location f rest g × (x ≡ before t rest)
-  ByNesting too_many t f x g = (x ≡ Err (IntegerOverflow, t.token.location)) × (g ≡ f)
+  ByNesting (within k) t f x g = (rest : Result Gathered PlacedFault) × Gathers I k (place_of t) f rest g × (x ≡ before t rest)
+  ByNesting too_many t f x g = (x ≡ Err (IntegerOverflow, place_of t)) × (g ≡ f)
 
-  abbrev ByTaken : ℕ → Location → Taken → Expander R → Result Gathered Fault → Expander R → Type 0
+  abbrev ByTaken : ℕ → Place → Taken → Expander R → Result Gathered PlacedFault → Expander R → Type 0
   ByTaken n last (taken.Token t) f x g = ByNesting (nesting n t.token.value) t f x g
   ByTaken n last (taken.Fault fault) f x g = (x ≡ Err fault) × (g ≡ f)
   ByTaken n last taken.End f x g = (x ≡ Err (UnexpectedEndOfInput, last)) × (g ≡ f)
 
-  first_taken : (n : ℕ) (last : Location) (x : Result Gathered Fault) (e g : Expander R) → Gathers I n last e x g
+  first_taken : (n : ℕ) (last : Place) (x : Result Gathered PlacedFault) (e g : Expander R) → Gathers I n last e x g
       → (o : Taken) × (f : Expander R) × Takes I e o f × ByTaken n last o f x g
   first_taken n last x e g (closed n1 l1 t e1 f x1 a h p) = (taken.Token t, g, a, rw h (p, refl))
   first_taken n last x e g (inside n1 k l1 t e1 f g1 rest x1 a h u p) = (taken.Token t, f, a, rw h (rest, u, p))
@@ -34,7 +35,7 @@ module _ {R : Type 0} (I : Reading R) (one : OneReads I) where
   first_taken n last x e g (failed n1 l1 fault e1 f x1 a p) = (taken.Fault fault, g, a, (p, refl))
 
   -- where this is taken, a search goes on so
-  after_taken : (n : ℕ) (last : Location) (o : Taken) (x : Result Gathered Fault) (e f g : Expander R) → Takes I e o f → Gathers I n last e x g
+  after_taken : (n : ℕ) (last : Place) (o : Taken) (x : Result Gathered PlacedFault) (e f g : Expander R) → Takes I e o f → Gathers I n last e x g
       → ByTaken n last o f x g
   after_taken n last o x e f g a b =
       let first = first_taken n last x e g b in
@@ -45,7 +46,7 @@ module _ {R : Type 0} (I : Reading R) (one : OneReads I) where
   one_gathering n last x y e f g (closed n1 l1 t e1 f1 x1 a h p) b = one_pair (p, refl) (rw h at (after_taken n last (taken.Token t) y e f g a b))
   one_gathering n last x y e f g (inside n1 k l1 t e1 f1 f2 r x1 a h u p) b =
       let other = rw h at (after_taken n last (taken.Token t) y e f1 g a b) in
-      let rest = one_gathering k t.token.location r other.0 f1 f g u other.1 in
+      let rest = one_gathering k (place_of t) r other.0 f1 f g u other.1 in
       (p ∙ rw rest.0 (sym other.2), rest.1)
   one_gathering n last x y e f g (overfull n1 l1 t e1 f1 x1 a h p) b = one_pair (p, refl) (rw h at (after_taken n last (taken.Token t) y e f g a b))
   one_gathering n last x y e f g (ended n1 l1 e1 f1 x1 a p) b = one_pair (p, refl) (after_taken n last taken.End y e f g a b)
@@ -53,27 +54,27 @@ module _ {R : Type 0} (I : Reading R) (one : OneReads I) where
 
   module _ (A : Answers) (single : OneAnswer A) (d : Definition) where
     -- what a call comes to, by whether a `(` is taken, and by what is gathered after it
-    abbrev ByGathered : Location → Result Gathered Fault → Called → Expander R → Type 0
+    abbrev ByGathered : Place → Result Gathered PlacedFault → Called → Expander R → Type 0
     ByGathered paren (Ok gathered) c g =
-        (answer : Result (List (List Read)) Fault) × A d (site_of I g paren gathered.tokens) answer × (c ≡ called_by gathered.closing.line answer)
+        (answer : Result (List (List Read)) PlacedFault) × A d (site_of I g paren gathered.tokens) answer × (c ≡ called_by gathered.closing.line answer)
     ByGathered paren (Err fault) c g = c ≡ refused fault
 
-    abbrev ByParen : Option Location → Taken → Expander R → Called → Expander R → Type 0
+    abbrev ByParen : Option Place → Taken → Expander R → Called → Expander R → Type 0
     ByParen None o f c g = (c ≡ no_call o) × (g ≡ f)
-    ByParen (Some paren) o f c g = (found : Result Gathered Fault) × Gathers I 0 paren f found g × ByGathered paren found c g
+    ByParen (Some paren) o f c g = (found : Result Gathered PlacedFault) × Gathers I 0 paren f found g × ByGathered paren found c g
 
     by_paren : (c : Called) (e g : Expander R) → Calls I A d e c g → (o : Taken) × (f : Expander R) × Takes I e o f × ByParen (paren_at o) o f c g
     by_paren c e g (alone o e1 f c1 a h p) = (o, g, a, rw h (p, refl))
     by_paren c e g (broken o paren fault e1 f g1 c1 a h u p) = (o, f, a, rw h (Err fault, u, p))
     by_paren c e g (whole o paren gathered answer e1 f g1 c1 a h u s p) = (o, f, a, rw h (Ok gathered, u, (answer, s, p)))
 
-    one_by_gathered : (paren : Location) (found : Result Gathered Fault) (x y : Called) (g : Expander R) → ByGathered paren found x g
+    one_by_gathered : (paren : Place) (found : Result Gathered PlacedFault) (x y : Called) (g : Expander R) → ByGathered paren found x g
         → ByGathered paren found y g → x ≡ y
     one_by_gathered paren (Ok gathered) x y g a b =
         a.2 ∙ rw (single d (site_of I g paren gathered.tokens) a.0 b.0 a.1 b.1) (sym b.2)
     one_by_gathered paren (Err fault) x y g a b = a ∙ sym b
 
-    one_by_paren : (found : Option Location) (o : Taken) (x y : Called) (e f g : Expander R) → ByParen found o e x f → ByParen found o e y g
+    one_by_paren : (found : Option Place) (o : Taken) (x y : Called) (e f g : Expander R) → ByParen found o e x f → ByParen found o e y g
         → (x ≡ y) × (f ≡ g)
     one_by_paren None o x y e f g a b = one_pair a b
     one_by_paren (Some paren) o x y e f g a b =

@@ -1,6 +1,7 @@
 -- Once an expander over a source gave the end, it gives nothing else, no matter what is added to the definitions.
 use Rattle.std.proofs.Common.{◌≡◌, ◌∙◌, ℕ, Bool, true, false, List, [], ◌∷◌, refl, sym, ap, Option, Some, None}
-use Rattle.pp_lexer.specs.declared.token.Location.{Location}
+use Rattle.pp_model.specs.declared.place.Place.{Place}
+use Rattle.pp_model.specs.Places.{place_of}
 use Rattle.pp_model.specs.declared.read.Read.{Read}
 use Rattle.pp_model.specs.Names.{Name, is_identifier, line_name}
 use Rattle.pp_model.specs.Definitions.{Definition}
@@ -35,15 +36,15 @@ HoldsLastEnd e = e.held ≡ Some taken.End → (e.list ≡ []) × IsAtEnd e.read
 pub holds_nothing : (e : Expander SourceReader) → e.held ≡ None → HoldsLastEnd e
 holds_nothing e h k = cc
 
-number_goes_on : (location : Location) (shown : Option Integer) → line_number location shown ≡ taken.End → ⊥
-number_goes_on location (Some n) h = cc
-number_goes_on location None h = cc
+number_goes_on : (place : Place) (shown : Option Integer) → line_number place shown ≡ taken.End → ⊥
+number_goes_on place (Some n) h = cc
+number_goes_on place None h = cc
 
 taken_goes_on : (shown_line : ℕ → Option Integer) (after : List Entry) (token : Read) → shown_token shown_line after token ≡ taken.End → ⊥
 taken_goes_on shown_line after token h = go (is_identifier line_name token.token.value) refl
   where
     go : (b : Bool) → is_identifier line_name token.token.value ≡ b → ⊥
-    go true e = number_goes_on token.token.location _ (rw e at h)
+    go true e = number_goes_on (place_of token) _ (rw e at h)
     go false e = let bad = rw e at h in cc
 
 -- only the end is read as the end

@@ -6,13 +6,15 @@ use Rattle.pp_lexer.specs.declared.token.Integer.{Integer as IntegerLiteral}
 use Rattle.pp_lexer.specs.declared.token.Location.{Location}
 use Rattle.pp_lexer.specs.declared.token.Token.{Token}
 use Rattle.pp_lexer.specs.declared.token.TokenValue.TheVariants.{Integer}
+use Rattle.pp_model.specs.declared.place.Place.{Place}
+use Rattle.pp_model.specs.Places.{place_of}
 use Rattle.pp_model.specs.Names.{Name, is_identifier, line_name}
 use Rattle.pp_model.specs.Definitions.{Definition, Definitions}
 use Rattle.pp_model.specs.SpliceList.{after_marks, outermost_line, parameter_of, replacement, body_before, macro_before, outermost_call}
 use Rattle.pp_model.specs.inner.SpliceList.{followed_by}
 use Rattle.pp_model.specs.Painting.{taken_among}
 use Rattle.pp_model.specs.Taking.{line_number, shown_token, shown_outcome}
-use Rattle.pp_model.specs.Calls.{Fault, Pieces, is_comma, nesting_after, cut_before, pieces, arguments_of}
+use Rattle.pp_model.specs.Calls.{Pieces, is_comma, nesting_after, cut_before, pieces, arguments_of}
 use Rattle.pp_model.specs.Emitting.{first_before}
 use Rattle.pp_model.specs.declared.read.Read.{Read}
 use Rattle.pp_model.proofs.NumberingLemmas.{IsLineLiteral}
@@ -52,7 +54,7 @@ abbrev pub HoldInLists : (Token → Type 0) → List (List Read) → Type 0
 HoldInLists Q lists = Each (λ tokens. Each (HoldsOfRead Q) tokens) lists
 
 -- one more has it, before a list whose elements have it
-pub more_holds : {X : Type 0} (P : X → Type 0) (x : X) (rest : Result (List X) Fault) → P x → IfOk rest (Each P) → IfOk (first_before x rest) (Each P)
+pub more_holds : {X E : Type 0} (P : X → Type 0) (x : X) (rest : Result (List X) E) → P x → IfOk rest (Each P) → IfOk (first_before x rest) (Each P)
 more_holds P x (Ok rest) q h = (q, h)
 more_holds P x (Err fault) q h = tt
 
@@ -90,24 +92,24 @@ module _ (Q : Token → Type 0) (L : ℕ → Type 0) where
   argument_holds (argument ∷ arguments) zero all = all.0
   argument_holds (argument ∷ arguments) (suc k) all = argument_holds arguments k all.1
 
-  replacement_holds : (arguments : List (List Read)) (token : Token) (k : Option ℕ) (entries : List Entry)
-      → HoldInLists Q arguments → Q token → HoldInList entries → HoldInList (replacement arguments token k entries)
-  replacement_holds arguments token None entries all q h = (q, h)
-  replacement_holds arguments token (Some k) entries all q h = followed_hold (unwrap_or (slice_get arguments k) []) entries (argument_holds arguments k all) h
+  replacement_holds : (arguments : List (List Read)) (text : ℕ) (token : Token) (k : Option ℕ) (entries : List Entry)
+      → HoldInLists Q arguments → Q token → HoldInList entries → HoldInList (replacement arguments text token k entries)
+  replacement_holds arguments text token None entries all q h = (q, h)
+  replacement_holds arguments text token (Some k) entries all q h = followed_hold (unwrap_or (slice_get arguments k) []) entries (argument_holds arguments k all) h
 
-  replaced_holds : (parameters : List Name) (arguments : List (List Read)) (body : List Token) (entries : List Entry)
-      → HoldInLists Q arguments → Each Q body → HoldInList entries → HoldInList (body_before parameters arguments body entries)
-  replaced_holds parameters arguments [] entries all q h = h
-  replaced_holds parameters arguments (token ∷ body) entries all q h =
-      replacement_holds arguments token (parameter_of parameters token.value) (body_before parameters arguments body entries) all q.0
-      (replaced_holds parameters arguments body entries all q.1 h)
+  replaced_holds : (parameters : List Name) (arguments : List (List Read)) (text : ℕ) (body : List Token) (entries : List Entry)
+      → HoldInLists Q arguments → Each Q body → HoldInList entries → HoldInList (body_before parameters arguments text body entries)
+  replaced_holds parameters arguments text [] entries all q h = h
+  replaced_holds parameters arguments text (token ∷ body) entries all q h =
+      replacement_holds arguments text token (parameter_of parameters token.value) (body_before parameters arguments text body entries) all q.0
+      (replaced_holds parameters arguments text body entries all q.1 h)
 
   -- a macro's replacement has it where its body, its arguments and its line have it
   pub spliced_holds : (name : Name) (definition : Definition) (call : CallPlace) (arguments : List (List Read)) (entries : List Entry)
       → Each Q definition.body → L call.line → HoldInLists Q arguments → HoldInList entries
       → HoldInList (macro_before name definition call arguments entries)
   spliced_holds name definition call arguments entries body l all h =
-      replaced_holds definition.parameters arguments definition.body (End (record { name = name; call = call }) ∷ entries) all body (l, h)
+      replaced_holds definition.parameters arguments definition.text definition.body (End (record { name = name; call = call }) ∷ entries) all body (l, h)
 
   cut_holds : (parts : Bool) (token : Read) (cut : Pieces) → Q token.token → Each (HoldsOfRead Q) cut.first
       → HoldInLists Q cut.others
@@ -130,10 +132,10 @@ module _ (Q : Token → Type 0) (L : ℕ → Type 0) where
 
   module _ (closed : AreClosed Q L) (shown_line : ℕ → Option IntegerLiteral)
       (shown : (line : ℕ) (number : IntegerLiteral) → shown_line line ≡ Some number → IsLineLiteral number) where
-    number_holds : (place : Location) (line : ℕ) (found : Option IntegerLiteral) → L place.line → shown_line line ≡ found
+    number_holds : (place : Place) (line : ℕ) (found : Option IntegerLiteral) → L place.location.line → shown_line line ≡ found
         → HoldsOfTaken Q (line_number place found)
     number_holds place line None here e = tt
-    number_holds place line (Some number) here e = closed.number place number here (shown line number e)
+    number_holds place line (Some number) here e = closed.number place.location number here (shown line number e)
 
     -- what is taken has it where the token and the rest of the list have it
     pub taken_holds : (after : List Entry) (token : Read) → HoldInList after → Q token.token → HoldsOfTaken Q (shown_token shown_line after token)
@@ -143,8 +145,8 @@ module _ (Q : Token → Type 0) (L : ℕ → Type 0) where
         line = unwrap_or (outermost_line after) token.token.location.line
 
         go : (b : Bool) → is_identifier line_name token.token.value ≡ b
-            → HoldsOfTaken Q (if b then line_number token.token.location (shown_line line) else taken.Token token)
-        go true e = number_holds token.token.location line (shown_line line) (closed.line token.token q) refl
+            → HoldsOfTaken Q (if b then line_number (place_of token) (shown_line line) else taken.Token token)
+        go true e = number_holds (place_of token) line (shown_line line) (closed.line token.token q) refl
         go false e = q
 
     pub read_holds : (x : Taken) → HoldsOfTaken Q x → HoldsOfTaken Q (shown_outcome shown_line x)

@@ -2,18 +2,19 @@
 use Rattle.std.proofs.Common.{◌≡◌, ℕ, zero, suc, List, [], ◌∷◌, sym, subst, Option, Some, None}
 use Rattle.std.specs.Prelude.{⊤, IfOk, MatchOption, Result, Ok, Err, Bool, true, false, if◌then◌else◌, ◌||◌}
 use Rattle.std.specs.List.{AllByRecursion as Each}
-use Rattle.pp_lexer.specs.declared.token.Location.{Location}
 use Rattle.pp_lexer.specs.declared.token.PreprocessorError.{PreprocessorError}
 use Rattle.pp_lexer.specs.declared.token.PreprocessorError.TheVariants.{RecursionLimitReached}
 use Rattle.pp_lexer.specs.declared.token.Token.{Token}
 use Rattle.pp_lexer.specs.declared.token.TokenValue.{TokenValue}
 use Rattle.pp_lexer.specs.declared.token.TokenValue.TheVariants.{Ident}
+use Rattle.pp_model.specs.declared.place.Place.{Place}
+use Rattle.pp_model.specs.Places.{PlacedFault, place_of}
 use Rattle.pp_model.specs.Names.{Name}
 use Rattle.pp_model.specs.Definitions.{Definition, Definitions}
 use Rattle.pp_model.specs.Reading.{Reading, Expander, Opening, opening_of, opening, masked_names, Listed, argument_reading, reading_of}
 use Rattle.pp_model.specs.inner.Reading.{first_listed, opening_by, after_listed}
 use Rattle.pp_model.specs.Taking.{Takes, Fetches, held, listed, read}
-use Rattle.pp_model.specs.Calls.{Gathered, before, Fault, Gathers, closed, inside, overfull, ended, failed, Answers, Site, misfit, Called, no_call, refused, fits, called_by, Calls, alone, broken, whole}
+use Rattle.pp_model.specs.Calls.{Gathered, before, Gathers, closed, inside, overfull, ended, failed, Answers, Site, misfit, Called, no_call, refused, fits, called_by, Calls, alone, broken, whole}
 use Rattle.pp_model.specs.Emitting.{with_macro, Emits, itself, object, name_alone, call_refused, call, Collects, done, failed as failing, item, Alones, Each as Expanded, none, first_failed, more, answers_by, ExpandsArguments, answers_at, Alone, called_at}
 use Rattle.pp_model.specs.declared.read.Read.{Read}
 use Rattle.pp_model.specs.declared.read.Taken.{Taken}
@@ -34,7 +35,7 @@ module _ (Q : Token → Type 0) (L : ℕ → Type 0) where
 
   -- so does what calls come to
   abbrev pub AnswersKeep : Answers → Type 0
-  AnswersKeep A = (definition : Definition) (site : Site) (answer : Result (List (List Read)) Fault) → A definition site answer
+  AnswersKeep A = (definition : Definition) (site : Site) (answer : Result (List (List Read)) PlacedFault) → A definition site answer
       → HoldInBodies Q site.visible → HoldInLists Q site.arguments → IfOk answer (HoldInLists Q)
 
   -- it holds of what an expander holds, lists and reads
@@ -52,34 +53,34 @@ module _ (Q : Token → Type 0) (L : ℕ → Type 0) where
   HoldsOfCalled (fits arguments line) = HoldInLists Q arguments × L line
 
 module _ (Q : Token → Type 0) (L : ℕ → Type 0) (closed_under : AreClosed Q L) where
-  gathered_more : (token : Read) (rest : Result Gathered Fault) → Q token.token → IfOk rest (HoldsOfGathered Q L)
+  gathered_more : (token : Read) (rest : Result Gathered PlacedFault) → Q token.token → IfOk rest (HoldsOfGathered Q L)
       → IfOk (before token rest) (HoldsOfGathered Q L)
   gathered_more token (Ok rest) q h = ((q, h.0), h.1)
   gathered_more token (Err fault) q h = tt
 
-  called_holds : (line : ℕ) (answer : Result (List (List Read)) Fault) → L line → IfOk answer (HoldInLists Q)
+  called_holds : (line : ℕ) (answer : Result (List (List Read)) PlacedFault) → L line → IfOk answer (HoldInLists Q)
       → HoldsOfCalled Q L (called_by line answer)
   called_holds line (Ok lists) l h = (h, l)
   called_holds line (Err fault) l h = tt
 
   -- a token opens what is defined, and stands where the macro is opened
-  opened_by : (token : Token) (name : Name) (found : Option Definition) (m : Opening) → opening_by token name found ≡ Some m → (m.token ≡ token)
+  opened_by : (token : Read) (name : Name) (found : Option Definition) (m : Opening) → opening_by token name found ≡ Some m → (m.token ≡ token.token)
       × (found ≡ Some m.definition)
   opened_by token name (Some definition) m e = (cc, cc)
   opened_by token name None m e = cc
 
   module _ {R : Type 0} (I : Reading R) (K : R → Type 0) (keeps : ReaderKeeps Q L I K) where
-    opened_when : (b : Bool) (e : Expander R) (token : Token) (name : Name) (m : Opening)
-        → (if b then None else opening_by token name (I.visible e.reader name)) ≡ Some m → K e.reader → Q token → Each Q m.definition.body
+    opened_when : (b : Bool) (e : Expander R) (token : Read) (name : Name) (m : Opening)
+        → (if b then None else opening_by token name (I.visible e.reader name)) ≡ Some m → K e.reader → Q token.token → Each Q m.definition.body
         × L m.token.location.line
     opened_when true e token name m is k q = cc
     opened_when false e token name m is k q =
         let by = opened_by token name (I.visible e.reader name) m is in
-        (keeps.visible e.reader k name m.definition by.1, subst (λ (t : Token). L t.location.line) (sym by.0) (closed_under.line token q))
+        (keeps.visible e.reader k name m.definition by.1, subst (λ (t : Token). L t.location.line) (sym by.0) (closed_under.line token.token q))
 
     opened_value : (e : Expander R) (token : Read) (value : TokenValue) (m : Opening) → opening_of I e token value ≡ Some m → K e.reader → Q token.token
         → Each Q m.definition.body × L m.token.location.line
-    opened_value e token (Ident name) m is k q = opened_when (I.is_reserved name || token.painted) e token.token name m is k q
+    opened_value e token (Ident name) m is k q = opened_when (I.is_reserved name || token.painted) e token name m is k q
     opened_value e token _ m is k q = cc
 
     opened_holds : (e : Expander R) (x : Taken) (m : Opening) → opening I e x ≡ Some m → HoldsOf Q L K e → HoldsOfTaken Q x
@@ -108,14 +109,14 @@ module _ (Q : Token → Type 0) (L : ℕ → Type 0) (closed_under : AreClosed Q
         let there = fetching_keeps t.first e f t.fetches h in
         (rw t.paints (painted_holds Q L (masked_names f) t.first there.0), there.1)
 
-    pub gathering_keeps : (n : ℕ) (last : Location) (x : Result Gathered Fault) (e f : Expander R) → Gathers I n last e x f → HoldsOf Q L K e
+    pub gathering_keeps : (n : ℕ) (last : Place) (x : Result Gathered PlacedFault) (e f : Expander R) → Gathers I n last e x f → HoldsOf Q L K e
         → IfOk x (HoldsOfGathered Q L) × HoldsOf Q L K f
     gathering_keeps n last x e f (closed n1 l1 token e1 f1 x1 t is p) h =
         let taken = taking_keeps _ e f t h in
         (rw p (tt, closed_under.line token.token taken.0), taken.1)
     gathering_keeps n last x e f (inside n1 k l1 token e1 g f1 rest x1 t is u p) h =
         let taken = taking_keeps (taken.Token token) e g t h in
-        let later = gathering_keeps k token.token.location rest g f u taken.1 in
+        let later = gathering_keeps k (place_of token) rest g f u taken.1 in
         (rw p (gathered_more token rest taken.0 later.0), later.1)
     gathering_keeps n last x e f (overfull n1 l1 token e1 f1 x1 t is p) h = (rw p tt, (taking_keeps _ e f t h).1)
     gathering_keeps n last x e f (ended n1 l1 e1 f1 x1 t p) h = (rw p tt, (taking_keeps _ e f t h).1)
@@ -137,7 +138,7 @@ module _ (Q : Token → Type 0) (L : ℕ → Type 0) (closed_under : AreClosed Q
           → HoldInLists Q arguments → HoldsOf Q L K e → HoldsOf Q L K (with_macro m line arguments e)
       opening_keeps m line arguments e body l all h = record {
         held = h.held;
-        list = spliced_holds Q L m.name m.definition (called_at m.token line) arguments e.list body l all h.list;
+        list = spliced_holds Q L m.name m.definition (called_at m.text m.token line) arguments e.list body l all h.list;
         reader = h.reader;
       }
 
@@ -162,7 +163,7 @@ module _ (Q : Token → Type 0) (L : ℕ → Type 0) (closed_under : AreClosed Q
           let called = call_keeps m.definition (fits arguments line) g g1 c taken.1 in
           item_keeps o (with_macro m line arguments g1) f i (opening_keeps m line arguments g1 by.0 called.0.1 called.0.0 called.1)
 
-      pub list_keeps : (x : Result (List Read) Fault) (e : Expander R) → Collects I A e x → HoldsOf Q L K e → IfOk x (Each (HoldsOfRead Q))
+      pub list_keeps : (x : Result (List Read) PlacedFault) (e : Expander R) → Collects I A e x → HoldsOf Q L K e → IfOk x (Each (HoldsOfRead Q))
       list_keeps x e (done e1 f x1 i p) h = rw p tt
       list_keeps x e (failing fault e1 f x1 i p) h = rw p tt
       list_keeps x e (item token rest x1 e1 f i c p) h =
@@ -196,11 +197,11 @@ module _ (Q : Token → Type 0) (L : ℕ → Type 0) (closed_under : AreClosed Q
 
   -- what lists of tokens come to alone
   abbrev AloneKeeps : Alones → Type 0
-  AloneKeeps deeper = (tokens : List Read) (numbering : Numbering) (visible : Definitions) (hidden : List Name) (out : Result (List Read) Fault)
+  AloneKeeps deeper = (tokens : List Read) (numbering : Numbering) (visible : Definitions) (hidden : List Name) (out : Result (List Read) PlacedFault)
       → deeper tokens numbering visible hidden out → Each (HoldsOfRead Q) tokens → HoldInBodies Q visible → IfOk out (Each (HoldsOfRead Q))
 
   each_keeps : (deeper : Alones) → AloneKeeps deeper → (numbering : Numbering) (visible : Definitions) (hidden : List Name) (arguments : List (List Read))
-      (out : Result (List (List Read)) Fault) → Expanded deeper numbering visible hidden arguments out
+      (out : Result (List (List Read)) PlacedFault) → Expanded deeper numbering visible hidden arguments out
       → HoldInBodies Q visible → HoldInLists Q arguments → IfOk out (HoldInLists Q)
   each_keeps deeper keeps numbering visible hidden arguments out (none out1 p) v all = rw p tt
   each_keeps deeper keeps numbering visible hidden arguments out (first_failed t ts c out1 a p) v all = rw p tt
@@ -208,14 +209,14 @@ module _ (Q : Token → Type 0) (L : ℕ → Type 0) (closed_under : AreClosed Q
       rw p
       (more_holds (Each (HoldsOfRead Q)) c r (keeps t numbering visible hidden (Ok c) a all.0 v) (each_keeps deeper keeps numbering visible hidden ts r later v all.1))
 
-  abbrev ExpansionKeeps : (Site → Result (List (List Read)) Fault → Type 0) → Type 0
-  ExpansionKeeps Fitting = (site : Site) (out : Result (List (List Read)) Fault) → Fitting site out
+  abbrev ExpansionKeeps : (Site → Result (List (List Read)) PlacedFault → Type 0) → Type 0
+  ExpansionKeeps Fitting = (site : Site) (out : Result (List (List Read)) PlacedFault) → Fitting site out
       → HoldInBodies Q site.visible → HoldInLists Q site.arguments → IfOk out (HoldInLists Q)
 
-  refused_keeps : (fault : Fault) (out : Result (List (List Read)) Fault) → out ≡ Err fault → IfOk out (HoldInLists Q)
+  refused_keeps : (fault : PlacedFault) (out : Result (List (List Read)) PlacedFault) → out ≡ Err fault → IfOk out (HoldInLists Q)
   refused_keeps fault out is = rw is tt
 
-  answers_by_keep : (Fitting : Site → Result (List (List Read)) Fault → Type 0) → ExpansionKeeps Fitting → AnswersKeep Q L (answers_by Fitting)
+  answers_by_keep : (Fitting : Site → Result (List (List Read)) PlacedFault → Type 0) → ExpansionKeeps Fitting → AnswersKeep Q L (answers_by Fitting)
   answers_by_keep Fitting keeps definition site out is v all = decided (misfit definition.parameters site.arguments) is
     where
       decided : (error : Option PreprocessorError) → MatchOption error (Fitting site out) (λ error. out ≡ Err (error, site.paren))
@@ -224,7 +225,7 @@ module _ (Q : Token → Type 0) (L : ℕ → Type 0) (closed_under : AreClosed Q
       decided (Some error) is = refused_keeps (error, site.paren) out is
 
   collected_keeps : (A : Answers) → AnswersKeep Q L A → (tokens : List Read) (numbering : Numbering) (visible : Definitions) (hidden : List Name)
-      (out : Result (List Read) Fault) → Collects argument_reading A (reading_of tokens numbering visible hidden) out
+      (out : Result (List Read) PlacedFault) → Collects argument_reading A (reading_of tokens numbering visible hidden) out
       → Each (HoldsOfRead Q) tokens → HoldInBodies Q visible
       → IfOk out (Each (HoldsOfRead Q))
   collected_keeps A answers tokens numbering visible hidden out c all v =

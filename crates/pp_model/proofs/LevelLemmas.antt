@@ -3,10 +3,11 @@ use Rattle.std.proofs.Common.{◌≡◌, ◌≢◌, ◌∙◌, ℕ, zero, suc, �
 use Rattle.std.specs.Prelude.{MatchOption, Result, Ok, Err}
 use Rattle.pp_lexer.specs.declared.token.PreprocessorError.{PreprocessorError}
 use Rattle.pp_lexer.specs.declared.token.PreprocessorError.TheVariants.{RecursionLimitReached}
+use Rattle.pp_model.specs.Places.{PlacedFault}
 use Rattle.pp_model.specs.declared.read.Read.{Read}
 use Rattle.pp_model.specs.Definitions.{Definition}
 use Rattle.pp_model.specs.Reading.{Reading, argument_reading, reading_of}
-use Rattle.pp_model.specs.Calls.{Fault, Answers, Site, misfit}
+use Rattle.pp_model.specs.Calls.{Answers, Site, misfit}
 use Rattle.pp_model.specs.Emitting.{Alones, Each, none, first_failed, more, answers_by, alone_by, ExpandsArguments, answers_at, Alone}
 use Rattle.pp_model.specs.ExpansionLaws.{OneReads, OneAnswer, OneCall, OneItem, OneArgument, OneEach}
 use Rattle.pp_model.proofs.TakingLemmas.{argument_reads_one}
@@ -28,8 +29,8 @@ one_each deeper one numbering visible hidden arguments x y (more t c ts r x1 a v
     p ∙ (rw (tokens, rest) (sym q))
 
 -- a call has one answer, if each that has the right number of arguments has one
-one_answer_by : (Fitting : Site → Result (List (List Read)) Fault → Type 0)
-    → ((site : Site) (x y : Result (List (List Read)) Fault) → Fitting site x → Fitting site y → x ≡ y) → OneAnswer (answers_by Fitting)
+one_answer_by : (Fitting : Site → Result (List (List Read)) PlacedFault → Type 0)
+    → ((site : Site) (x y : Result (List (List Read)) PlacedFault) → Fitting site x → Fitting site y → x ≡ y) → OneAnswer (answers_by Fitting)
 one_answer_by Fitting one definition site x y a b = decided (misfit definition.parameters site.arguments) a b
   where
     decided : (error : Option PreprocessorError) → MatchOption error (Fitting site x) (λ error. x ≡ Err (error, site.paren))
@@ -41,7 +42,7 @@ one_alone : (A : Answers) → OneAnswer A → OneArgument (alone_by A)
 one_alone A one tokens numbering visible hidden x y a b = one_list argument_reading argument_reads_one A one x y (reading_of tokens numbering visible hidden) a b
 
 -- the arguments of a call have one list each, or there is one fault
-one_expansion : (level : ℕ) (site : Site) (x y : Result (List (List Read)) Fault) → ExpandsArguments level site x → ExpandsArguments level site y → x ≡ y
+one_expansion : (level : ℕ) (site : Site) (x y : Result (List (List Read)) PlacedFault) → ExpandsArguments level site x → ExpandsArguments level site y → x ≡ y
 one_expansion zero site x y a b = a ∙ sym b
 one_expansion (suc level) site x y a b =
     one_each (Alone level) (one_alone (answers_at level) (one_answer_by (ExpandsArguments level) (one_expansion level)))
@@ -56,7 +57,7 @@ pub one_argument : (level : ℕ) → OneArgument (Alone level)
 one_argument level = one_alone (answers_at level) (one_answer level)
 
 -- what the arguments come to is what the call comes to, where their number is right
-pub answers_each : (levels : ℕ) (definition : Definition) (site : Site) (out : Result (List (List Read)) Fault) → levels ≢ 0
+pub answers_each : (levels : ℕ) (definition : Definition) (site : Site) (out : Result (List (List Read)) PlacedFault) → levels ≢ 0
     → misfit definition.parameters site.arguments ≡ None → Each (Alone (levels - 1)) site.numbering site.visible site.open_around site.arguments out
     → answers_at levels definition site out
 answers_each zero definition site out some fits each = absurd (some refl)
@@ -69,7 +70,7 @@ answers_each (suc levels) definition site out some fits each =
 pub none_at_limit : (definition : Definition) (site : Site) (arguments : List (List Read)) → answers_at 0 definition site (Ok arguments) → ⊥
 none_at_limit definition site arguments a = decided (Ok arguments) refl (misfit definition.parameters site.arguments) a
   where
-    decided : (out : Result (List (List Read)) Fault) → out ≡ Ok arguments → (error : Option PreprocessorError)
+    decided : (out : Result (List (List Read)) PlacedFault) → out ≡ Ok arguments → (error : Option PreprocessorError)
         → MatchOption error (out ≡ Err (RecursionLimitReached, site.paren)) (λ error. out ≡ Err (error, site.paren)) → ⊥
     decided out is None a = cc
     decided out is (Some error) a = cc

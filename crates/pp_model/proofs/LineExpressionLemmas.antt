@@ -9,7 +9,7 @@ use Rattle.pp_expression.specs.Trees.{spelling}
 use Rattle.pp_expression.specs.FirstFault.{Evaluates, IsValue}
 use Rattle.pp_lexer.specs.declared.token.Location.{Location}
 use Rattle.pp_lexer.specs.declared.token.PreprocessorError.TheVariants.{LineOverflow}
-use Rattle.pp_model.specs.Calls.{Fault}
+use Rattle.pp_model.specs.Places.{PlacedFault, in_source}
 use Rattle.pp_model.specs.LineWords.{Words}
 use Rattle.pp_model.specs.LineValues.{ByExpression, IsAlone, Numbers, NumberBefore, TakesExpression, line_of, placed_fault}
 use Rattle.pp_model.specs.LineValues.{symbol_of, unwanted_word, word_from_end, words_after}
@@ -53,17 +53,17 @@ left_most words v is = omega (
 )
 
 -- a fault of an expression that should be alone is the same, whatever is reported of its value
-pub alone_at_fault : {A B : Type 0} (directive : Location) (words : Words) (first : ℤ → A) (second : ℤ → B) (fault : Fault)
+pub alone_at_fault : {A B : Type 0} (directive : Location) (words : Words) (first : ℤ → A) (second : ℤ → B) (fault : PlacedFault)
     → IsAlone directive words first (Err fault) → IsAlone directive words second (Err fault)
 alone_at_fault {A} {B} directive words first second fault alone = at alone.evaluation alone.evaluated alone.is where
   by_word : (value : ℤ) (found : Option Word)
-      → (let r : Result A Fault = Err fault in r ≡ option_map_or (λ word. Err (unwanted_word word)) found (Ok (first value)))
-      → (let r : Result B Fault = Err fault in r ≡ option_map_or (λ word. Err (unwanted_word word)) found (Ok (second value)))
+      → (let r : Result A PlacedFault = Err fault in r ≡ option_map_or (λ word. Err (unwanted_word word)) found (Ok (first value)))
+      → (let r : Result B PlacedFault = Err fault in r ≡ option_map_or (λ word. Err (unwanted_word word)) found (Ok (second value)))
   by_word value None is = absurd cc
   by_word value (Some word) is = let e : fault ≡ unwanted_word word = cc in ap Err e
 
   at : (e : Result Value Found) → Evaluates (line_of words) e
-      → (let r : Result A Fault = Err fault in MatchResult e
+      → (let r : Result A PlacedFault = Err fault in MatchResult e
       (λ v. r ≡ option_map_or (λ word. Err (unwanted_word word)) (word_from_end v.left words) (Ok (first v.value)))
       (λ found. r ≡ Err (placed_fault directive words found.kind found.left)))
       → IsAlone directive words second (Err fault)
@@ -76,25 +76,25 @@ pub alone_at_value : {A B : Type 0} (directive : Location) (words : Words) (firs
     → IsAlone directive words first (Ok x) → IsAlone directive words (λ value. y) (Ok y)
 alone_at_value {A} {B} directive words first x y alone = at alone.evaluation alone.evaluated alone.is where
   by_word : (value : ℤ) (found : Option Word)
-      → (let r : Result A Fault = Ok x in r ≡ option_map_or (λ word. Err (unwanted_word word)) found (Ok (first value)))
-      → (let r : Result B Fault = Ok y in r ≡ option_map_or (λ word. Err (unwanted_word word)) found (Ok y))
+      → (let r : Result A PlacedFault = Ok x in r ≡ option_map_or (λ word. Err (unwanted_word word)) found (Ok (first value)))
+      → (let r : Result B PlacedFault = Ok y in r ≡ option_map_or (λ word. Err (unwanted_word word)) found (Ok y))
   by_word value None is = refl
   by_word value (Some word) is = absurd cc
 
   at : (e : Result Value Found) → Evaluates (line_of words) e
-      → (let r : Result A Fault = Ok x in MatchResult e
+      → (let r : Result A PlacedFault = Ok x in MatchResult e
       (λ v. r ≡ option_map_or (λ word. Err (unwanted_word word)) (word_from_end v.left words) (Ok (first v.value)))
       (λ found. r ≡ Err (placed_fault directive words found.kind found.left)))
       → IsAlone directive words (λ value. y) (Ok y)
   at (Ok v) evaluated by = record { evaluation = Ok v; evaluated = evaluated; is = by_word v.value (word_from_end v.left words) by }
   at (Err found) evaluated by = absurd cc
 
-module _ (directive : Location) (words after : Words) (taken : Result ℤ Fault) (takes : TakesExpression directive words taken after) where
-  module _ {A : Type 0} (By : Value → Result A Fault → Type 0) where
+module _ (directive : Location) (words after : Words) (taken : Result ℤ PlacedFault) (takes : TakesExpression directive words taken after) where
+  module _ {A : Type 0} (By : Value → Result A PlacedFault → Type 0) where
     -- the fault of the expression is that of the line
-    pub fault_first : (fault : Fault) → taken ≡ Err fault → ByExpression directive words By (Err fault)
+    pub fault_first : (fault : PlacedFault) → taken ≡ Err fault → ByExpression directive words By (Err fault)
     fault_first fault is = at takes.evaluation takes.evaluated takes.is where
-      as_fault : Result ℤ Fault → Result A Fault
+      as_fault : Result ℤ PlacedFault → Result A PlacedFault
       as_fault (Ok n) = Err fault
       as_fault (Err other) = Err other
 
@@ -106,11 +106,11 @@ module _ (directive : Location) (words after : Words) (taken : Result ℤ Fault)
       at (Err found) evaluated by = record { evaluation = Err found; evaluated = evaluated; is = ap as_fault (sym is ∙ by) }
 
     -- what the line gives by the value of the expression
-    pub value_first : (value : ℤ) (result : Result A Fault) → taken ≡ Ok value
+    pub value_first : (value : ℤ) (result : Result A PlacedFault) → taken ≡ Ok value
         → ((v : Value) → v.left ≤ length words.words → value ≡ v.value → after ≡ words_after v.left words → By v result)
         → ByExpression directive words By result
     value_first value result is gives = at takes.evaluation takes.evaluated takes.is where
-      value_of : Result ℤ Fault → ℤ
+      value_of : Result ℤ PlacedFault → ℤ
       value_of (Ok n) = n
       value_of (Err fault) = pos 0
 
@@ -132,7 +132,7 @@ module _ (directive : Location) (words after : Words) (taken : Result ℤ Fault)
   alone_then report value is = value_first _ value _ is
       (λ v most same left. rw (same, next_after v.left left) refl)
 
-  pub numbers_out : (value : ℤ) → taken ≡ Ok value → as_line_number value ≡ None → Numbers directive words (Err (LineOverflow, directive))
+  pub numbers_out : (value : ℤ) → taken ≡ Ok value → as_line_number value ≡ None → Numbers directive words (Err (LineOverflow, in_source directive))
   numbers_out value is none = value_first _ value _ is (λ v most same left. rw (← same, none) refl)
 
   module _ (value : ℤ) (n : ℕ) (is : taken ≡ Ok value) (some : as_line_number value ≡ Some n) where
@@ -145,7 +145,7 @@ module _ (directive : Location) (words after : Words) (taken : Result ℤ Fault)
     numbers_alone last = value_first _ value _ is
         (λ v most same left. rw (← same, some, nothing_left v.left most left (none_there _ last)) refl)
 
-    pub numbers_followed : (result : Result ℕ Fault) → is_none (slice_get after.words 0) ≡ false
+    pub numbers_followed : (result : Result ℕ PlacedFault) → is_none (slice_get after.words 0) ≡ false
         → IsAlone directive after (λ value. n) result → Numbers directive words result
     numbers_followed result more alone = value_first _ value _ is
         (λ v most same left. rw (← same, some) (before_others v.left left))

@@ -8,10 +8,10 @@ use Rattle.pp_lexer.specs.declared.lexer.item.Token.{Token as LexerToken}
 use Rattle.pp_lexer.specs.declared.token.Location.{Location}
 use Rattle.pp_lexer.specs.declared.token.Token.{Token}
 use Rattle.pp_lexer.specs.declared.rules.Rules.{Rules}
+use Rattle.pp_model.specs.Places.{Fault, source_text}
 use Rattle.pp_model.specs.Names.{Name}
 use Rattle.pp_model.specs.Conversions.{is_newline, closes_parameters, parts_parameters, conversion, refused_token}
 use Rattle.pp_model.specs.Definitions.{Definition, object_like}
-use Rattle.pp_model.specs.Calls.{Fault}
 use Rattle.pp_model.specs.inner.Emitting.{token_before}
 use Rattle.pp_model.specs.Lines.{line_tokens, first_name, name_of}
 use Rattle.pp_model.specs.inner.Lines.{tokens_from, after_first_token}
@@ -106,8 +106,8 @@ module _ (Q : Token → Type 0) where
       either_ok HoldsInBody (has_parameters rest) _ _
       (if_ok_then HoldsAfter HoldsInBody (parameters word (after_first_token rest)) _ (parameters_hold word (after_first_token rest) (after_holds rest all))
       (λ list h. if_ok_then (Each Q) HoldsInBody (line_tokens list.after)
-      (λ body. Ok (record { function_like = true; parameters = list.names; body = body })) (line_tokens_hold list.after h) (λ body g. g)))
-      (if_ok_then (Each Q) HoldsInBody (line_tokens rest) (λ body. Ok (object_like body)) (line_tokens_hold rest all) (λ body g. g))
+      (λ body. Ok (record { function_like = true; parameters = list.names; body = body; text = source_text })) (line_tokens_hold list.after h) (λ body g. g)))
+      (if_ok_then (Each Q) HoldsInBody (line_tokens rest) (λ body. Ok (object_like source_text body)) (line_tokens_hold rest all) (λ body g. g))
 
   -- so has the body that a `#define` line says
   pub defined_holds : (rules : Rules) (word : Location) (rest : List Seen) → HoldInItems rest

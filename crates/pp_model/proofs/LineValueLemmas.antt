@@ -4,12 +4,13 @@ use Rattle.pp_expression.specs.declared.symbol.Value.{Value}
 use Rattle.pp_expression.specs.declared.symbol.Found.{Found}
 use Rattle.pp_expression.specs.Arithmetic.{is_zero}
 use Rattle.pp_expression.proofs.OneOutcome.{one_outcome}
+use Rattle.pp_model.specs.Places.{PlacedFault, in_source}
 use Rattle.pp_model.specs.Painting.{unpainted}
 use Rattle.std.specs.Prelude.{map, not, MatchOption, MatchResult}
 use Rattle.pp_model.specs.Reading.{reading_of}
 use Rattle.pp_lexer.specs.declared.token.Location.{Location}
 use Rattle.pp_model.specs.LineWords.{Words}
-use Rattle.pp_model.specs.Calls.{Fault, Answers}
+use Rattle.pp_model.specs.Calls.{Answers}
 use Rattle.pp_lexer.specs.declared.token.PreprocessorError.TheVariants.{LineOverflow}
 use Rattle.pp_model.specs.LineValues.{line_of, placed_fault, ByExpression, IsAlone, words_after, NumberBefore, Numbers}
 use Rattle.pp_model.specs.ExpansionLaws.{OneAnswer}
@@ -22,11 +23,11 @@ pub one_evaluation : OneEvaluation
 one_evaluation line x y a b = one_outcome line x y a b
 
 -- what words give is one, if what their value gives is one
-one_by : {A : Type 0} (directive : Location) (words : Words) (By : Value → Result A Fault → Type 0)
-    → ((v : Value) (x y : Result A Fault) → By v x → By v y → x ≡ y) → (x y : Result A Fault) → ByExpression directive words By x
+one_by : {A : Type 0} (directive : Location) (words : Words) (By : Value → Result A PlacedFault → Type 0)
+    → ((v : Value) (x y : Result A PlacedFault) → By v x → By v y → x ≡ y) → (x y : Result A PlacedFault) → ByExpression directive words By x
     → ByExpression directive words By y → x ≡ y
 one_by {A = A} directive words By one x y a b =
-    let Of : Result A Fault → Result Value Found → Type 0 =
+    let Of : Result A PlacedFault → Result Value Found → Type 0 =
     λ result e. MatchResult e (λ v. By v result) (λ found. result ≡ Err (placed_fault directive words found.kind found.left)) in
     let same = one_evaluation (line_of words) a.evaluation b.evaluation a.evaluated b.evaluated in
     of_one a.evaluation a.is (subst (Of y) (sym same) b.is)
@@ -37,7 +38,7 @@ one_by {A = A} directive words By one x y a b =
     of_one (Ok v) p q = one v x y p q
     of_one (Err found) p q = p ∙ sym q
 
-one_alone : {A : Type 0} (directive : Location) (words : Words) (report : ℤ → A) (x y : Result A Fault) → IsAlone directive words report x
+one_alone : {A : Type 0} (directive : Location) (words : Words) (report : ℤ → A) (x y : Result A PlacedFault) → IsAlone directive words report x
     → IsAlone directive words report y → x ≡ y
 one_alone directive words report = one_by directive words _ (λ v x y p q. p ∙ sym q)
 
@@ -47,14 +48,14 @@ one_condition A single directive tokens numbering definitions x y a b =
     let there : IsAlone directive a.words (λ value. not (is_zero value)) y = rw words b.value in
     one_alone directive a.words (λ value. not (is_zero value)) x y a.value there
 
-one_before : (directive : Location) (words : Words) (n left : ℕ) (x y : Result ℕ Fault) → NumberBefore directive words n left x
+one_before : (directive : Location) (words : Words) (n left : ℕ) (x y : Result ℕ PlacedFault) → NumberBefore directive words n left x
     → NumberBefore directive words n left y → x ≡ y
 one_before directive words n zero x y a b = a ∙ sym b
 one_before directive words n (suc left) x y a b = one_alone directive (words_after (suc left) words) (λ z. n) x y a b
 
-one_given : (directive : Location) (words : Words) (left : ℕ) (number : Option ℕ) (x y : Result ℕ Fault)
-    → MatchOption number (x ≡ Err (LineOverflow, directive)) (λ n. NumberBefore directive words n left x)
-    → MatchOption number (y ≡ Err (LineOverflow, directive)) (λ n. NumberBefore directive words n left y) → x ≡ y
+one_given : (directive : Location) (words : Words) (left : ℕ) (number : Option ℕ) (x y : Result ℕ PlacedFault)
+    → MatchOption number (x ≡ Err (LineOverflow, in_source directive)) (λ n. NumberBefore directive words n left x)
+    → MatchOption number (y ≡ Err (LineOverflow, in_source directive)) (λ n. NumberBefore directive words n left y) → x ≡ y
 one_given directive words left None x y a b = a ∙ sym b
 one_given directive words left (Some n) x y a b = one_before directive words n left x y a b
 

@@ -2,9 +2,10 @@
 use Rattle.std.proofs.Common.{◌≡◌, ◌∙◌, ℕ, Bool, [], ◌∷◌, sym, Some, None}
 use Rattle.std.specs.Prelude.{Result, Ok, Err}
 use Rattle.pp_lexer.specs.declared.token.Location.{Location}
+use Rattle.pp_model.specs.Places.{PlacedFault, place_of}
 use Rattle.pp_model.specs.declared.read.Read.{Read}
 use Rattle.pp_model.specs.Reading.{Expander, Listed, line_reading}
-use Rattle.pp_model.specs.Calls.{Fault, Answers}
+use Rattle.pp_model.specs.Calls.{Answers}
 use Rattle.pp_model.specs.Emitting.{Emits, answers_at}
 use Rattle.pp_model.specs.LineWords.{WordReading, operator, word, fault, reading, Operand, Words, word_before, LineWords, ended, failed, refused, plain, answered, faulty}
 use Rattle.pp_model.specs.ExpansionLaws.{OneAnswer, OneOperand, OneLine}
@@ -20,18 +21,18 @@ use Rattle.pp_model.proofs.OperandLemmas.{one_operand}
 module _ (A : Answers) (single : OneAnswer A) where
   module _ (kind : LineKind) (directive : Location) where
     -- the words of a line, by its next item, and by the operand of a `defined`
-    abbrev ByOperand : Read → Result Bool Fault → Expander Listed → Words → Type 0
+    abbrev ByOperand : Read → Result Bool PlacedFault → Expander Listed → Words → Type 0
     ByOperand t (Ok answer) h ws =
-        (rest : Words) × LineWords kind directive A h rest × (ws ≡ word_before (Defined t.token.location (Ok answer)) rest)
-    ByOperand t (Err f) h ws = ws ≡ record { words = Defined t.token.location (Err f) ∷ []; ending = None }
+        (rest : Words) × LineWords kind directive A h rest × (ws ≡ word_before (Defined (place_of t) (Ok answer)) rest)
+    ByOperand t (Err f) h ws = ws ≡ record { words = Defined (place_of t) (Err f) ∷ []; ending = None }
 
     abbrev ByReading : WordReading → Read → Expander Listed → Words → Type 0
     ByReading (fault f) t g ws = ws ≡ record { words = []; ending = Some f }
     ByReading (word w) t g ws = (rest : Words) × LineWords kind directive A g rest × (ws ≡ word_before (Plain w) rest)
-    ByReading operator t g ws = (r : Result Bool Fault) × (h : Expander Listed) × Operand kind directive A g r h × ByOperand t r h ws
+    ByReading operator t g ws = (r : Result Bool PlacedFault) × (h : Expander Listed) × Operand kind directive A g r h × ByOperand t r h ws
 
     abbrev ByItem : Taken → Expander Listed → Words → Type 0
-    ByItem (taken.Token t) g ws = ByReading (reading kind t.token) t g ws
+    ByItem (taken.Token t) g ws = ByReading (reading kind t) t g ws
     ByItem (taken.Fault f) g ws = ws ≡ record { words = []; ending = Some f }
     ByItem taken.End g ws = ws ≡ record { words = []; ending = None }
 
@@ -52,7 +53,7 @@ module _ (A : Answers) (single : OneAnswer A) where
         rw (same.0, same.1) first.3
 
     -- where the operand is this, they come so
-    after_operand : (t : Read) (r : Result Bool Fault) (ws : Words) (g h : Expander Listed) → Operand kind directive A g r h → ByReading operator t g ws
+    after_operand : (t : Read) (r : Result Bool PlacedFault) (ws : Words) (g h : Expander Listed) → Operand kind directive A g r h → ByReading operator t g ws
         → ByOperand t r h ws
     after_operand t r ws g h a b =
         let same = one_operand A single kind directive r b.0 g h b.1 a b.2 in

@@ -1,11 +1,13 @@
 -- What a reader gives more widely, an expander over it does too; and reading a source takes nothing from dead text.
 use Rattle.std.proofs.Common.{◌≡◌, ◌∙◌, ℕ, List, refl, sym, ap, Option, Some, None, inl, inr, Result}
-use Rattle.pp_lexer.specs.declared.token.Location.{Location}
-use Rattle.pp_lexer.specs.declared.token.Token.{Token}
 use Rattle.pp_lexer.specs.declared.rules.Rules.{Rules}
+use Rattle.pp_model.specs.Painting.{taken_of}
+use Rattle.pp_model.specs.declared.read.Read.{Read}
+use Rattle.pp_model.specs.declared.place.Place.{Place}
+use Rattle.pp_model.specs.Places.{PlacedFault, place_of}
 use Rattle.pp_model.specs.Reading.{Reading, Expander}
 use Rattle.pp_model.specs.Taking.{Fetches, held, listed, read, Takes}
-use Rattle.pp_model.specs.Calls.{Fault, Answers, Gathered, Gathers, closed, inside, overfull, ended, failed, Called, Calls, alone, broken, whole}
+use Rattle.pp_model.specs.Calls.{Answers, Gathered, Gathers, closed, inside, overfull, ended, failed, Called, Calls, alone, broken, whole}
 use Rattle.pp_model.specs.Definitions.{Definition}
 use Rattle.pp_model.specs.Emitting.{Emits, itself, object, name_alone, call_refused, call}
 use Rattle.pp_model.specs.SourceReader.{SourceReader}
@@ -20,6 +22,7 @@ use Rattle.pp_model.specs.LiveRuns.{IsWithoutEffect, LiveSteps, LiveReads, live_
 use Rattle.pp_model.specs.declared.call.Reply.{Reply}
 use Rattle.pp_model.specs.declared.outcome.Outcome.{Outcome}
 use Rattle.pp_model.specs.declared.outcome.Outcome.TheVariants as outcome
+use Rattle.pp_model.specs.declared.read.Taken.TheVariants as taken
 use Rattle.pp_model.specs.declared.step.Step.{Step}
 use Rattle.pp_model.specs.declared.step.Step.TheVariants as step
 use Rattle.pp_model.specs.declared.read.Taken.{Taken}
@@ -39,10 +42,10 @@ module _ {R : Type 0} (I : Reading R) (Wider : R → Taken → R → Type 0) (wi
   takes : (x : Taken) (e f : Expander R) → Takes I e x f → Takes J e x f
   takes x e f t = record { first = t.first; fetches = fetches t.first e f t.fetches; paints = t.paints }
 
-  gathers : (n : ℕ) (last : Location) (e : Expander R) (g : Result Gathered Fault) (f : Expander R) → Gathers I n last e g f → Gathers J n last e g f
+  gathers : (n : ℕ) (last : Place) (e : Expander R) (g : Result Gathered PlacedFault) (f : Expander R) → Gathers I n last e g f → Gathers J n last e g f
   gathers n last e g f (closed n1 last1 t e1 f1 g1 h c s) = closed n1 last1 t e1 f1 g1 (takes _ _ _ h) c s
   gathers n last e g f (inside n1 k last1 t e1 f1 h1 rest g1 h c more s) =
-      inside n1 k last1 t e1 f1 h1 rest g1 (takes _ _ _ h) c (gathers k t.token.location f1 rest h1 more) s
+      inside n1 k last1 t e1 f1 h1 rest g1 (takes _ _ _ h) c (gathers k (place_of t) f1 rest h1 more) s
   gathers n last e g f (overfull n1 last1 t e1 f1 g1 h c s) = overfull n1 last1 t e1 f1 g1 (takes _ _ _ h) c s
   gathers n last e g f (ended n1 last1 e1 f1 g1 h s) = ended n1 last1 e1 f1 g1 (takes _ _ _ h) s
   gathers n last e g f (failed n1 last1 fault e1 f1 g1 h s) = failed n1 last1 fault e1 f1 g1 (takes _ _ _ h) s
@@ -63,7 +66,7 @@ module _ {R : Type 0} (I : Reading R) (Wider : R → Taken → R → Type 0) (wi
         call x o1 arguments line m e1 f1 g1 h1 (takes _ _ _ h) n k (calls _ _ _ _ c) (emits _ _ _ more)
 
 -- A step in dead text is without effect.
-module _ (A : Answers) (r : SourceReader) (nothing : GivesNothing r (act r)) (o : Option Outcome) (t : SourceReader) (s : Steps A r o t) where
+module _ (A : Answers) (r : SourceReader) (nothing : GivesNothing r (act r)) (o : Option Taken) (t : SourceReader) (s : Steps A r o t) where
   -- the definitions and what is added to a line are the same
   abbrev IsSame : SourceReader → Type 0
   IsSame reader = (reader.definitions ≡ r.definitions) × (reader.line_offset ≡ r.line_offset)
@@ -75,28 +78,36 @@ module _ (A : Answers) (r : SourceReader) (nothing : GivesNothing r (act r)) (o 
   same_after (step.Condition word tokens) e = ((refl, refl), λ holds. (nothing.same_definitions, nothing.same_lines))
   same_after (step.LineNumber word tokens) e = absurd (nothing.no_line_number word tokens e)
 
-  otherwise : (token : Token) → o ≡ Some (outcome.Token token) → GivenBy step.Passed o → ⊥
-  otherwise token e (inl n) = let bad : None ≡ Some (outcome.Token token) = sym n ∙ e in cc
-  otherwise token e (inr n) = let bad : Some (outcome.Fault n.0) ≡ Some (outcome.Token token) = sym n.1 ∙ e in cc
+  otherwise : (given : Read) → o ≡ Some (taken.Token given) → GivenBy step.Passed o → ⊥
+  otherwise given e (inl n) = let bad : None ≡ Some (taken.Token given) = sym n ∙ e in cc
+  otherwise given e (inr n) = let bad : Some (taken.Fault n.0) ≡ Some (taken.Token given) = sym n.1 ∙ e in cc
 
-  no_token : (token : Token) → o ≡ Some (outcome.Token token) → (did : Step) → (act r).step ≡ did → GivenBy did o → ⊥
-  no_token token e (step.Given x) h g = let same : x ≡ outcome.Token token = cc in nothing.no_token token (h ∙ ap step.Given same)
-  no_token token e _ h g = otherwise token e g
+  -- the outcome of a token that was given
+  token_of : (x : Outcome) (given : Read) → taken_of x ≡ taken.Token given → x ≡ outcome.Token given.token
+  token_of (outcome.Token token) given e = ap (λ o. outcome.Token o) (let z = e in cc)
+  token_of (outcome.Fault fault) given e = cc
+  token_of outcome.End given e = cc
+
+  no_token : (given : Read) → o ≡ Some (taken.Token given) → (did : Step) → (act r).step ≡ did → GivenBy did o → ⊥
+  no_token given e (step.Given x) h g =
+      let same : taken_of x ≡ taken.Token given = cc in
+      nothing.no_token given.token (h ∙ ap step.Given (token_of x given same))
+  no_token given e _ h g = otherwise given e g
 
   without_effect : IsWithoutEffect r o t
   without_effect =
       let same = holds_after A r o t IsSame (act r).step (act r).after (same_after (act r).step refl) s in
       record {
-        no_token = λ token e. no_token token e (act r).step refl (given_by A r o t (act r).step (act r).after s);
+        no_token = λ given e. no_token given e (act r).step refl (given_by A r o t (act r).step (act r).after s);
         same_definitions = same.0;
         same_lines = same.1;
       }
 
-live_step : (A : Answers) (r : SourceReader) (o : Option Outcome) (t : SourceReader) → Steps A r o t → LiveSteps A r o t
+live_step : (A : Answers) (r : SourceReader) (o : Option Taken) (t : SourceReader) → Steps A r o t → LiveSteps A r o t
 live_step A r o t s = record { steps = s; in_dead_text = λ dead. without_effect A r (dead_text_gives_nothing r dead) o t s }
 
 live_reads : (A : Answers) (r : SourceReader) (x : Taken) (t : SourceReader) → Reads A r x t → LiveReads A r x t
-live_reads A r x t (reads.here o x1 r1 t1 s e) = live.here o x1 r1 t1 (live_step A r1 (Some o) t1 s) e
+live_reads A r x t (reads.here x1 r1 t1 s) = live.here x1 r1 t1 (live_step A r1 (Some x1) t1 s)
 live_reads A r x t (reads.later x1 r1 s1 t1 s more) = live.later x1 r1 s1 t1 (live_step A r1 None s1 s) (live_reads A s1 x1 t1 more)
 
 gives_live : (A : Answers) (e : Expander SourceReader) (o : Outcome) (f : Expander SourceReader) → Gives A e o f → GivesLive A e o f

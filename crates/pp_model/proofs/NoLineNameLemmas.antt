@@ -2,14 +2,15 @@
 use Rattle.std.proofs.Common.{◌≡◌, ◌∙◌, ℕ, Bool, true, false, List, [], refl, ap, sym, Option, Some, None}
 use Rattle.std.specs.Prelude.{IfOk, Result, Ok, Err}
 use Rattle.std.proofs.lemmas.List.Elements.{All-nil, All-cons}
-use Rattle.pp_lexer.specs.declared.token.Location.{Location}
+use Rattle.pp_model.specs.declared.place.Place.{Place}
+use Rattle.pp_model.specs.Places.{PlacedFault, place_of}
 use Rattle.pp_model.specs.declared.read.Read.{Read}
 use Rattle.pp_model.specs.Names.{Name, is_identifier, line_name}
 use Rattle.pp_model.specs.Definitions.{Definition}
 use Rattle.pp_model.specs.Painting.{taken_among}
 use Rattle.pp_model.specs.Reading.{Reading, Expander, masked_names, argument_reading, reading_of}
 use Rattle.pp_model.specs.Taking.{line_number, shown_token, shown_outcome, Takes, Fetches, held, listed, read}
-use Rattle.pp_model.specs.Calls.{Gathered, before, Fault, Gathers, closed, inside, overfull, ended, failed, Answers, Called, no_call, refused, fits, Calls, alone, broken, whole}
+use Rattle.pp_model.specs.Calls.{Gathered, before, Gathers, closed, inside, overfull, ended, failed, Answers, Called, no_call, refused, fits, Calls, alone, broken, whole}
 use Rattle.pp_model.specs.Emitting.{with_macro, Emits, itself, object, name_alone, call_refused, call, Collects, done, failed as failing, item, answers_at}
 use Rattle.pp_model.specs.inner.Emitting.{read_before}
 use Rattle.pp_model.specs.NoLineName.{is_line_name, HoldsNoLineName, AreNoLineNames, ShowsNoLineName, AloneShowsNoLineName}
@@ -20,15 +21,15 @@ use Rattle.pp_model.proofs.SearchLeadsLemmas.{called_is_a_call}
 use Rattle.pp_lexer.specs.declared.token.Integer.{Integer}
 
 -- a number, or the fault of one that is out of range, is no name
-number_is_no_line : (location : Location) (shown : Option Integer) → is_line_name (line_number location shown) ≡ false
-number_is_no_line location (Some n) = refl
-number_is_no_line location None = refl
+number_is_no_line : (place : Place) (shown : Option Integer) → is_line_name (line_number place shown) ≡ false
+number_is_no_line place (Some n) = refl
+number_is_no_line place None = refl
 
 taken_is_no_line : (shown_line : ℕ → Option Integer) (after : List Entry) (token : Read) → is_line_name (shown_token shown_line after token) ≡ false
 taken_is_no_line shown_line after token = go (is_identifier line_name token.token.value) refl
   where
     go : (b : Bool) → is_identifier line_name token.token.value ≡ b → is_line_name (shown_token shown_line after token) ≡ false
-    go true e = rw e (number_is_no_line token.token.location _)
+    go true e = rw e (number_is_no_line (place_of token) _)
     go false e = rw e e
 
 read_is_no_line : (shown_line : ℕ → Option Integer) (x : Taken) → is_line_name (shown_outcome shown_line x) ≡ false
@@ -41,12 +42,12 @@ painted_is_no_line names (taken.Token token) = refl
 painted_is_no_line names _ = refl
 
 -- one more token that is none
-one_more : (token : Read) (rest : Result (List Read) Fault) → is_identifier line_name token.token.value ≡ false → IfOk rest AreNoLineNames
+one_more : (token : Read) (rest : Result (List Read) PlacedFault) → is_identifier line_name token.token.value ≡ false → IfOk rest AreNoLineNames
     → IfOk (read_before token rest) AreNoLineNames
 one_more token (Ok tokens) h all = All-cons (λ t. is_identifier line_name t.token.value ≡ false) token tokens h all
 one_more token (Err fault) h all = tt
 
-one_gathered_more : (token : Read) (rest : Result Gathered Fault) → is_identifier line_name token.token.value ≡ false
+one_gathered_more : (token : Read) (rest : Result Gathered PlacedFault) → is_identifier line_name token.token.value ≡ false
     → IfOk rest (λ g. AreNoLineNames g.tokens) → IfOk (before token rest) (λ g. AreNoLineNames g.tokens)
 one_gathered_more token (Ok gathered) h all = All-cons (λ t. is_identifier line_name t.token.value ≡ false) token gathered.tokens h all
 one_gathered_more token (Err fault) h all = tt
@@ -62,13 +63,13 @@ module _ {R : Type 0} (I : Reading R) where
       let there = fetching_shows_none t.first e f t.fetches none in
       (ap is_line_name t.paints ∙ painted_is_no_line (masked_names f) t.first ∙ there.0, there.1)
 
-  pub gathering_shows_none : (n : ℕ) (last : Location) (x : Result Gathered Fault) (e f : Expander R) → Gathers I n last e x f → HoldsNoLineName e
+  pub gathering_shows_none : (n : ℕ) (last : Place) (x : Result Gathered PlacedFault) (e f : Expander R) → Gathers I n last e x f → HoldsNoLineName e
       → IfOk x (λ g. AreNoLineNames g.tokens) × HoldsNoLineName f
   gathering_shows_none n last x e f (closed n1 l1 token e1 f1 x1 t h p) none =
       (rw p (All-nil (λ t. is_identifier line_name t.token.value ≡ false)), (taking_shows_none _ e f t none).1)
   gathering_shows_none n last x e f (inside n1 k l1 token e1 g f1 rest x1 t h u p) none =
       let taken = taking_shows_none (taken.Token token) e g t none in
-      let more = gathering_shows_none k token.token.location rest g f u taken.1 in
+      let more = gathering_shows_none k (place_of token) rest g f u taken.1 in
       (rw p (one_gathered_more token rest taken.0 more.0), more.1)
   gathering_shows_none n last x e f (overfull n1 l1 token e1 f1 x1 t h p) none = (rw p tt, (taking_shows_none _ e f t none).1)
   gathering_shows_none n last x e f (ended n1 l1 e1 f1 x1 t p) none = (rw p tt, (taking_shows_none _ e f t none).1)
@@ -102,7 +103,7 @@ module _ {R : Type 0} (I : Reading R) where
       let called = call_shows_none A m.definition (fits arguments line) g g1 c taken.1 in
       item_shows_none A o (with_macro m line arguments g1) f i called.1
 
-  pub list_shows_none : (A : Answers) (x : Result (List Read) Fault) (e : Expander R) → Collects I A e x → HoldsNoLineName e → IfOk x AreNoLineNames
+  pub list_shows_none : (A : Answers) (x : Result (List Read) PlacedFault) (e : Expander R) → Collects I A e x → HoldsNoLineName e → IfOk x AreNoLineNames
   list_shows_none A x e (done e1 f x1 i p) none = rw p (All-nil (λ t. is_identifier line_name t.token.value ≡ false))
   list_shows_none A x e (failing fault e1 f x1 i p) none = rw p tt
   list_shows_none A x e (item token rest x1 e1 f i c p) none =

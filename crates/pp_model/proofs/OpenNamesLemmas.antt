@@ -76,21 +76,21 @@ open_followed_by : (tokens : List Read) (entries : List Entry) → open_names (f
 open_followed_by [] entries = refl
 open_followed_by (token ∷ tokens) entries = open_followed_by tokens entries
 
-open_replacement : (arguments : List (List Read)) (token : Token) (position : Option ℕ) (entries : List Entry)
-    → open_names (replacement arguments token position entries) ≡ open_names entries
-open_replacement arguments token None entries = refl
-open_replacement arguments token (Some k) entries = open_followed_by (unwrap_or (slice_get arguments k) []) entries
+open_replacement : (arguments : List (List Read)) (text : ℕ) (token : Token) (position : Option ℕ) (entries : List Entry)
+    → open_names (replacement arguments text token position entries) ≡ open_names entries
+open_replacement arguments text token None entries = refl
+open_replacement arguments text token (Some k) entries = open_followed_by (unwrap_or (slice_get arguments k) []) entries
 
-open_replaced : (parameters : List Name) (arguments : List (List Read)) (body : List Token) (entries : List Entry)
-    → open_names (body_before parameters arguments body entries) ≡ open_names entries
-open_replaced parameters arguments [] entries = refl
-open_replaced parameters arguments (token ∷ body) entries =
-    open_replacement arguments token (parameter_of parameters token.value) (body_before parameters arguments body entries)
-    ∙ open_replaced parameters arguments body entries
+open_replaced : (parameters : List Name) (arguments : List (List Read)) (text : ℕ) (body : List Token) (entries : List Entry)
+    → open_names (body_before parameters arguments text body entries) ≡ open_names entries
+open_replaced parameters arguments text [] entries = refl
+open_replaced parameters arguments text (token ∷ body) entries =
+    open_replacement arguments text token (parameter_of parameters token.value) (body_before parameters arguments text body entries)
+    ∙ open_replaced parameters arguments text body entries
 
 pub open_spliced : (name : Name) (definition : Definition) (call : CallPlace) (arguments : List (List Read)) (entries : List Entry)
     → open_names (macro_before name definition call arguments entries) ≡ name ∷ open_names entries
-open_spliced name definition call arguments entries = open_replaced definition.parameters arguments definition.body
+open_spliced name definition call arguments entries = open_replaced definition.parameters arguments definition.text definition.body
     (End (record { name = name; call = call }) ∷ entries)
 
 -- what is known of a token that was taken and opens a macro
@@ -105,11 +105,11 @@ pub record IsOpening {R : Type 0} (I : Reading R) (e : Expander R) (o : Taken) (
 
 module _ {R : Type 0} (I : Reading R) (e : Expander R) where
   opening_by_name : (read : Read) (name : Name) (m : Opening) → read.token.value ≡ Ident name → I.is_reserved name ≡ false
-      → read.painted ≡ false → (found : Option Definition) → I.visible e.reader name ≡ found → opening_by read.token name found ≡ Some m
+      → read.painted ≡ false → (found : Option Definition) → I.visible e.reader name ≡ found → opening_by read name found ≡ Some m
       → IsOpening I e (taken.Token read) m
   opening_by_name read name m named free bare None defined h = cc
   opening_by_name read name m named free bare (Some definition) defined h =
-      let same : record { token = read.token; name = name; definition = definition } ≡ m = cc in
+      let same : record { text = read.text; token = read.token; name = name; definition = definition } ≡ m = cc in
       rw (← same) (record { token = read; taken = refl; same = refl; named = named; free = free; unpainted = bare; defined = defined })
 
   opening_of_value : (read : Read) (m : Opening) (v : TokenValue) → read.token.value ≡ v → opening_of I e read v ≡ Some m → IsOpening I e (taken.Token read) m

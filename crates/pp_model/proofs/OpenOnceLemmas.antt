@@ -42,7 +42,7 @@ opened_once : {R : Type 0} (m : Opening) (line : ℕ) (arguments : List (List Re
     → IsOpenOnce (with_macro m line arguments f)
 opened_once m line arguments f apart once =
     let both : AreApart (m.name ∷ (open_names f.list ++ f.hidden)) = (apart, once) in
-    subst (λ (names : List Name). AreApart (names ++ f.hidden)) (sym (open_spliced m.name m.definition (called_at m.token line) arguments f.list)) both
+    subst (λ (names : List Name). AreApart (names ++ f.hidden)) (sym (open_spliced m.name m.definition (called_at m.text m.token line) arguments f.list)) both
 
 module _ {R : Type 0} (I : Reading R) where
   fetching_around : (o : Taken) (e f : Expander R) → Fetches I e o f → f.hidden ≡ e.hidden

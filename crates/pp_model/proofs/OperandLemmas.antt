@@ -2,10 +2,12 @@
 use Rattle.std.proofs.Common.{◌≡◌, ◌∙◌, Bool, sym, subst, Option, Some, None}
 use Rattle.std.specs.Prelude.{MatchOption, Result, Ok, Err}
 use Rattle.pp_lexer.specs.declared.token.Location.{Location}
+use Rattle.pp_model.specs.declared.place.Place.{Place}
+use Rattle.pp_model.specs.Places.{PlacedFault}
 use Rattle.pp_model.specs.Names.{Name}
 use Rattle.pp_model.specs.Reading.{Expander, Listed, line_reading}
 use Rattle.pp_model.specs.Taking.{Takes}
-use Rattle.pp_model.specs.Calls.{Fault, Answers, paren_at}
+use Rattle.pp_model.specs.Calls.{Answers, paren_at}
 use Rattle.pp_model.specs.Emitting.{Emits}
 use Rattle.pp_model.specs.LineWords.{unwanted_part, name_in, is_defined, closed_by, InParentheses, Operand}
 use Rattle.pp_model.specs.ExpansionLaws.{OneAnswer, OneOperand}
@@ -23,36 +25,36 @@ module _ (A : Answers) (single : OneAnswer A) (kind : LineKind) (directive : Loc
       subst (λ z. Of z f) (sym same.0) (subst (Of y) (sym same.1) of)
 
   -- after the `(`
-  abbrev Inside : Option Name → Taken → Expander Listed → Result Bool Fault → Expander Listed → Type 0
+  abbrev Inside : Option Name → Taken → Expander Listed → Result Bool PlacedFault → Expander Listed → Type 0
   Inside name o f r g =
       MatchOption name ((r ≡ Err (unwanted_part directive o)) × (g ≡ f))
       (λ n. (x : Taken) × Emits line_reading A f x g × (r ≡ closed_by kind directive (is_defined g n) x))
 
-  one_inside : (m : Option Name) (o : Taken) (x y : Result Bool Fault) (e f g : Expander Listed) → Inside m o e x f → Inside m o e y g → (x ≡ y) × (f ≡ g)
+  one_inside : (m : Option Name) (o : Taken) (x y : Result Bool PlacedFault) (e f g : Expander Listed) → Inside m o e x f → Inside m o e y g → (x ≡ y) × (f ≡ g)
   one_inside None o x y e f g a b = one_pair a b
   one_inside (Some n) o x y e f g a b =
       let item = one_item line_reading line_reads_one A single a.0 b.0 e f g a.1 b.1 in
       (a.2 ∙ rw (item.0, item.1) (sym b.2), item.1)
 
-  one_in_parentheses : (x y : Result Bool Fault) (e f g : Expander Listed) → InParentheses kind directive A e x f → InParentheses kind directive A e y g
+  one_in_parentheses : (x y : Result Bool PlacedFault) (e f g : Expander Listed) → InParentheses kind directive A e x f → InParentheses kind directive A e y g
       → (x ≡ y) × (f ≡ g)
   one_in_parentheses x y e f g a b =
       let there = of_first (λ o h. Inside (name_in o) o h y g) e a.1 b.1 a.0 b.0 a.2 b.2 b.3 in
       one_inside (name_in a.0) a.0 x y a.1 f g a.3 there
 
   -- the whole operand
-  abbrev Whole : Option Location → Option Name → Taken → Expander Listed → Result Bool Fault → Expander Listed → Type 0
+  abbrev Whole : Option Place → Option Name → Taken → Expander Listed → Result Bool PlacedFault → Expander Listed → Type 0
   Whole paren name o f r g =
       MatchOption paren (MatchOption name ((r ≡ Err (unwanted_part directive o)) × (g ≡ f)) (λ n. (r ≡ Ok (is_defined f n)) × (g ≡ f)))
       (λ paren. InParentheses kind directive A f r g)
 
-  one_whole : (p : Option Location) (m : Option Name) (o : Taken) (x y : Result Bool Fault) (e f g : Expander Listed) → Whole p m o e x f
+  one_whole : (p : Option Place) (m : Option Name) (o : Taken) (x y : Result Bool PlacedFault) (e f g : Expander Listed) → Whole p m o e x f
       → Whole p m o e y g → (x ≡ y) × (f ≡ g)
   one_whole None None o x y e f g a b = one_pair a b
   one_whole None (Some n) o x y e f g a b = one_pair a b
   one_whole (Some paren) m o x y e f g a b = one_in_parentheses x y e f g a b
 
-  one_of_kind : (x y : Result Bool Fault) (e f g : Expander Listed) → Operand kind directive A e x f → Operand kind directive A e y g → (x ≡ y) × (f ≡ g)
+  one_of_kind : (x y : Result Bool PlacedFault) (e f g : Expander Listed) → Operand kind directive A e x f → Operand kind directive A e y g → (x ≡ y) × (f ≡ g)
   one_of_kind x y e f g a b =
       let there = of_first (λ o h. Whole (paren_at o) (name_in o) o h y g) e a.1 b.1 a.0 b.0 a.2 b.2 b.3 in
       one_whole (paren_at a.0) (name_in a.0) a.0 x y a.1 f g a.3 there

@@ -6,7 +6,7 @@ use Rattle.pp_lexer.specs.Items.{Lexeme}
 use Rattle.pp_lexer.specs.Lexed.{Seen}
 use Rattle.pp_lexer.specs.declared.token.Token.{Token}
 use Rattle.pp_expression.specs.Answers.{◌>>=◌}
-use Rattle.pp_model.specs.Calls.{Fault}
+use Rattle.pp_model.specs.Places.{Fault}
 use Rattle.pp_model.specs.Conversions.{conversion}
 use Rattle.pp_model.specs.Emitting.{first_before}
 use Rattle.pp_model.specs.Lines.{ends_line, line_tokens}

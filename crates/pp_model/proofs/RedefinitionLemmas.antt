@@ -1,5 +1,6 @@
 -- A `#define` of a name that is defined leaves the definitions as they are, and is a fault if it says something else.
 use Rattle.std.proofs.Common.{◌≡◌, ◌∙◌, ap, Option, Some, inl, inr}
+use Rattle.pp_model.specs.declared.read.Taken.{Taken}
 use Rattle.pp_model.specs.Definitions.{Definition, Definitions}
 use Rattle.pp_model.specs.Calls.{Answers}
 use Rattle.pp_model.specs.SourceReader.{SourceReader}
@@ -7,7 +8,6 @@ use Rattle.pp_model.specs.Acts.{act}
 use Rattle.pp_model.specs.Reads.{Defines}
 use Rattle.pp_model.specs.RunLaws.{Redefined, RedefinitionIsChecked}
 use Rattle.pp_model.specs.declared.definition.Named.{Named}
-use Rattle.pp_model.specs.declared.outcome.Outcome.{Outcome}
 use Rattle.pp_model.specs.declared.step.Step.TheVariants as step
 use Rattle.pp_model.proofs.existence.MoveLemmas.{moves}
 use Rattle.pp_model.proofs.ReadsLemmas.{defines_that}
@@ -19,7 +19,7 @@ define_leaves r = (moves r).left_to_step
 abbrev definitions : SourceReader → Definitions
 definitions r = r.definitions
 
-checked : (named : Named) (old : Definition) (after r t : SourceReader) (o : Option Outcome) → after.definitions ≡ r.definitions
+checked : (named : Named) (old : Definition) (after r t : SourceReader) (o : Option Taken) → after.definitions ≡ r.definitions
     → Defines named (Some old) after o t → Redefined named old r o t
 checked named old after r t o left (p, inl same) = record {
   repeated = λ h. same.1;

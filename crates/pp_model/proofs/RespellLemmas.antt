@@ -1,6 +1,6 @@
 -- The tokens that a run gives can be spelled, and the text that spells them gives them again.
 use Rattle.std.proofs.Common.{◌≡◌, ◌⊎◌, inl, inr, ℕ, pos, ◌<◌, ◌^◌, ◌-◌, Bool, true, false, List, [], ◌∷◌, ◌++◌, length, map, refl, sym, subst, Some, arith}
-use Rattle.std.specs.Prelude.{IfOk, MatchBool, Result, Ok, Err, All}
+use Rattle.std.specs.Prelude.{IfOk, MatchBool, Result, Ok, Err, All, ◌+◌}
 use Rattle.std.specs.List.{AllByRecursion as Each, cons_option}
 use Rattle.std.specs.Str.{encode_utf8_all, chars}
 use Rattle.std.proofs.lemmas.List.Elements.{All-head, All-tail, All-nil, All-cons}
@@ -22,9 +22,9 @@ use Rattle.pp_lexer.proofs.spelling.RespellingLemmas.{read_back}
 use Rattle.pp_lexer.proofs.spelling.SpelledValuesLemmas.{values_spelled}
 use Rattle.pp_lexer.proofs.items.TokenLinesLemmas.{tokens_have_lines}
 use Rattle.pp_lexer.specs.declared.rules.Rules.{Rules}
+use Rattle.pp_model.specs.Places.{Fault}
 use Rattle.pp_model.specs.Names.{is_identifier, line_name}
 use Rattle.pp_model.specs.Conversions.{is_hash}
-use Rattle.pp_model.specs.Calls.{Fault}
 use Rattle.pp_model.specs.Definitions.{object_like}
 use Rattle.pp_model.specs.Emitting.{answers_at}
 use Rattle.pp_model.proofs.NumberingLemmas.{IsLineLiteral, short as short_literal}
@@ -147,7 +147,7 @@ module _ (level : ℕ) (rules : Rules) where
         list = h.list;
         reader = (
           h.reader.0,
-          changed_holds (IsGood rules) IsLine (good_closed rules) e.reader.definitions (chars name) (Some (object_like tokens)) h.reader.1 body,
+          changed_holds (IsGood rules) IsLine (good_closed rules) e.reader.definitions (chars name) (Some (object_like (e.reader.contents + 1) tokens)) h.reader.1 body,
         );
       } in
       rw p (given_are_good (with_added (chars name) tokens e) more rest runs (All-tail HasText (add_define name content) more texts) after)

@@ -1,8 +1,9 @@
 -- Calls that follow one another are a run.
 use Rattle.std.proofs.Common.{List, [], ◌∷◌, ◌++◌, refl, append-nil, append_assoc}
 use Rattle.pp_lexer.specs.declared.rules.Rules.{Rules}
+use Rattle.pp_model.specs.Places.{Fault, unplaced}
 use Rattle.pp_model.specs.Reading.{Expander}
-use Rattle.pp_model.specs.Calls.{Fault, Answers}
+use Rattle.pp_model.specs.Calls.{Answers}
 use Rattle.pp_model.specs.SourceReader.{SourceReader}
 use Rattle.pp_model.specs.Run.{Comings, by_rules, start_by, Call, next, Runs, done, added, refused, given, failed}
 use Rattle.pp_model.specs.RunChains.{AnswersIn, adds, refuses, gives, Chain, none, one_more, ChainsAreRuns}
@@ -48,6 +49,6 @@ pub chains_are_runs : (A : Answers) → ChainsAreRuns A
 chains_are_runs A = record {
   whole = λ rules source calls replies f chain. chain_runs (by_rules A) rules (start_by rules source) f calls replies chain;
   to_error = λ rules source calls replies f g fault chain item.
-      chain_runs_to_error (by_rules A) rules (start_by rules source) f g calls [] replies fault chain
+      chain_runs_to_error (by_rules A) rules (start_by rules source) f g calls [] replies (unplaced fault) chain
       (record { taken = taken.Fault fault; emits = item; is = refl });
 }

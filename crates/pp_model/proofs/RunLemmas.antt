@@ -4,8 +4,9 @@ use Rattle.std.specs.Prelude.{All}
 use Rattle.std.proofs.lemmas.List.Elements.{All-nil, All-cons}
 use Rattle.pp_lexer.specs.declared.token.Token.{Token}
 use Rattle.pp_lexer.specs.declared.rules.Rules.{Rules}
+use Rattle.pp_model.specs.Places.{Fault}
 use Rattle.pp_model.specs.Names.{Name}
-use Rattle.pp_model.specs.Calls.{Fault, Answers}
+use Rattle.pp_model.specs.Calls.{Answers}
 use Rattle.pp_model.specs.Emitting.{Emits, answers_at, expansion_limit}
 use Rattle.pp_model.specs.Reading.{Expander}
 use Rattle.pp_model.specs.Reads.{source_reading}

@@ -1,6 +1,7 @@
 -- Once reading a source gave the end, it gives nothing else.
 use Rattle.std.proofs.Common.{◌≡◌, ◌∙◌, take, drop, length, refl, sym, ap, subst, Option, Some, None, ◌⊎◌, inl, inr}
-use Rattle.pp_model.specs.Calls.{Fault, Answers}
+use Rattle.pp_model.specs.Places.{PlacedFault}
+use Rattle.pp_model.specs.Calls.{Answers}
 use Rattle.pp_model.specs.Sights.{sight_of}
 use Rattle.pp_model.specs.Blocks.{Block, blocks_at, innermost, is_live}
 use Rattle.pp_model.specs.SourceReader.{SourceReader}
@@ -68,36 +69,36 @@ given_end outcome.End e = refl
 given_end _ e = cc
 
 module _ (A : Answers) where
-  no_end_given : (Some outcome.End ≡ None) ⊎ ((fault : Fault) × (Some outcome.End ≡ Some (outcome.Fault fault))) → ⊥
+  no_end_given : (Some taken.End ≡ None) ⊎ ((fault : PlacedFault) × (Some taken.End ≡ Some (taken.Fault fault))) → ⊥
   no_end_given (inl e) = cc
   no_end_given (inr e) = let bad = e.1 in cc
 
   -- a step that gives the end stands there
-  step_ends : (r t : SourceReader) → Steps A r (Some outcome.End) t → IsAtEnd r × (t ≡ r)
-  step_ends r t s = go (act r).step refl (given_by A r (Some outcome.End) t (act r).step (act r).after s)
+  step_ends : (r t : SourceReader) → Steps A r (Some taken.End) t → IsAtEnd r × (t ≡ r)
+  step_ends r t s = go (act r).step refl (given_by A r (Some taken.End) t (act r).step (act r).after s)
     where
-      go : (did : Step) → (act r).step ≡ did → GivenBy did (Some outcome.End) → IsAtEnd r × (t ≡ r)
+      go : (did : Step) → (act r).step ≡ did → GivenBy did (Some taken.End) → IsAtEnd r × (t ≡ r)
       go (step.Given x) h g =
-          let end = only_at_end r (h ∙ ap step.Given (let same : x ≡ outcome.End = cc in same)) in
+          let end = only_at_end r (h ∙ ap step.Given (given_end x (let same : taken_of x ≡ taken.End = cc in same))) in
           let acts = end_acts r end in
-          (end, (does_that A (step.Given outcome.End) r (Some outcome.End) t (ap (λ a. a.step) acts) s).1 ∙ ap (λ a. a.after) acts)
+          (end, (does_that A (step.Given outcome.End) r (Some taken.End) t (ap (λ a. a.step) acts) s).1 ∙ ap (λ a. a.after) acts)
       go _ h g = absurd (no_end_given g)
 
   -- after the end that is read the reader stands there,
   pub reading_ends : (x : Taken) (r t : SourceReader) → Reads A r x t → x ≡ taken.End → IsAtEnd t
-  reading_ends x r t (here o1 x1 r1 t1 s p) same =
-      let s1 : Steps A r (Some outcome.End) t = rw (given_end o1 (sym p ∙ same)) at s in
+  reading_ends x r t (here x1 r1 t1 s) same =
+      let s1 : Steps A r (Some taken.End) t = rw same at s in
       let there = step_ends r t s1 in
       rw there.1 there.0
   reading_ends x r t (later x1 r1 s t1 h more) same = reading_ends x s t more same
 
   -- and there reading gives it again
   pub reading_at_end : (x : Taken) (r t : SourceReader) → IsAtEnd r → Reads A r x t → (x ≡ taken.End) × (t ≡ r)
-  reading_at_end x r t end (here o1 x1 r1 t1 s p) =
+  reading_at_end x r t end (here x1 r1 t1 s) =
       let acts = end_acts r end in
-      let same = does_that A (step.Given outcome.End) r (Some o1) t (ap (λ a. a.step) acts) s in
-      let is : o1 ≡ outcome.End = (let z = same.0 in cc) in
-      (p ∙ ap taken_of is, same.1 ∙ ap (λ a. a.after) acts)
+      let same = does_that A (step.Given outcome.End) r (Some x) t (ap (λ a. a.step) acts) s in
+      let is : x ≡ taken.End = (let z = same.0 in cc) in
+      (is, same.1 ∙ ap (λ a. a.after) acts)
   reading_at_end x r t end (later o1 r1 s t1 h more) =
       let same = (does_that A (step.Given outcome.End) r None s (ap (λ a. a.step) (end_acts r end)) h).0 in
       cc

@@ -10,10 +10,11 @@ use Rattle.pp_lexer.specs.declared.lexer.item.TokenValue.{TokenValue as LexerTok
 use Rattle.pp_lexer.specs.declared.lexer.item.TokenValue.TheVariants.{Hash, NewLine, Ident as LexerIdent}
 use Rattle.pp_lexer.specs.declared.token.Location.{Location}
 use Rattle.pp_lexer.specs.declared.token.Token.{Token}
+use Rattle.pp_model.specs.Places.{Fault}
 use Rattle.pp_model.specs.Names.{Name, is_same_name}
 use Rattle.pp_model.specs.Conversions.{identifier_of}
 use Rattle.pp_model.specs.Definitions.{Definition, Definitions, with_change}
-use Rattle.pp_model.specs.Calls.{Fault, Answers}
+use Rattle.pp_model.specs.Calls.{Answers}
 use Rattle.pp_model.specs.Lines.{first_token}
 use Rattle.pp_model.specs.DefineLines.{defined_on}
 use Rattle.pp_model.proofs.NumberingLemmas.{text_number_is_short}
@@ -110,7 +111,7 @@ module _ (Q : Token → Type 0) (L : ℕ → Type 0) (closed : AreClosed Q L) wh
   abbrev pub DirectiveItemsHold : Type 0
   DirectiveItemsHold = (token : Token) → is_ordinary token.value ≡ false → L token.location.line → Q token
 
-  unless_given : (o : Option Outcome) → GivenBy step.Passed o → IfSome o (HoldsOfOutcome Q)
+  unless_given : (o : Option Taken) → GivenBy step.Passed o → IfSome o (HoldsOfTaken Q)
   unless_given o (inl n) = rw n tt
   unless_given o (inr n) = rw n.1 tt
 
@@ -144,8 +145,12 @@ module _ (Q : Token → Type 0) (L : ℕ → Type 0) (closed : AreClosed Q L) wh
       token = λ its shown stands count least. (shown_holds shown stands, h);
     })
 
-    outcome_given : (did : Step) (o : Option Outcome) → HoldsOfStep did → GivenBy did o → IfSome o (HoldsOfOutcome Q)
-    outcome_given (step.Given x) o k g = subst (λ (y : Option Outcome). IfSome y (HoldsOfOutcome Q)) (sym g) k
+    unpainted_holds : (o : Outcome) → HoldsOfOutcome Q o → HoldsOfTaken Q (taken_of o)
+    unpainted_holds (outcome.Token token) q = q
+    unpainted_holds _ q = tt
+
+    outcome_given : (did : Step) (o : Option Taken) → HoldsOfStep did → GivenBy did o → IfSome o (HoldsOfTaken Q)
+    outcome_given (step.Given x) o k g = subst (λ (y : Option Taken). IfSome y (HoldsOfTaken Q)) (sym g) (unpainted_holds x k)
     outcome_given _ o k g = unless_given o g
 
     reader_after : (did : Step) (after : SourceReader) → HoldsOfStep did → HoldsOfReader after → HoldsAfter HoldsOfReader r did after
@@ -155,21 +160,15 @@ module _ (Q : Token → Type 0) (L : ℕ → Type 0) (closed : AreClosed Q L) wh
     reader_after _ after body k = k
 
   module _ (items_hold : DirectiveItemsHold) (A : Answers) where
-    step_holds : (o : Option Outcome) (r t : SourceReader) → Steps A r o t → HoldsOfReader r → IfSome o (HoldsOfOutcome Q) × HoldsOfReader t
+    step_holds : (o : Option Taken) (r t : SourceReader) → Steps A r o t → HoldsOfReader r → IfSome o (HoldsOfTaken Q) × HoldsOfReader t
     step_holds o r t s h =
         let done = acted items_hold r h in (
           outcome_given items_hold r h (act r).step o done.0 (given_by A r o t (act r).step (act r).after s),
           holds_after A r o t HoldsOfReader (act r).step (act r).after (reader_after items_hold r h (act r).step (act r).after done.0 done.1) s,
         )
 
-    unpainted_holds : (o : Outcome) → HoldsOfOutcome Q o → HoldsOfTaken Q (taken_of o)
-    unpainted_holds (outcome.Token token) q = q
-    unpainted_holds _ q = tt
-
     reading_holds : (r t : SourceReader) (x : Taken) → Reads A r x t → HoldsOfReader r → HoldsOfTaken Q x × HoldsOfReader t
-    reading_holds r t x (here o x1 r1 t1 s p) h =
-        let there = step_holds (Some o) r t s h in
-        (subst (HoldsOfTaken Q) (sym p) (unpainted_holds o there.0), there.1)
+    reading_holds r t x (here x1 r1 t1 s) h = step_holds (Some x) r t s h
     reading_holds r t x (later x1 r1 s t1 first more) h = reading_holds s t x more (step_holds None r s first h).1
 
     -- so reading a source keeps it

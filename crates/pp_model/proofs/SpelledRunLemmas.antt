@@ -16,6 +16,7 @@ use Rattle.pp_lexer.specs.declared.token.Token.{Token}
 use Rattle.pp_lexer.specs.declared.token.TokenValue.{TokenValue}
 use Rattle.pp_lexer.specs.declared.token.TokenValue.TheVariants.{Ident, Version, Extension, Pragma}
 use Rattle.pp_lexer.specs.declared.rules.Rules.{Rules}
+use Rattle.pp_model.specs.Places.{in_source}
 use Rattle.pp_model.specs.Names.{is_identifier, line_name}
 use Rattle.pp_model.specs.Conversions.{is_hash}
 use Rattle.pp_model.specs.inner.Definitions.{nothing_defined}
@@ -80,7 +81,7 @@ no_blocks items position all = ap open_blocks (no_block_lines 0 (take position i
 
 -- the reader of such a text, and the expander over it
 abbrev reader_at : Rules → List Seen → ℕ → SourceReader
-reader_at rules items position = record { rules = rules; items = items; position = position; definitions = nothing_defined; line_offset = pos 0; truths = []; unfinished = 0 }
+reader_at rules items position = record { rules = rules; items = items; position = position; definitions = nothing_defined; contents = 0; line_offset = pos 0; truths = []; unfinished = 0 }
 
 abbrev state_at : Rules → List Seen → ℕ → Expander SourceReader
 state_at rules items position = record { held = None; list = []; reader = reader_at rules items position; hidden = [] }
@@ -133,7 +134,7 @@ module _ (A : Answers) (rules : Rules) (items : List Seen) (all : Each IsNoHash 
       → taken.Token (unpainted (record { value = value; location = location }))
       ≡ shown_token shown [] (unpainted (record { value = value; location = location }))
   taken_plain shown value location e =
-      ap (λ b. if b then line_number location (shown (unwrap_or (outermost_line []) location.line)) else taken.Token
+      ap (λ b. if b then line_number (in_source location) (shown (unwrap_or (outermost_line []) location.line)) else taken.Token
       (unpainted (record { value = value; location = location }))) (sym e)
 
   -- a token gives itself
@@ -145,12 +146,12 @@ module _ (A : Answers) (rules : Rules) (items : List Seen) (all : Each IsNoHash 
       let token : Token = record { value = value; location = location } in
       let a = act_there position (sight.Token token) e in
       let r = reader_at rules items position in
-      let s : Steps A r (Some (outcome.Token token)) (reader_at rules items (position + 1)) =
-      act_does A (step.Given (outcome.Token token)) (reader_at rules items (position + 1)) r (Some (outcome.Token token)) (reader_at rules items (position + 1)) a
+      let s : Steps A r (Some (taken.Token (unpainted token))) (reader_at rules items (position + 1)) =
+      act_does A (step.Given (outcome.Token token)) (reader_at rules items (position + 1)) r (Some (taken.Token (unpainted token))) (reader_at rules items (position + 1)) a
       (refl, refl) in
       itself (taken.Token (unpainted token)) (state_at rules items position) (state_at rules items (position + 1))
       (taken_there position (taken.Token (unpainted token)) (taken.Token (unpainted token)) (position + 1)
-      (here (outcome.Token token) (taken.Token (unpainted token)) r (reader_at rules items (position + 1)) s refl)
+      (here (taken.Token (unpainted token)) r (reader_at rules items (position + 1)) s)
       (taken_plain (text_number rules (reader_at rules items (position + 1)).line_offset) value location plain))
       (opens_nothing (position + 1) value location)
 
@@ -162,7 +163,7 @@ module _ (A : Answers) (rules : Rules) (items : List Seen) (all : Each IsNoHash 
       let r = reader_at rules items position in
       let a : act r ≡ record { step = step.Given outcome.End; after = r } = act_there position sight.End (ap sight_of e)
       ∙ ap (λ block. end_by block r) ended_there in
-      here outcome.End taken.End r r (act_does A (step.Given outcome.End) r r (Some outcome.End) r a (refl, refl)) refl
+      here taken.End r r (act_does A (step.Given outcome.End) r r (Some taken.End) r a (refl, refl))
 
   -- after the last token a newline may stand
   reads_newline : (position : ℕ) → sight_of (drop position items) ≡ sight.NewLine → drop (position + 1) items ≡ []

@@ -3,9 +3,10 @@ use Rattle.std.proofs.Common.{◌≡◌, ◌∷◌, ◌++◌, [], List, refl, ap
 use Rattle.std.specs.Prelude.{if◌then◌else◌, Option, Some, Result, Ok, Err, Bool, true, false}
 use Rattle.std.proofs.lemmas.List.{append-nil}
 use Rattle.pp_lexer.specs.declared.token.Location.{Location}
+use Rattle.pp_model.specs.Places.{PlacedFault}
 use Rattle.pp_model.specs.Reading.{Expander, Listed, line_reading}
 use Rattle.pp_model.specs.Taking.{Takes}
-use Rattle.pp_model.specs.Calls.{Fault, Answers}
+use Rattle.pp_model.specs.Calls.{Answers}
 use Rattle.pp_model.specs.Emitting.{Emits}
 use Rattle.pp_model.specs.Names.{Name}
 use Rattle.pp_model.specs.LineWords.{Words, word_before, InParentheses, name_in, is_defined, unwanted_closing}
@@ -23,7 +24,7 @@ after_words words rest = record rest { words = words ++ rest.words }
 pub after_words-before : (words : List Word) (w : Word) (rest : Words) → after_words words (word_before w rest) ≡ after_words (words ++ w ∷ []) rest
 after_words-before words w rest = rw append_assoc refl
 
-pub after_words-end : (words : List Word) (ending : Option Fault)
+pub after_words-end : (words : List Word) (ending : Option PlacedFault)
     → after_words words (record { words = []; ending = ending }) ≡ record { words = words; ending = ending }
 after_words-end words ending = ap (λ (ws : List Word). let r : Words = record { words = ws; ending = ending } in r) (append-nil words)
 
@@ -36,10 +37,10 @@ module _ (kind : LineKind) (directive : Location) (A : Answers) (n : Name) (foun
     pub closes : (answer : Bool) → is_close_paren found ≡ true → answer ≡ is_defined f n → Closes kind directive A n e (Ok answer) f
     closes answer close is = rw is (closes_by true close)
 
-    pub does_not_close : (fault : Fault) → is_close_paren found ≡ false → fault ≡ unwanted_closing kind directive found → Closes kind directive A n e (Err fault) f
+    pub does_not_close : (fault : PlacedFault) → is_close_paren found ≡ false → fault ≡ unwanted_closing kind directive found → Closes kind directive A n e (Err fault) f
     does_not_close fault still is = rw is (closes_by false still)
 
 -- an operand in parentheses whose name was taken
-pub closes_named : (kind : LineKind) (directive : Location) (A : Answers) (n : Name) (o : Taken) (e f g : Expander Listed) (r : Result Bool Fault)
+pub closes_named : (kind : LineKind) (directive : Location) (A : Answers) (n : Name) (o : Taken) (e f g : Expander Listed) (r : Result Bool PlacedFault)
     → Takes line_reading e o f → name_in o ≡ Some n → Closes kind directive A n f r g → InParentheses kind directive A e r g
 closes_named kind directive A n o e f g r takes is closed = named kind directive A o closed.found n e f g r takes is closed.emits closed.answer

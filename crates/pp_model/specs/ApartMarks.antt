@@ -1,12 +1,13 @@
 -- No macro is open twice: no list holds two end marks of one name.
 use Rattle.std.specs.Prelude.{◌≡◌, ℕ, ⊤, false, List, [], ◌∷◌, ◌++◌, Some, Result}
-use Rattle.pp_lexer.specs.declared.token.Location.{Location}
+use Rattle.pp_model.specs.declared.place.Place.{Place}
+use Rattle.pp_model.specs.Places.{PlacedFault}
 use Rattle.pp_model.specs.Names.{Name, is_in}
 use Rattle.pp_model.specs.Definitions.{Definition, Definitions}
 use Rattle.pp_model.specs.SpliceList.{open_names}
 use Rattle.pp_model.specs.Reading.{Reading, Expander, Opening, opening, reading_of}
 use Rattle.pp_model.specs.Taking.{Takes}
-use Rattle.pp_model.specs.Calls.{Gathered, Fault, Gathers, Answers, Called, Calls}
+use Rattle.pp_model.specs.Calls.{Gathered, Gathers, Answers, Called, Calls}
 use Rattle.pp_model.specs.Emitting.{with_macro, Emits}
 use Rattle.pp_model.specs.declared.read.Read.{Read}
 use Rattle.pp_model.specs.declared.read.Taken.{Taken}
@@ -29,7 +30,7 @@ IsRest old new = (front : List Entry) × (old ≡ front ++ new)
 -- A taking, and the search for a call, only take entries from the list's front.
 pub record OnlyTakesEntries {R : Type 0} (I : Reading R) (A : Answers) : Type 0 where
   pub taking : (o : Taken) (e f : Expander R) → Takes I e o f → IsRest e.list f.list
-  pub gathering : (n : ℕ) (last : Location) (gathered : Result Gathered Fault) (e f : Expander R)
+  pub gathering : (n : ℕ) (last : Place) (gathered : Result Gathered PlacedFault) (e f : Expander R)
       → Gathers I n last e gathered f
       → IsRest e.list f.list
   pub call : (definition : Definition) (called : Called) (e f : Expander R)
@@ -47,7 +48,7 @@ OpensNew {R} I =
 -- Each step of expansion keeps the marks of the list apart.
 pub record KeepsMarksApart {R : Type 0} (I : Reading R) (A : Answers) : Type 0 where
   pub taking : (o : Taken) (e f : Expander R) → Takes I e o f → HasApartMarks e.list → HasApartMarks f.list
-  pub gathering : (n : ℕ) (last : Location) (gathered : Result Gathered Fault) (e f : Expander R)
+  pub gathering : (n : ℕ) (last : Place) (gathered : Result Gathered PlacedFault) (e f : Expander R)
       → Gathers I n last e gathered f
       → HasApartMarks e.list
       → HasApartMarks f.list

@@ -9,6 +9,8 @@ use Rattle.pp_lexer.specs.declared.token.Punct.TheVariants.{LeftParen, RightPare
 use Rattle.pp_lexer.specs.declared.token.TokenValue.{TokenValue}
 use Rattle.pp_lexer.specs.declared.token.TokenValue.TheVariants.{Punct}
 use Rattle.pp_expression.specs.Answers.{◌>>=◌}
+use Rattle.pp_model.specs.declared.place.Place.{Place}
+use Rattle.pp_model.specs.Places.{PlacedFault, place_of}
 use Rattle.pp_model.specs.Names.{Name}
 use Rattle.pp_model.specs.Definitions.{Definition, Definitions}
 use Rattle.pp_model.specs.Reading.{Reading, Expander, masked_names}
@@ -17,9 +19,6 @@ use Rattle.pp_model.specs.declared.numbering.Numbering.{Numbering}
 use Rattle.pp_model.specs.declared.read.Read.{Read}
 use Rattle.pp_model.specs.declared.read.Taken.{Taken}
 use Rattle.pp_model.specs.declared.read.Taken.TheVariants as taken
-
-abbrev pub Fault : Type 0
-Fault = PreprocessorError × Location
 
 abbrev pub is_left_paren : TokenValue → Bool
 is_left_paren (Punct LeftParen) = true
@@ -54,31 +53,31 @@ pub record Gathered : Type 0 where
   pub tokens : List Read
   pub closing : Location
 
-abbrev pub before : Read → Result Gathered Fault → Result Gathered Fault
+abbrev pub before : Read → Result Gathered PlacedFault → Result Gathered PlacedFault
 before read rest = rest >>= λ gathered. Ok (record gathered { tokens = read ∷ gathered.tokens })
 
 -- The tokens that are taken up to the matching `)`, or the fault that is met before it, while `n` inner parentheses are
 -- open. `last` is the place of the token taken last.
 pub data Gathers {R : Type 0} (I : Reading R)
-    : ℕ → Location → Expander R → Result Gathered Fault → Expander R → Type 0 where
-  closed : (n : ℕ) (last : Location) (read : Read) (e f : Expander R) (g : Result Gathered Fault)
+    : ℕ → Place → Expander R → Result Gathered PlacedFault → Expander R → Type 0 where
+  closed : (n : ℕ) (last : Place) (read : Read) (e f : Expander R) (g : Result Gathered PlacedFault)
       → Takes I e (taken.Token read) f → nesting n read.token.value ≡ closes
       → g ≡ Ok (record { tokens = []; closing = read.token.location })
       → Gathers I n last e g f
-  inside : (n k : ℕ) (last : Location) (read : Read) (e f h : Expander R) (rest g : Result Gathered Fault)
+  inside : (n k : ℕ) (last : Place) (read : Read) (e f h : Expander R) (rest g : Result Gathered PlacedFault)
       → Takes I e (taken.Token read) f → nesting n read.token.value ≡ within k
-      → Gathers I k read.token.location f rest h
+      → Gathers I k (place_of read) f rest h
       → g ≡ before read rest
       → Gathers I n last e g h
-  overfull : (n : ℕ) (last : Location) (read : Read) (e f : Expander R) (g : Result Gathered Fault)
+  overfull : (n : ℕ) (last : Place) (read : Read) (e f : Expander R) (g : Result Gathered PlacedFault)
       → Takes I e (taken.Token read) f → nesting n read.token.value ≡ too_many
-      → g ≡ Err (IntegerOverflow, read.token.location)
+      → g ≡ Err (IntegerOverflow, place_of read)
       → Gathers I n last e g f
-  ended : (n : ℕ) (last : Location) (e f : Expander R) (g : Result Gathered Fault)
+  ended : (n : ℕ) (last : Place) (e f : Expander R) (g : Result Gathered PlacedFault)
       → Takes I e taken.End f
       → g ≡ Err (UnexpectedEndOfInput, last)
       → Gathers I n last e g f
-  failed : (n : ℕ) (last : Location) (fault : Fault) (e f : Expander R) (g : Result Gathered Fault)
+  failed : (n : ℕ) (last : Place) (fault : PlacedFault) (e f : Expander R) (g : Result Gathered PlacedFault)
       → Takes I e (taken.Fault fault) f
       → g ≡ Err fault
       → Gathers I n last e g f
@@ -119,13 +118,13 @@ misfit parameters arguments =
 -- a call whose `)` has been taken: the place of its `(`, its arguments, how their lines are numbered, and what is
 -- defined and open then
 pub record Site : Type 0 where
-  pub paren : Location
+  pub paren : Place
   pub arguments : List (List Read)
   pub numbering : Numbering
   pub visible : Definitions
   pub open_around : List Name
 
-abbrev pub site_of : {R : Type 0} → Reading R → Expander R → Location → List Read → Site
+abbrev pub site_of : {R : Type 0} → Reading R → Expander R → Place → List Read → Site
 site_of I expander paren tokens =
     record {
       paren = paren;
@@ -137,21 +136,21 @@ site_of I expander paren tokens =
 
 -- what a call of a definition may give: its arguments, each expanded alone, or a fault
 abbrev pub Answers : Type 1
-Answers = Definition → Site → Result (List (List Read)) Fault → Type 0
+Answers = Definition → Site → Result (List (List Read)) PlacedFault → Type 0
 
 -- what follows the name of a function-like macro: no call, but what was taken in place of its `(`; or the fault of a
 -- call; or a call, with the line of its `)`
 pub data Called : Type 0 where
   no_call : Taken → Called
-  refused : Fault → Called
+  refused : PlacedFault → Called
   fits : List (List Read) → ℕ → Called
 
 -- the place of what was taken, if it is a `(`
-abbrev pub paren_at : Taken → Option Location
-paren_at (taken.Token read) = if is_left_paren read.token.value then Some read.token.location else None
+abbrev pub paren_at : Taken → Option Place
+paren_at (taken.Token read) = if is_left_paren read.token.value then Some (place_of read) else None
 paren_at _ = None
 
-abbrev pub called_by : ℕ → Result (List (List Read)) Fault → Called
+abbrev pub called_by : ℕ → Result (List (List Read)) PlacedFault → Called
 called_by line (Ok arguments) = fits arguments line
 called_by line (Err fault) = refused fault
 
@@ -163,13 +162,13 @@ pub data Calls {R : Type 0} (I : Reading R) (A : Answers) (definition : Definiti
       → c ≡ no_call o
       → Calls I A definition e c f
   -- the search for the end of the arguments meets a fault
-  broken : (o : Taken) (paren : Location) (fault : Fault) (e f g : Expander R) (c : Called)
+  broken : (o : Taken) (paren : Place) (fault : PlacedFault) (e f g : Expander R) (c : Called)
       → Takes I e o f → paren_at o ≡ Some paren
       → Gathers I 0 paren f (Err fault) g
       → c ≡ refused fault
       → Calls I A definition e c g
   -- the call gives its expanded arguments, or a fault
-  whole : (o : Taken) (paren : Location) (gathered : Gathered) (answer : Result (List (List Read)) Fault)
+  whole : (o : Taken) (paren : Place) (gathered : Gathered) (answer : Result (List (List Read)) PlacedFault)
       (e f g : Expander R) (c : Called)
       → Takes I e o f → paren_at o ≡ Some paren
       → Gathers I 0 paren f (Ok gathered) g

@@ -11,8 +11,8 @@ use Rattle.pp_lexer.specs.declared.token.PreprocessorError.TheVariants.{Unexpect
 use Rattle.pp_lexer.specs.declared.token.Punct.TheVariants.{LeftParen, RightParen, Comma}
 use Rattle.pp_lexer.specs.declared.token.Token.{Token}
 use Rattle.pp_lexer.specs.declared.token.TokenValue.TheVariants.{Ident, Integer, Float, Punct}
+use Rattle.pp_model.specs.Places.{Fault}
 use Rattle.pp_model.specs.Names.{Name}
-use Rattle.pp_model.specs.Calls.{Fault}
 
 abbrev pub is_newline : LexerTokenValue → Bool
 is_newline NewLine = true

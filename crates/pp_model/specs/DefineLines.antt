@@ -9,9 +9,9 @@ use Rattle.pp_lexer.specs.declared.token.Location.{Location}
 use Rattle.pp_lexer.specs.declared.token.PreprocessorError.TheVariants.{UnexpectedEndOfInput, DuplicateParameter}
 use Rattle.pp_lexer.specs.declared.token.PreprocessorError.TheVariants.{UnexpectedToken}
 use Rattle.pp_lexer.specs.declared.token.TokenValue.TheVariants.{Ident}
+use Rattle.pp_model.specs.Places.{Fault, source_text}
 use Rattle.pp_model.specs.Names.{Name, is_in, is_same_name}
 use Rattle.pp_model.specs.Definitions.{Definition, object_like}
-use Rattle.pp_model.specs.Calls.{Fault}
 use Rattle.pp_model.specs.Conversions.{opens_parameters, closes_parameters, parts_parameters, refused_token}
 use Rattle.pp_model.specs.Lines.{line_tokens, first_name, name_of, ended_line}
 use Rattle.pp_expression.specs.Answers.{◌>>=◌}
@@ -64,8 +64,8 @@ definition_at word rest =
     if has_parameters rest
     then (parameters word (drop 1 rest) >>= λ list.
     line_tokens list.after >>= λ body.
-    Ok (record { function_like = true; parameters = list.names; body = body }))
-    else (line_tokens rest >>= λ body. Ok (object_like body))
+    Ok (record { function_like = true; parameters = list.names; body = body; text = source_text }))
+    else (line_tokens rest >>= λ body. Ok (object_like source_text body))
 
 -- the names that the language defines itself, and those that begin as its own do
 abbrev pub own_names : List Name

@@ -5,11 +5,13 @@ use Rattle.pp_lexer.specs.Lexed.{Seen}
 use Rattle.pp_lexer.specs.declared.token.Location.{Location}
 use Rattle.pp_lexer.specs.declared.token.Token.{Token}
 use Rattle.pp_lexer.specs.declared.rules.Rules.{Rules}
+use Rattle.pp_model.specs.declared.place.Place.{Place}
+use Rattle.pp_model.specs.Places.{PlacedFault}
 use Rattle.pp_model.specs.Names.{Name, is_in}
 use Rattle.pp_model.specs.Definitions.{Definition, Definitions}
 use Rattle.pp_model.specs.Reading.{Reading, Expander, Listed}
 use Rattle.pp_model.specs.Taking.{Takes}
-use Rattle.pp_model.specs.Calls.{Fault, Gathered, Gathers, Answers, Site, Called, Calls}
+use Rattle.pp_model.specs.Calls.{Gathered, Gathers, Answers, Site, Called, Calls}
 use Rattle.pp_model.specs.Emitting.{Emits, Alones, Collects}
 use Rattle.pp_model.specs.LineWords.{Operand, Words, LineWords}
 use Rattle.pp_model.specs.LineValues.{IsCondition, IsLineNumber}
@@ -45,20 +47,20 @@ ATaking {R} I = (e : Expander R) → IsFinite (I.visible e.reader) → (x : Take
 
 -- The search for the end of a call gathers a list of tokens, or meets a fault.
 abbrev pub AGathering : {R : Type 0} → Reading R → Type 0
-AGathering {R} I = (n : ℕ) (last : Location) (e : Expander R) → IsFinite (I.visible e.reader)
-    → (x : Result Gathered Fault) × (f : Expander R) × Gathers I n last e x f
+AGathering {R} I = (n : ℕ) (last : Place) (e : Expander R) → IsFinite (I.visible e.reader)
+    → (x : Result Gathered PlacedFault) × (f : Expander R) × Gathers I n last e x f
 
 -- A call at a site gives a list of arguments, or a fault.
 abbrev pub AnAnswer : Answers → Type 0
 AnAnswer A = (definition : Definition) (site : Site) → IsFinite site.visible
-    → (x : Result (List (List Read)) Fault) × A definition site x
+    → (x : Result (List (List Read)) PlacedFault) × A definition site x
 
 -- An argument alone gives a list of tokens, or a fault.
 abbrev pub AnArgument : Alones → Type 0
 AnArgument deeper =
     (tokens : List Read) (numbering : Numbering) (visible : Definitions) (hidden : List Name)
     → IsFinite visible
-    → (x : Result (List Read) Fault) × deeper tokens numbering visible hidden x
+    → (x : Result (List Read) PlacedFault) × deeper tokens numbering visible hidden x
 
 -- The search for a call after the name of a function-like macro finds a call, none, or a fault.
 abbrev pub ACall : {R : Type 0} → Reading R → Answers → Type 0
@@ -71,12 +73,12 @@ AnItem {R} I A = (e : Expander R) → IsFinite (I.visible e.reader) → (x : Tak
 
 -- Over a list of tokens an expander has a list of items, or a first fault.
 abbrev pub AList : Reading Listed → Answers → Type 0
-AList I A = (e : Expander Listed) → IsFinite e.reader.visible → (x : Result (List Read) Fault) × Collects I A e x
+AList I A = (e : Expander Listed) → IsFinite e.reader.visible → (x : Result (List Read) PlacedFault) × Collects I A e x
 
 -- The operand of a `defined` has an answer, or a fault.
 abbrev pub AnOperand : Answers → Type 0
 AnOperand A = (kind : LineKind) (directive : Location) (e : Expander Listed) → IsFinite e.reader.visible
-    → (x : Result Bool Fault) × (f : Expander Listed) × Operand kind directive A e x f
+    → (x : Result Bool PlacedFault) × (f : Expander Listed) × Operand kind directive A e x f
 
 -- The line of an `#if`, `#elif` or `#line` has a list of words, with an ending.
 abbrev pub ALine : Answers → Type 0
@@ -88,18 +90,18 @@ abbrev pub ACondition : Answers → Type 0
 ACondition A =
     (directive : Location) (tokens : List Token) (numbering : Numbering) (definitions : Definitions)
     → IsFinite definitions
-    → (x : Result Bool Fault) × IsCondition A directive tokens numbering definitions x
+    → (x : Result Bool PlacedFault) × IsCondition A directive tokens numbering definitions x
 
 -- A `#line` gives a number, or a fault.
 abbrev pub ALineNumber : Answers → Type 0
 ALineNumber A =
     (directive : Location) (tokens : List Token) (numbering : Numbering) (definitions : Definitions)
     → IsFinite definitions
-    → (x : Result ℕ Fault) × IsLineNumber A directive tokens numbering definitions x
+    → (x : Result ℕ PlacedFault) × IsLineNumber A directive tokens numbering definitions x
 
 -- One token or line of a source has an outcome, or gives nothing.
 abbrev pub AStep : Answers → Type 0
-AStep A = (r : SourceReader) → IsFinite r.definitions → (x : Option Outcome) × (t : SourceReader) × Steps A r x t
+AStep A = (r : SourceReader) → IsFinite r.definitions → (x : Option Taken) × (t : SourceReader) × Steps A r x t
 
 -- In each state of a run finitely many names are defined.
 abbrev pub RunDefinesFinitelyMany : Answers → Type 0

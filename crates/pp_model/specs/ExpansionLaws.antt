@@ -1,11 +1,13 @@
 -- Laws of expansion: each step of it has at most one outcome, and leaves one state.
 use Rattle.std.specs.Prelude.{◌≡◌, ℕ, List, Bool, Result}
 use Rattle.pp_lexer.specs.declared.token.Location.{Location}
+use Rattle.pp_model.specs.declared.place.Place.{Place}
+use Rattle.pp_model.specs.Places.{PlacedFault}
 use Rattle.pp_model.specs.Names.{Name}
 use Rattle.pp_model.specs.Definitions.{Definition, Definitions}
 use Rattle.pp_model.specs.Reading.{Reading, Expander, Listed}
 use Rattle.pp_model.specs.Taking.{Takes}
-use Rattle.pp_model.specs.Calls.{Fault, Gathered, Gathers, Answers, Site, Called, Calls}
+use Rattle.pp_model.specs.Calls.{Gathered, Gathers, Answers, Site, Called, Calls}
 use Rattle.pp_model.specs.Emitting.{Emits, Collects, Alones, Each}
 use Rattle.pp_model.specs.LineWords.{Operand, Words, LineWords}
 use Rattle.pp_model.specs.declared.read.Read.{Read}
@@ -24,7 +26,7 @@ OneTaking {R} I = (x y : Taken) (e f g : Expander R) → Takes I e x f → Takes
 -- The search for the end of a call gathers at most one list of tokens, or meets one fault.
 abbrev pub OneGathering : {R : Type 0} → Reading R → Type 0
 OneGathering {R} I =
-    (n : ℕ) (last : Location) (x y : Result Gathered Fault) (e f g : Expander R)
+    (n : ℕ) (last : Place) (x y : Result Gathered PlacedFault) (e f g : Expander R)
     → Gathers I n last e x f
     → Gathers I n last e y g
     → (x ≡ y) × (f ≡ g)
@@ -32,7 +34,7 @@ OneGathering {R} I =
 -- A call at a site gives at most one list of arguments, or one fault.
 abbrev pub OneAnswer : Answers → Type 0
 OneAnswer A =
-    (definition : Definition) (site : Site) (x y : Result (List (List Read)) Fault)
+    (definition : Definition) (site : Site) (x y : Result (List (List Read)) PlacedFault)
     → A definition site x
     → A definition site y
     → x ≡ y
@@ -51,13 +53,13 @@ OneItem {R} I A = (x y : Taken) (e f g : Expander R) → Emits I A e x f → Emi
 
 -- An expander has at most one list of items, or one first fault.
 abbrev pub OneList : {R : Type 0} → Reading R → Answers → Type 0
-OneList {R} I A = (x y : Result (List Read) Fault) (e : Expander R) → Collects I A e x → Collects I A e y → x ≡ y
+OneList {R} I A = (x y : Result (List Read) PlacedFault) (e : Expander R) → Collects I A e x → Collects I A e y → x ≡ y
 
 -- An argument alone expands to at most one list of tokens, or one fault.
 abbrev pub OneArgument : Alones → Type 0
 OneArgument deeper =
     (tokens : List Read) (numbering : Numbering) (visible : Definitions) (hidden : List Name)
-    (x y : Result (List Read) Fault)
+    (x y : Result (List Read) PlacedFault)
     → deeper tokens numbering visible hidden x
     → deeper tokens numbering visible hidden y
     → x ≡ y
@@ -66,7 +68,7 @@ OneArgument deeper =
 abbrev pub OneEach : Alones → Type 0
 OneEach deeper =
     (numbering : Numbering) (visible : Definitions) (hidden : List Name) (arguments : List (List Read))
-    (x y : Result (List (List Read)) Fault)
+    (x y : Result (List (List Read)) PlacedFault)
     → Each deeper numbering visible hidden arguments x
     → Each deeper numbering visible hidden arguments y
     → x ≡ y
@@ -74,7 +76,7 @@ OneEach deeper =
 -- The operand of a `defined` has at most one answer, or one fault.
 abbrev pub OneOperand : Answers → Type 0
 OneOperand A =
-    (kind : LineKind) (directive : Location) (x y : Result Bool Fault) (e f g : Expander Listed)
+    (kind : LineKind) (directive : Location) (x y : Result Bool PlacedFault) (e f g : Expander Listed)
     → Operand kind directive A e x f
     → Operand kind directive A e y g
     → (x ≡ y) × (f ≡ g)

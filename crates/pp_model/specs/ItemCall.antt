@@ -1,11 +1,18 @@
--- The macro from which an item comes (docs/RULES.md, Calls 15).
-use Rattle.std.specs.Prelude.{Option}
+-- The text that an item is in, and the macro from which it comes (docs/RULES.md, Calls 15).
+use Rattle.std.specs.Prelude.{ℕ, Option, Some, None}
 use Rattle.pp_model.specs.SpliceList.{outermost_call}
 use Rattle.pp_model.specs.Reading.{Reading, Expander}
 use Rattle.pp_model.specs.Calls.{Answers}
 use Rattle.pp_model.specs.Emitting.{Emits, itself, object, name_alone, call_refused, call}
 use Rattle.pp_model.specs.declared.read.Taken.{Taken}
+use Rattle.pp_model.specs.declared.read.Taken.TheVariants as taken
 use Rattle.pp_model.specs.declared.splice.CallPlace.{CallPlace}
+
+-- the text in which the place of an item is; the end has none
+abbrev pub text_of : Taken → Option ℕ
+text_of (taken.Token read) = Some read.text
+text_of (taken.Fault fault) = Some fault.1.text
+text_of taken.End = None
 
 -- Where the outermost macro was called that is open once the item was taken, if one is: of a name, before a `(` is
 -- sought after it, and of a call's fault, once it was found.

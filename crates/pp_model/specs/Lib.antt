@@ -2,6 +2,7 @@ pub mod Names
 pub mod Numbering
 pub mod Definitions
 pub mod Painting
+pub mod Places
 pub mod SpliceList
 pub mod Reading
 pub mod Taking

@@ -3,13 +3,13 @@ use Rattle.std.specs.Prelude.{◌≡◌, pos, Bool, true, false, if◌then◌els
 use Rattle.std.specs.Prelude.{MatchOption, Result, Ok, Err}
 use Rattle.pp_lexer.specs.declared.token.Location.{Location}
 use Rattle.pp_lexer.specs.declared.token.PreprocessorError.TheVariants.{UnexpectedToken, UnexpectedEndOfInput}
-use Rattle.pp_lexer.specs.declared.token.Token.{Token}
 use Rattle.pp_lexer.specs.declared.token.TokenValue.{TokenValue}
 use Rattle.pp_lexer.specs.declared.token.TokenValue.TheVariants.{Ident, Integer}
+use Rattle.pp_model.specs.Places.{PlacedFault, in_source, place_of}
 use Rattle.pp_model.specs.Names.{Name, is_same_name, defined_name}
 use Rattle.pp_model.specs.Reading.{Expander, Listed, line_reading}
 use Rattle.pp_model.specs.Taking.{Takes}
-use Rattle.pp_model.specs.Calls.{Fault, Answers, is_right_paren, paren_at}
+use Rattle.pp_model.specs.Calls.{Answers, is_right_paren, paren_at}
 use Rattle.pp_model.specs.Emitting.{Emits}
 use Rattle.pp_model.specs.declared.read.Read.{Read}
 use Rattle.pp_model.specs.declared.read.Taken.{Taken}
@@ -22,39 +22,40 @@ use Rattle.pp_model.specs.declared.word.Word.TheVariants.{Plain, Defined}
 -- a token of the expanded line: the operator `defined`, a word, or the fault of an unknown name
 pub data WordReading : Type 0 where
   operator : WordReading
-  word : Token → WordReading
-  fault : Fault → WordReading
+  word : Read → WordReading
+  fault : PlacedFault → WordReading
 
-abbrev pub unexpected : Token → Fault
-unexpected token = (UnexpectedToken token.value, token.location)
+abbrev pub unexpected : Read → PlacedFault
+unexpected read = (UnexpectedToken read.token.value, place_of read)
 
 -- an identifier that opens no macro is 0, signed and 64 bits wide; in a `#line` it is refused
-abbrev pub unknown_name : LineKind → Token → WordReading
-unknown_name Condition token =
-    word (record { value = Integer (record { value = 0; signed = true; width = pos 64 }); location = token.location })
-unknown_name LineNumber token = fault (unexpected token)
+abbrev pub unknown_name : LineKind → Read → WordReading
+unknown_name Condition read =
+    let zero = Integer (record { value = 0; signed = true; width = pos 64 }) in
+    word (record read { token = record { value = zero; location = read.token.location } })
+unknown_name LineNumber read = fault (unexpected read)
 
-abbrev pub reading_of_value : LineKind → Token → TokenValue → WordReading
-reading_of_value kind token (Ident name) = if is_same_name name defined_name then operator else unknown_name kind token
-reading_of_value kind token _ = word token
+abbrev pub reading_of_value : LineKind → Read → TokenValue → WordReading
+reading_of_value kind read (Ident name) = if is_same_name name defined_name then operator else unknown_name kind read
+reading_of_value kind read _ = word read
 
-abbrev pub reading : LineKind → Token → WordReading
-reading kind token = reading_of_value kind token token.value
+abbrev pub reading : LineKind → Read → WordReading
+reading kind read = reading_of_value kind read read.token.value
 
 -- the fault of what was taken in place of a part of `defined`; that of the end is at the directive's word
-abbrev pub unwanted_part : Location → Taken → Fault
-unwanted_part directive (taken.Token read) = unexpected read.token
+abbrev pub unwanted_part : Location → Taken → PlacedFault
+unwanted_part directive (taken.Token read) = unexpected read
 unwanted_part directive (taken.Fault f) = f
-unwanted_part directive taken.End = (UnexpectedEndOfInput, directive)
+unwanted_part directive taken.End = (UnexpectedEndOfInput, in_source directive)
 
 -- the same of a token of the expanded line
-abbrev pub unwanted_reading : Token → WordReading → Fault
-unwanted_reading token operator = unexpected token
-unwanted_reading token (word w) = unexpected w
-unwanted_reading token (fault f) = f
+abbrev pub unwanted_reading : Read → WordReading → PlacedFault
+unwanted_reading read operator = unexpected read
+unwanted_reading read (word w) = unexpected w
+unwanted_reading read (fault f) = f
 
-abbrev pub unwanted_closing : LineKind → Location → Taken → Fault
-unwanted_closing kind directive (taken.Token read) = unwanted_reading read.token (reading kind read.token)
+abbrev pub unwanted_closing : LineKind → Location → Taken → PlacedFault
+unwanted_closing kind directive (taken.Token read) = unwanted_reading read (reading kind read)
 unwanted_closing kind directive o = unwanted_part directive o
 
 abbrev pub name_in_value : TokenValue → Option Name
@@ -75,14 +76,14 @@ abbrev pub is_defined : Expander Listed → Name → Bool
 is_defined e name = is_some (e.reader.visible name)
 
 -- the answer, if a `)` was read, and otherwise the fault of what was read
-abbrev pub closed_by : LineKind → Location → Bool → Taken → Result Bool Fault
+abbrev pub closed_by : LineKind → Location → Bool → Taken → Result Bool PlacedFault
 closed_by kind directive answer o =
     if has_value is_right_paren o then Ok answer else Err (unwanted_closing kind directive o)
 
 -- what the operand of a `defined` gives after its `(`: the name is taken and not looked up, and the `)` is read with
 -- expansion
 abbrev pub InParentheses : LineKind → Location → Answers
-    → Expander Listed → Result Bool Fault → Expander Listed → Type 0
+    → Expander Listed → Result Bool PlacedFault → Expander Listed → Type 0
 InParentheses kind directive A e r g =
     (o : Taken) × (f : Expander Listed) × Takes line_reading e o f
     × MatchOption (name_in o) ((r ≡ Err (unwanted_part directive o)) × (g ≡ f))
@@ -90,7 +91,8 @@ InParentheses kind directive A e r g =
 
 -- what the operand of a `defined` gives: it is a name, alone or in parentheses. The name or the `(` is taken and not
 -- looked up.
-abbrev pub Operand : LineKind → Location → Answers → Expander Listed → Result Bool Fault → Expander Listed → Type 0
+abbrev pub Operand : LineKind → Location → Answers
+    → Expander Listed → Result Bool PlacedFault → Expander Listed → Type 0
 Operand kind directive A e r g =
     (o : Taken) × (f : Expander Listed) × Takes line_reading e o f
     × MatchOption (paren_at o)
@@ -101,7 +103,7 @@ Operand kind directive A e r g =
 -- the words of a line, and the fault of reading that ends them, if one does
 pub record Words : Type 0 where
   pub words : List Word
-  pub ending : Option Fault
+  pub ending : Option PlacedFault
 
 abbrev pub word_before : Word → Words → Words
 word_before w rest = record rest { words = w ∷ rest.words }
@@ -112,27 +114,27 @@ pub data LineWords (kind : LineKind) (directive : Location) (A : Answers) : Expa
       → Emits line_reading A e taken.End f
       → ws ≡ record { words = []; ending = None }
       → LineWords kind directive A e ws
-  failed : (f : Fault) (e g : Expander Listed) (ws : Words)
+  failed : (f : PlacedFault) (e g : Expander Listed) (ws : Words)
       → Emits line_reading A e (taken.Fault f) g
       → ws ≡ record { words = []; ending = Some f }
       → LineWords kind directive A e ws
-  refused : (read : Read) (f : Fault) (e g : Expander Listed) (ws : Words)
-      → Emits line_reading A e (taken.Token read) g → reading kind read.token ≡ fault f
+  refused : (read : Read) (f : PlacedFault) (e g : Expander Listed) (ws : Words)
+      → Emits line_reading A e (taken.Token read) g → reading kind read ≡ fault f
       → ws ≡ record { words = []; ending = Some f }
       → LineWords kind directive A e ws
-  plain : (read : Read) (w : Token) (e g : Expander Listed) (rest ws : Words)
-      → Emits line_reading A e (taken.Token read) g → reading kind read.token ≡ word w
+  plain : (read w : Read) (e g : Expander Listed) (rest ws : Words)
+      → Emits line_reading A e (taken.Token read) g → reading kind read ≡ word w
       → LineWords kind directive A g rest
       → ws ≡ word_before (Plain w) rest
       → LineWords kind directive A e ws
   answered : (read : Read) (answer : Bool) (e g h : Expander Listed) (rest ws : Words)
-      → Emits line_reading A e (taken.Token read) g → reading kind read.token ≡ operator
+      → Emits line_reading A e (taken.Token read) g → reading kind read ≡ operator
       → Operand kind directive A g (Ok answer) h
       → LineWords kind directive A h rest
-      → ws ≡ word_before (Defined read.token.location (Ok answer)) rest
+      → ws ≡ word_before (Defined (place_of read) (Ok answer)) rest
       → LineWords kind directive A e ws
-  faulty : (read : Read) (f : Fault) (e g h : Expander Listed) (ws : Words)
-      → Emits line_reading A e (taken.Token read) g → reading kind read.token ≡ operator
+  faulty : (read : Read) (f : PlacedFault) (e g h : Expander Listed) (ws : Words)
+      → Emits line_reading A e (taken.Token read) g → reading kind read ≡ operator
       → Operand kind directive A g (Err f) h
-      → ws ≡ record { words = Defined read.token.location (Err f) ∷ []; ending = None }
+      → ws ≡ record { words = Defined (place_of read) (Err f) ∷ []; ending = None }
       → LineWords kind directive A e ws

@@ -12,8 +12,8 @@ use Rattle.pp_lexer.specs.declared.token.Location.{Location}
 use Rattle.pp_lexer.specs.declared.token.PreprocessorError.TheVariants.{UnexpectedEndOfInput}
 use Rattle.pp_lexer.specs.declared.token.Token.{Token}
 use Rattle.pp_expression.specs.Answers.{◌>>=◌}
+use Rattle.pp_model.specs.Places.{Fault}
 use Rattle.pp_model.specs.Names.{Name}
-use Rattle.pp_model.specs.Calls.{Fault}
 use Rattle.pp_model.specs.Emitting.{first_before}
 use Rattle.pp_model.specs.declared.definition.Placed.{Placed}
 use Rattle.pp_model.specs.Conversions.{is_newline, conversion, refused_token, identifier_of}

@@ -16,8 +16,8 @@ use Rattle.pp_lexer.specs.declared.token.PreprocessorError.TheVariants.{ElifAfte
 use Rattle.pp_lexer.specs.declared.token.Token.{Token}
 use Rattle.pp_lexer.specs.declared.token.TokenValue.{TokenValue}
 use Rattle.pp_lexer.specs.declared.token.TokenValue.TheVariants.{Version, Extension, Pragma}
+use Rattle.pp_model.specs.Places.{Fault}
 use Rattle.pp_model.specs.Names.{Name}
-use Rattle.pp_model.specs.Calls.{Fault}
 use Rattle.pp_model.specs.Lines.{line_length, line_fault, line_tokens, comments_before_end, ended_line, only_name}
 use Rattle.pp_model.specs.DefineLines.{defined_on, undefined_on}
 use Rattle.pp_model.specs.Sights.{is_directive_hash}

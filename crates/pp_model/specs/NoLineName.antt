@@ -1,11 +1,12 @@
 -- `__LINE__` is never given: whatever is taken, and each item, is something else.
 use Rattle.std.specs.Prelude.{◌≡◌, ℕ, Bool, false, List, All, IfSome, Result, IfOk}
-use Rattle.pp_lexer.specs.declared.token.Location.{Location}
+use Rattle.pp_model.specs.declared.place.Place.{Place}
+use Rattle.pp_model.specs.Places.{PlacedFault}
 use Rattle.pp_model.specs.Names.{Name, is_identifier, line_name}
 use Rattle.pp_model.specs.Definitions.{Definition, Definitions}
 use Rattle.pp_model.specs.Reading.{Reading, Expander}
 use Rattle.pp_model.specs.Taking.{Takes}
-use Rattle.pp_model.specs.Calls.{Gathered, Fault, Gathers, Answers, Called, no_call, Calls}
+use Rattle.pp_model.specs.Calls.{Gathered, Gathers, Answers, Called, no_call, Calls}
 use Rattle.pp_model.specs.Emitting.{Emits, Collects, Alone}
 use Rattle.pp_model.specs.declared.read.Read.{Read}
 use Rattle.pp_model.specs.declared.read.Taken.{Taken}
@@ -32,7 +33,7 @@ pub record ShowsNoLineName {R : Type 0} (I : Reading R) (A : Answers) : Type 0 w
       → Takes I e o f
       → HoldsNoLineName e
       → (is_line_name o ≡ false) × HoldsNoLineName f
-  pub gathering : (n : ℕ) (last : Location) (gathered : Result Gathered Fault) (e f : Expander R)
+  pub gathering : (n : ℕ) (last : Place) (gathered : Result Gathered PlacedFault) (e f : Expander R)
       → Gathers I n last e gathered f
       → HoldsNoLineName e
       → IfOk gathered (λ g. AreNoLineNames g.tokens) × HoldsNoLineName f
@@ -44,7 +45,7 @@ pub record ShowsNoLineName {R : Type 0} (I : Reading R) (A : Answers) : Type 0 w
       → Emits I A e o f
       → HoldsNoLineName e
       → (is_line_name o ≡ false) × HoldsNoLineName f
-  pub list : (items : Result (List Read) Fault) (e : Expander R)
+  pub list : (items : Result (List Read) PlacedFault) (e : Expander R)
       → Collects I A e items
       → HoldsNoLineName e
       → IfOk items AreNoLineNames
@@ -53,6 +54,6 @@ pub record ShowsNoLineName {R : Type 0} (I : Reading R) (A : Answers) : Type 0 w
 abbrev pub AloneShowsNoLineName : Type 0
 AloneShowsNoLineName =
     (level : ℕ) (tokens : List Read) (numbering : Numbering) (visible : Definitions) (hidden : List Name)
-    (items : Result (List Read) Fault)
+    (items : Result (List Read) PlacedFault)
     → Alone level tokens numbering visible hidden items
     → IfOk items AreNoLineNames

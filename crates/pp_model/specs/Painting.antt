@@ -1,9 +1,10 @@
 -- Painted tokens: an identifier that is taken while its name is open opens no macro from then on
 -- (docs/RULES.md, Expansion 2 and 3).
-use Rattle.std.specs.Prelude.{Bool, false, ◌||◌, List}
+use Rattle.std.specs.Prelude.{ℕ, Bool, false, ◌||◌, List}
 use Rattle.pp_lexer.specs.declared.token.Token.{Token}
 use Rattle.pp_lexer.specs.declared.token.TokenValue.{TokenValue}
 use Rattle.pp_lexer.specs.declared.token.TokenValue.TheVariants.{Ident}
+use Rattle.pp_model.specs.Places.{placed, unplaced, source_text}
 use Rattle.pp_model.specs.Names.{Name, is_in}
 use Rattle.pp_model.specs.declared.outcome.Outcome.{Outcome}
 use Rattle.pp_model.specs.declared.outcome.Outcome.TheVariants as outcome
@@ -11,9 +12,13 @@ use Rattle.pp_model.specs.declared.read.Read.{Read}
 use Rattle.pp_model.specs.declared.read.Taken.{Taken}
 use Rattle.pp_model.specs.declared.read.Taken.TheVariants as taken
 
--- a token as it begins: of the source, of a directive's line, or of a body
+-- a token as it begins, in the text with this number
+abbrev pub read_in : ℕ → Token → Read
+read_in text token = record { token = token; text = text; painted = false }
+
+-- a token of the source, or of a directive's line, as it begins
 abbrev pub unpainted : Token → Read
-unpainted token = record { token = token; painted = false }
+unpainted token = read_in source_text token
 
 -- the value is an identifier among these names
 abbrev pub is_one_of : List Name → TokenValue → Bool
@@ -32,11 +37,11 @@ taken_among names taken.End = taken.End
 -- what the source gives, unpainted
 abbrev pub taken_of : Outcome → Taken
 taken_of (outcome.Token token) = taken.Token (unpainted token)
-taken_of (outcome.Fault fault) = taken.Fault fault
+taken_of (outcome.Fault fault) = taken.Fault (placed fault)
 taken_of outcome.End = taken.End
 
--- an item, without its paint
+-- an item, without its paint and its text
 abbrev pub item_of : Taken → Outcome
 item_of (taken.Token read) = outcome.Token read.token
-item_of (taken.Fault fault) = outcome.Fault fault
+item_of (taken.Fault fault) = outcome.Fault (unplaced fault)
 item_of taken.End = outcome.End

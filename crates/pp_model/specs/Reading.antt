@@ -37,8 +37,9 @@ pub record Expander (R : Type 0) : Type 0 where
 abbrev pub masked_names : {R : Type 0} → Expander R → List Name
 masked_names expander = open_names expander.list ++ expander.hidden
 
--- a token that opens a macro, with its name and its definition
+-- a token of a text that opens a macro, with its name and its definition
 pub record Opening : Type 0 where
+  pub text : ℕ
   pub token : Token
   pub name : Name
   pub definition : Definition
@@ -46,7 +47,8 @@ pub record Opening : Type 0 where
 abbrev pub opening_of : {R : Type 0} → Reading R → Expander R → Read → TokenValue → Option Opening
 opening_of I expander read (Ident name) =
     if I.is_reserved name || read.painted then None
-    else option_map (λ definition. record { token = read.token; name = name; definition = definition })
+    else option_map
+    (λ definition. record { text = read.text; token = read.token; name = name; definition = definition })
     (I.visible expander.reader name)
 opening_of I expander read _ = None
 

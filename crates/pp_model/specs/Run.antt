@@ -1,6 +1,6 @@
 -- Runs: lists of calls of `add_define` and `next`, with the replies to them (docs/RULES.md, "Runs").
 use Rattle.std.specs.Prelude.{◌≡◌, ℕ, Bool, true, false, if◌then◌else◌, List, [], map, ◌∷◌, Some, None, Result, Ok, Err}
-use Rattle.std.specs.Prelude.{◌<◌, ◌^◌, ◌-◌, length, ⊤}
+use Rattle.std.specs.Prelude.{◌+◌, ◌<◌, ◌^◌, ◌-◌, length, ⊤}
 use Rattle.std.specs.Str.{chars}
 use Rattle.pp_lexer.specs.Items as lexer
 use Rattle.pp_lexer.specs.Lexed.{Seen, seen}
@@ -8,11 +8,12 @@ use Rattle.pp_lexer.specs.Rules.{pp_rs}
 use Rattle.pp_lexer.specs.Spots.{spots_of}
 use Rattle.pp_lexer.specs.declared.rules.Rules.{Rules}
 use Rattle.pp_lexer.specs.declared.token.Token.{Token}
+use Rattle.pp_model.specs.Places.{Fault}
 use Rattle.pp_model.specs.Names.{Name}
 use Rattle.pp_model.specs.Definitions.{object_like, with_change}
 use Rattle.pp_model.specs.Painting.{item_of}
 use Rattle.pp_model.specs.Reading.{Expander}
-use Rattle.pp_model.specs.Calls.{Fault, Answers}
+use Rattle.pp_model.specs.Calls.{Answers}
 use Rattle.pp_model.specs.Emitting.{first_before, Emits, answers_at, expansion_limit}
 use Rattle.pp_model.specs.Lines.{ends_line}
 use Rattle.pp_model.specs.Conversions.{conversion}
@@ -65,11 +66,15 @@ start_by rules source = record { held = None; list = []; reader = reader_at_star
 abbrev pub start : List Seen → Expander SourceReader
 start source = start_by pp_rs source
 
--- the name is the object-like macro with these tokens as its body from now on
+-- the name is the object-like macro with these tokens of one more content as its body from now on
 abbrev pub with_added : Name → List Token → Expander SourceReader → Expander SourceReader
 with_added name tokens e =
+    let text = e.reader.contents + 1 in
     record e {
-      reader = record e.reader { definitions = with_change e.reader.definitions name (Some (object_like tokens)) };
+      reader = record e.reader {
+        definitions = with_change e.reader.definitions name (Some (object_like text tokens));
+        contents = text;
+      };
     }
 
 abbrev pub is_fault : Outcome → Bool

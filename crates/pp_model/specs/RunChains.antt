@@ -4,8 +4,9 @@ use Rattle.std.specs.Str.{chars}
 use Rattle.pp_lexer.specs.Lexed.{Seen}
 use Rattle.pp_lexer.specs.declared.token.Token.{Token}
 use Rattle.pp_lexer.specs.declared.rules.Rules.{Rules}
+use Rattle.pp_model.specs.Places.{Fault, PlacedFault, unplaced}
 use Rattle.pp_model.specs.Reading.{Expander}
-use Rattle.pp_model.specs.Calls.{Fault, Answers}
+use Rattle.pp_model.specs.Calls.{Answers}
 use Rattle.pp_model.specs.Emitting.{Emits}
 use Rattle.pp_model.specs.SourceReader.{SourceReader}
 use Rattle.pp_model.specs.Reads.{source_reading}
@@ -63,8 +64,8 @@ pub record ChainsAreRuns (A : Answers) : Type 0 where
       → Chain (by_rules A) rules (start_by rules source) calls replies f
       → Runs (by_rules A) rules (start_by rules source) calls replies
   pub to_error : (rules : Rules) (source : List Seen) (calls : List Call) (replies : List Reply)
-      (f g : Expander SourceReader) (fault : Fault)
+      (f g : Expander SourceReader) (fault : PlacedFault)
       → Chain (by_rules A) rules (start_by rules source) calls replies f
       → Emits (source_reading A) A f (taken.Fault fault) g
       → Runs (by_rules A) rules (start_by rules source) (calls ++ next ∷ [])
-      (replies ++ reply.Given (outcome.Fault fault) ∷ [])
+      (replies ++ reply.Given (outcome.Fault (unplaced fault)) ∷ [])

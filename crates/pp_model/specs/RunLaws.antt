@@ -8,9 +8,12 @@ use Rattle.pp_lexer.specs.declared.token.Location.{Location}
 use Rattle.pp_lexer.specs.declared.token.PreprocessorError.TheVariants.{DefineRedefined}
 use Rattle.pp_lexer.specs.declared.token.Token.{Token}
 use Rattle.pp_lexer.specs.declared.rules.Rules.{Rules}
+use Rattle.pp_model.specs.declared.read.Taken.{Taken}
+use Rattle.pp_model.specs.declared.read.Taken.TheVariants as taken
+use Rattle.pp_model.specs.Places.{PlacedFault, placed}
 use Rattle.pp_model.specs.Definitions.{Definition, Definitions, IsSameDefinition}
 use Rattle.pp_model.specs.Reading.{Expander}
-use Rattle.pp_model.specs.Calls.{Fault, Answers}
+use Rattle.pp_model.specs.Calls.{Answers}
 use Rattle.pp_model.specs.LineWords.{Words}
 use Rattle.pp_model.specs.LineValues.{IsCondition, Numbers, IsLineNumber}
 use Rattle.pp_model.specs.SourceReader.{SourceReader}
@@ -19,8 +22,6 @@ use Rattle.pp_model.specs.Reads.{Steps}
 use Rattle.pp_model.specs.Run.{by_rules, Call, Runs, IsRunBy}
 use Rattle.pp_model.specs.declared.call.Reply.{Reply}
 use Rattle.pp_model.specs.declared.definition.Named.{Named}
-use Rattle.pp_model.specs.declared.outcome.Outcome.{Outcome}
-use Rattle.pp_model.specs.declared.outcome.Outcome.TheVariants as outcome
 use Rattle.pp_model.specs.declared.step.Step.TheVariants as step
 use Rattle.pp_model.specs.declared.numbering.Numbering.{Numbering}
 
@@ -32,7 +33,7 @@ OneEvaluation = (line : Line) (x y : Result Value Found) → Evaluates line x �
 abbrev pub OneCondition : Answers → Type 0
 OneCondition A =
     (directive : Location) (tokens : List Token) (numbering : Numbering) (definitions : Definitions)
-    (x y : Result Bool Fault)
+    (x y : Result Bool PlacedFault)
     → IsCondition A directive tokens numbering definitions x
     → IsCondition A directive tokens numbering definitions y
     → x ≡ y
@@ -40,7 +41,7 @@ OneCondition A =
 -- The words of a `#line` give at most one number or fault.
 abbrev pub OneNumber : Type 0
 OneNumber =
-    (directive : Location) (words : Words) (x y : Result ℕ Fault)
+    (directive : Location) (words : Words) (x y : Result ℕ PlacedFault)
     → Numbers directive words x
     → Numbers directive words y
     → x ≡ y
@@ -49,7 +50,7 @@ OneNumber =
 abbrev pub OneLineNumber : Answers → Type 0
 OneLineNumber A =
     (directive : Location) (tokens : List Token) (numbering : Numbering) (definitions : Definitions)
-    (x y : Result ℕ Fault)
+    (x y : Result ℕ PlacedFault)
     → IsLineNumber A directive tokens numbering definitions x
     → IsLineNumber A directive tokens numbering definitions y
     → x ≡ y
@@ -57,7 +58,7 @@ OneLineNumber A =
 -- One token or line of a source has at most one outcome, which may be nothing, and one reader after it.
 abbrev pub OneStep : Answers → Type 0
 OneStep A =
-    (r : SourceReader) (x y : Option Outcome) (s t : SourceReader)
+    (r : SourceReader) (x y : Option Taken) (s t : SourceReader)
     → Steps A r x s
     → Steps A r y t
     → (x ≡ y) × (s ≡ t)
@@ -80,16 +81,17 @@ OneRun =
 
 -- A name that is defined is defined again: the same definition gives nothing, another is a fault, and the old one
 -- stays.
-pub record Redefined (named : Named) (old : Definition) (r : SourceReader) (o : Option Outcome)
+pub record Redefined (named : Named) (old : Definition) (r : SourceReader) (o : Option Taken)
     (t : SourceReader) : Type 0 where
   pub repeated : IsSameDefinition old named.definition → o ≡ None
-  pub refused : (IsSameDefinition old named.definition → ⊥) → o ≡ Some (outcome.Fault (DefineRedefined, named.location))
+  pub refused : (IsSameDefinition old named.definition → ⊥)
+      → o ≡ Some (taken.Fault (placed (DefineRedefined, named.location)))
   pub same_definitions : t.definitions ≡ r.definitions
 
 -- A `#define` of a name that is defined is compared with the old definition.
 abbrev pub RedefinitionIsChecked : Answers → Type 0
 RedefinitionIsChecked A =
-    (named : Named) (old : Definition) (r t : SourceReader) (o : Option Outcome)
+    (named : Named) (old : Definition) (r t : SourceReader) (o : Option Taken)
     → (act r).step ≡ step.Defines named
     → r.definitions named.name ≡ Some old
     → Steps A r o t

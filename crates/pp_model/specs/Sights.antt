@@ -6,8 +6,8 @@ use Rattle.std.specs.List.{find}
 use Rattle.pp_lexer.specs.Lexed.{Seen}
 use Rattle.pp_lexer.specs.Items.{Lexeme}
 use Rattle.pp_lexer.specs.declared.lexer.item.Token.{Token as LexerToken}
+use Rattle.pp_model.specs.Places.{Fault}
 use Rattle.pp_model.specs.Names.{Name, is_same_name}
-use Rattle.pp_model.specs.Calls.{Fault}
 use Rattle.pp_model.specs.Conversions.{is_newline, is_hash, identifier_of, conversion, refused_token}
 use Rattle.pp_model.specs.Lines.{first_token}
 use Rattle.pp_model.specs.declared.directive.Directive.{Directive}

@@ -9,13 +9,15 @@ use Rattle.pp_model.specs.Lines.{ends_line}
 use Rattle.pp_model.specs.Sights.{sight_of, is_directive, is_text, is_directive_hash}
 use Rattle.pp_model.specs.Blocks.{Truths, blocks_at, is_live}
 
--- The rules by which it reads, the source's items and the position among them, what is defined, what `#line` adds to a
--- line, the conditions that were read, and how many blocks that stay open at the end are still to be reported.
+-- The rules by which it reads, the source's items and the position among them, what is defined, how many contents were
+-- added, what `#line` adds to a line, the conditions that were read, and how many blocks that stay open at the end are
+-- still to be reported.
 pub record SourceReader : Type 0 where
   pub rules : Rules
   pub items : List Seen
   pub position : ℕ
   pub definitions : Definitions
+  pub contents : ℕ
   pub line_offset : ℤ
   pub truths : Truths
   pub unfinished : ℕ
@@ -26,6 +28,7 @@ reader_at_start rules source = record {
   items = source;
   position = 0;
   definitions = λ name. None;
+  contents = 0;
   line_offset = pos 0;
   truths = [];
   unfinished = length (blocks_at source (length source));

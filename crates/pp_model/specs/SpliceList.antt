@@ -7,7 +7,7 @@ use Rattle.pp_lexer.specs.declared.token.TokenValue.{TokenValue}
 use Rattle.pp_lexer.specs.declared.token.TokenValue.TheVariants.{Ident}
 use Rattle.pp_model.specs.Names.{Name, is_same_name}
 use Rattle.pp_model.specs.Definitions.{Definition}
-use Rattle.pp_model.specs.Painting.{unpainted}
+use Rattle.pp_model.specs.Painting.{read_in}
 use Rattle.pp_model.specs.declared.read.Read.{Read}
 use Rattle.pp_model.specs.declared.splice.CallPlace.{CallPlace}
 use Rattle.pp_model.specs.declared.splice.Entry.{Entry}
@@ -40,19 +40,21 @@ abbrev pub parameter_of : List Name → TokenValue → Option ℕ
 parameter_of parameters (Ident name) = position (is_same_name name) parameters
 parameter_of parameters _ = None
 
--- a token of a body, unpainted, or the argument of the parameter that it names, with its paint
-abbrev pub replacement : List (List Read) → Token → Option ℕ → List Entry → List Entry
-replacement arguments token parameter entries =
+-- a token of a body of this text, unpainted, or the argument of the parameter that it names, with its paint
+abbrev pub replacement : List (List Read) → ℕ → Token → Option ℕ → List Entry → List Entry
+replacement arguments text token parameter entries =
     option_map_or (λ k. map Plain (unwrap_or (slice_get arguments k) []) ++ entries) parameter
-    (Plain (unpainted token) ∷ entries)
+    (Plain (read_in text token) ∷ entries)
 
--- the body with each parameter replaced by its argument, and then the entries
-abbrev pub body_before : List Name → List (List Read) → List Token → List Entry → List Entry
-body_before parameters arguments [] entries = entries
-body_before parameters arguments (token ∷ body) entries =
-    replacement arguments token (parameter_of parameters token.value) (body_before parameters arguments body entries)
+-- the body, which is of this text, with each parameter replaced by its argument, and then the entries
+abbrev pub body_before : List Name → List (List Read) → ℕ → List Token → List Entry → List Entry
+body_before parameters arguments text [] entries = entries
+body_before parameters arguments text (token ∷ body) entries =
+    replacement arguments text token (parameter_of parameters token.value)
+    (body_before parameters arguments text body entries)
 
 -- the macro's replacement with its end mark before the entries
 abbrev pub macro_before : Name → Definition → CallPlace → List (List Read) → List Entry → List Entry
 macro_before name definition call arguments entries =
-    body_before definition.parameters arguments definition.body (End (record { name = name; call = call }) ∷ entries)
+    body_before definition.parameters arguments definition.text definition.body
+    (End (record { name = name; call = call }) ∷ entries)

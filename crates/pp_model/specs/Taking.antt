@@ -1,12 +1,13 @@
 -- What is taken next, before it is looked up (docs/RULES.md, Expansion 1 to 3).
 use Rattle.std.specs.Prelude.{◌≡◌, ℕ, if◌then◌else◌, List, [], ◌∷◌, Option, Some, None, unwrap_or}
 use Rattle.pp_lexer.specs.declared.token.Integer.{Integer as IntegerLiteral}
-use Rattle.pp_lexer.specs.declared.token.Location.{Location}
+use Rattle.pp_model.specs.Places.{place_of}
+use Rattle.pp_model.specs.declared.place.Place.{Place}
 use Rattle.pp_lexer.specs.declared.token.PreprocessorError.TheVariants.{LineOverflow}
 use Rattle.pp_lexer.specs.declared.token.TokenValue.TheVariants.{Integer}
 use Rattle.pp_model.specs.Names.{is_identifier, line_name}
 use Rattle.pp_model.specs.SpliceList.{after_marks, outermost_line}
-use Rattle.pp_model.specs.Painting.{unpainted, taken_among}
+use Rattle.pp_model.specs.Painting.{read_in, taken_among}
 use Rattle.pp_model.specs.Reading.{Reading, Expander, masked_names}
 use Rattle.pp_model.specs.declared.read.Read.{Read}
 use Rattle.pp_model.specs.declared.read.Taken.{Taken}
@@ -15,16 +16,17 @@ use Rattle.pp_model.specs.declared.splice.Entry.{Entry}
 use Rattle.pp_model.specs.declared.splice.Entry.TheVariants.{Plain}
 
 -- a line number at this place, or the fault of one that is out of range
-abbrev pub line_number : Location → Option IntegerLiteral → Taken
-line_number location (Some number) =
-    taken.Token (unpainted (record { value = Integer number; location = location }))
-line_number location None = taken.Fault (LineOverflow, location)
+abbrev pub line_number : Place → Option IntegerLiteral → Taken
+line_number place (Some number) =
+    taken.Token (read_in place.text (record { value = Integer number; location = place.location }))
+line_number place None = taken.Fault (LineOverflow, place)
 
 -- `__LINE__` becomes a number at once: from the line of the outermost open macro, or otherwise from its own
 abbrev pub shown_token : (ℕ → Option IntegerLiteral) → List Entry → Read → Taken
 shown_token shown_line after read =
     if is_identifier line_name read.token.value
-    then line_number read.token.location (shown_line (unwrap_or (outermost_line after) read.token.location.line))
+    then line_number (place_of read)
+    (shown_line (unwrap_or (outermost_line after) read.token.location.line))
     else taken.Token read
 
 -- what the reader gives, with `__LINE__` as a number

@@ -6,7 +6,6 @@ ghost use Rattle.pp_lexer.specs.declared.lexer.item.TokenValue.TheVariants.{NewL
 ghost use Rattle.pp_model.specs.Conversions.{conversion, refused_token};
 
 use crate::outcome::Fault;
-use crate::word::unexpected;
 use pp_lexer::lexer;
 use pp_lexer::token::{Location, PreprocessorError, Token, TokenValue};
 
@@ -39,7 +38,10 @@ pub fn refused_token(token: lexer::Token) -> Fault
         return (PreprocessorError::UnexpectedNewLine, token.location);
     }
     match convert_lexer_token(token) {
-        Ok(token) => unexpected(token),
+        Ok(token) => (
+            PreprocessorError::UnexpectedToken(token.value),
+            token.location,
+        ),
         Err(fault) => fault,
     }
 }

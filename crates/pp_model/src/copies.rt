@@ -2,7 +2,7 @@
 
 ghost use Rattle.std.specs.Prelude.{◌≡◌, IfOk};
 
-use crate::outcome::Fault;
+use crate::place::PlacedFault;
 use crate::read::Read;
 use pp_lexer::token::Token;
 use std::alloc::{AllocError, Global};
@@ -23,12 +23,13 @@ pub fn copy_read(alloc: Global, read: &Read) -> Result<Read, AllocError>
 {
     Ok(Read {
         token: copy_token(alloc, &read.token)?,
+        text: read.text,
         painted: read.painted,
     })
 }
 
 /// Returns a copy of a fault. The error is that an allocation failed.
-pub fn copy_fault(alloc: Global, fault: &Fault) -> Result<Fault, AllocError>
+pub fn copy_fault(alloc: Global, fault: &PlacedFault) -> Result<PlacedFault, AllocError>
     ensures { IfOk result (λ copy. copy ≡ fault.now) }
 {
     match fault.0.clone(alloc) {

@@ -37,6 +37,8 @@ pub struct Definition {
     pub parameters: Vec<Text>,
     /// The tokens that replace it.
     pub body: Vec<Token>,
+    /// The number of the text in which their places are.
+    pub text: u32,
 }
 
 impl Model for Definition {
@@ -48,6 +50,7 @@ impl Model for Definition {
       function_like = d.function_like;
       parameters = d.parameters.items;
       body = d.body.items;
+      text = d.text;
     } };
 }
 

@@ -15,6 +15,7 @@ pub mod names;
 pub mod numbering;
 pub mod outcome;
 pub mod parentheses;
+pub mod place;
 pub mod read;
 pub mod sight;
 pub mod splice;

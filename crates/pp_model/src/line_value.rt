@@ -7,9 +7,9 @@ ghost use Rattle.pp_model.specs.LineValues.{TakesExpression, ended_early, line_o
 ghost use Rattle.pp_model.specs.LineValues.{word_from_end, words_after};
 ghost use Rattle.pp_model.specs.inner.LineValues.{fault_of_operand, reported_fault};
 
-use crate::copies::{copy_fault, copy_token};
-use crate::outcome::Fault;
-use crate::word::{Word, Words};
+use crate::copies::{copy_fault, copy_read};
+use crate::place::{Place, PlacedFault};
+use crate::word::{Word, Words, unexpected};
 use pp_expression::evaluator::evaluate;
 use pp_expression::symbol::{ExpressionFault, Found, Symbol, Value};
 use pp_lexer::token::{Location, PreprocessorError, Text, TokenValue};
@@ -20,7 +20,7 @@ fn symbol_of(word: &Word) -> Symbol
     ensures { result ≡ symbol_of word.now }
 {
     match word {
-        Word::Plain(token) => match &token.value {
+        Word::Plain(read) => match &read.token.value {
             TokenValue::Integer(integer) => Symbol::Number(integer.value),
             TokenValue::Punct(punct) => Symbol::Punct(*punct),
             _ => Symbol::Other,
@@ -60,34 +60,35 @@ fn word_from_end(words: &Words, left: usize) -> Option<&Word>
 /// Returns the fault of a word that the grammar doesn't allow at its position.
 ///
 /// The only error is that an allocation failed.
-pub fn unwanted_word(alloc: Global, word: &Word) -> Result<Fault, AllocError>
+pub fn unwanted_word(alloc: Global, word: &Word) -> Result<PlacedFault, AllocError>
     ensures { IfOk result (λ fault. fault ≡ unwanted_word word.now) }
 {
     match word {
-        Word::Plain(token) => {
-            let copy = copy_token(alloc, token)?;
-            Ok((
-                PreprocessorError::UnexpectedToken(copy.value),
-                copy.location,
-            ))
-        }
-        Word::Defined(location, _) => {
+        Word::Plain(read) => Ok(unexpected(copy_read(alloc, read)?)),
+        Word::Defined(place, _) => {
             let name = Text::from(String::from_str(alloc, "defined")?);
             let value = TokenValue::Ident(name);
-            Ok((PreprocessorError::UnexpectedToken(value), *location))
+            Ok((PreprocessorError::UnexpectedToken(value), *place))
         }
     }
 }
 
-// The fault of a line that ends too early.
-fn ended_early(directive: Location) -> Fault
+/// Returns the fault of a line that ends too early, which is at the directive's word.
+pub fn ended_early(directive: Location) -> PlacedFault
     ensures { result ≡ ended_early directive }
 {
-    (PreprocessorError::UnexpectedEndOfInput, directive)
+    (
+        PreprocessorError::UnexpectedEndOfInput,
+        Place::in_source(directive),
+    )
 }
 
 // The fault of the operand of a `defined`, or for any other word that of a line that ends too early.
-fn fault_of_operand(alloc: Global, directive: Location, word: &Word) -> Result<Fault, AllocError>
+fn fault_of_operand(
+    alloc: Global,
+    directive: Location,
+    word: &Word,
+) -> Result<PlacedFault, AllocError>
     ensures { IfOk result (λ fault. fault ≡ fault_of_operand (ended_early directive) word.now) }
 {
     match word {
@@ -102,13 +103,14 @@ fn reported_fault(
     directive: Location,
     words: &Words,
     found: Found,
-) -> Result<Fault, AllocError>
+) -> Result<PlacedFault, AllocError>
     ensures { IfOk result (λ fault. fault ≡ reported_fault directive words.now found) }
 {
+    let place = Place::in_source(directive);
     match found.kind {
-        ExpressionFault::IntegerOverflow => Ok((PreprocessorError::IntegerOverflow, directive)),
-        ExpressionFault::DivisionByZero => Ok((PreprocessorError::DivisionByZero, directive)),
-        ExpressionFault::RemainderByZero => Ok((PreprocessorError::RemainderByZero, directive)),
+        ExpressionFault::IntegerOverflow => Ok((PreprocessorError::IntegerOverflow, place)),
+        ExpressionFault::DivisionByZero => Ok((PreprocessorError::DivisionByZero, place)),
+        ExpressionFault::RemainderByZero => Ok((PreprocessorError::RemainderByZero, place)),
         ExpressionFault::UnexpectedEndOfInput => Ok(ended_early(directive)),
         ExpressionFault::Unexpected => match word_from_end(words, found.left) {
             Some(word) => unwanted_word(alloc, word),
@@ -149,7 +151,7 @@ impl Words {
         &mut self,
         alloc: Global,
         directive: Location,
-    ) -> Result<Result<i64, Fault>, AllocError>
+    ) -> Result<Result<i64, PlacedFault>, AllocError>
         ensures takes { IfOk result (λ taken. TakesExpression directive self.old taken self.new) }
         ensures keeps { IfOk result (λ taken. OnErr taken (self.new ≡ self.old)) }
     {

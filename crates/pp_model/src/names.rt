@@ -7,11 +7,13 @@ ghost use Rattle.pp_model.specs.DefineLines.{own_names, is_own_name};
 
 use pp_lexer::token::{Text, TokenValue};
 
-/// Returns whether the text has these characters.
+/// Returns whether the text has these characters. Most texts have another length, and are not compared.
+#[inline(always)]
 pub fn is_spelled(text: &Text, spelling: &str) -> bool
     ensures { result ≡ is_same_name text.now (chars spelling.now) }
 {
-    text.as_str() == spelling
+    let name = text.as_str();
+    name.len() == spelling.len() && name == spelling
 }
 
 /// Returns whether the token is `__LINE__`.

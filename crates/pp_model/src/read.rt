@@ -1,29 +1,51 @@
 //! Tokens that are taken, and whether they may still open a macro.
 
 ghost use Rattle.std.specs.Prelude.{◌≡◌};
-ghost use Rattle.pp_model.specs.Painting.{unpainted, taken_of, item_of};
+ghost use Rattle.pp_model.specs.Painting.{unpainted, read_in, taken_of, item_of};
+ghost use Rattle.pp_model.specs.Places.{place_of};
 
-use crate::outcome::{Fault, Outcome};
+use crate::outcome::Outcome;
+use crate::place::{Place, PlacedFault, SOURCE_TEXT, placed, unplaced};
 use pp_lexer::token::Token;
 
-/// A token that is read, and whether it is painted. An identifier is painted if its name is open, here or around, when
-/// it is taken. From then on it opens no macro.
+/// A token that is read, the text that it is in, and whether it is painted. An identifier is painted if its name is
+/// open, here or around, when it is taken. From then on it opens no macro.
 #[derive(PartialEq, Eq, Debug, Drop)]
 pub struct Read {
     /// The token.
     pub token: Token,
+    /// The number of the text in which its place is.
+    pub text: u32,
     /// Whether it is painted.
     pub painted: bool,
 }
 
 impl Read {
-    /// Returns the token unpainted, as every token of a source, of a directive's line or of a body begins.
+    /// Returns the token unpainted, as every token of a source and of a directive's line begins.
     pub fn unpainted(token: Token) -> Read
         ensures { result ≡ unpainted token }
     {
+        Read::of_text(token, SOURCE_TEXT)
+    }
+
+    /// Returns a token of this text unpainted, as every token of a body begins.
+    pub fn of_text(token: Token, text: u32) -> Read
+        ensures { result ≡ read_in text token }
+    {
         Read {
             token,
+            text,
             painted: false,
+        }
+    }
+
+    /// Returns its place.
+    pub fn place(&self) -> Place
+        ensures { result ≡ place_of self.now }
+    {
+        Place {
+            location: self.token.location,
+            text: self.text,
         }
     }
 }
@@ -34,7 +56,7 @@ pub enum Taken {
     /// A token, or a `#version`, `#extension` or `#pragma` line.
     Token(Read),
     /// An error.
-    Fault(Fault),
+    Fault(PlacedFault),
     /// The end: nothing is left.
     End,
 }
@@ -46,18 +68,18 @@ impl Taken {
     {
         match outcome {
             Outcome::Token(token) => Taken::Token(Read::unpainted(token)),
-            Outcome::Fault(fault) => Taken::Fault(fault),
+            Outcome::Fault(fault) => Taken::Fault(placed(fault)),
             Outcome::End => Taken::End,
         }
     }
 
-    /// Returns the item, without its paint.
+    /// Returns the item, without its paint and its text.
     pub fn into_item(self) -> Outcome
         ensures { result ≡ item_of self }
     {
         match self {
             Taken::Token(read) => Outcome::Token(read.token),
-            Taken::Fault(fault) => Outcome::Fault(fault),
+            Taken::Fault(fault) => Outcome::Fault(unplaced(fault)),
             Taken::End => Outcome::End,
         }
     }

@@ -6,17 +6,18 @@ ghost use Rattle.pp_model.specs.Names.{is_identifier, defined_name};
 ghost use Rattle.pp_model.specs.WordReadings.{reading_named, unwanted_read, IsOf};
 
 use crate::names::is_defined_name;
-use crate::outcome::Fault;
-use pp_lexer::token::{Integer, Location, PreprocessorError, Token, TokenValue};
+use crate::place::{Place, PlacedFault};
+use crate::read::Read;
+use pp_lexer::token::{Integer, PreprocessorError, Token, TokenValue};
 use std::marker::Model;
 
 /// A word of a line that is evaluated (GLSL ES 3.20 section 3.4).
 #[derive(Drop)]
 pub enum Word {
     /// A token other than an identifier, or the number 0 for an unknown identifier.
-    Plain(Token),
+    Plain(Read),
     /// A `defined` at this place with its operand: whether the name is defined, or the fault of the operand.
-    Defined(Location, Result<bool, Fault>),
+    Defined(Place, Result<bool, PlacedFault>),
 }
 
 /// The words of a line, and the fault that ends their reading, if there is one.
@@ -25,7 +26,7 @@ pub struct Words {
     /// The words.
     pub words: Vec<Word>,
     /// The fault.
-    pub ending: Option<Fault>,
+    pub ending: Option<PlacedFault>,
 }
 
 impl Model for Words {
@@ -38,7 +39,7 @@ impl Model for Words {
 
 impl Words {
     /// Returns these words, with the fault that ends their reading, if there is one.
-    pub fn new(words: Vec<Word>, ending: Option<Fault>) -> Words
+    pub fn new(words: Vec<Word>, ending: Option<PlacedFault>) -> Words
         ensures { result ≡ record { words = words.items; ending = ending } }
     {
         Words { words, ending }
@@ -58,19 +59,19 @@ pub enum LineKind {
 #[derive(Drop)]
 pub enum WordReading {
     /// The operator `defined`, as the token that it was read from.
-    Operator(Token),
+    Operator(Read),
     /// A word.
-    Word(Token),
+    Word(Read),
     /// The fault of an unknown name in a line that allows none.
-    Refused(Fault),
+    Refused(PlacedFault),
 }
 
 /// Returns the fault of a token that the grammar doesn't allow at its place.
-pub fn unexpected(token: Token) -> Fault
-    ensures { result ≡ unexpected token }
+pub fn unexpected(read: Read) -> PlacedFault
+    ensures { result ≡ unexpected read }
 {
-    let Token { value, location } = token;
-    (PreprocessorError::UnexpectedToken(value), location)
+    let place = read.place();
+    (PreprocessorError::UnexpectedToken(read.token.value), place)
 }
 
 // Whether the token is the identifier `defined`.
@@ -91,46 +92,49 @@ fn is_name(value: &TokenValue) -> bool
 }
 
 // What an unknown identifier of a line is read as.
-fn unknown_name(kind: LineKind, token: Token) -> WordReading
-    ensures { unknown_name kind token ≡ reading_named result }
+fn unknown_name(kind: LineKind, read: Read) -> WordReading
+    ensures { unknown_name kind read ≡ reading_named result }
 {
     match kind {
         LineKind::Condition => {
-            let location = token.location;
-            drop(token);
-            WordReading::Word(Token {
-                value: TokenValue::Integer(Integer {
-                    value: 0,
-                    signed: true,
-                    width: 64,
-                }),
-                location,
+            let zero = TokenValue::Integer(Integer {
+                value: 0,
+                signed: true,
+                width: 64,
+            });
+            WordReading::Word(Read {
+                token: Token {
+                    value: zero,
+                    location: read.token.location,
+                },
+                text: read.text,
+                painted: read.painted,
             })
         }
-        LineKind::LineNumber => WordReading::Refused(unexpected(token)),
+        LineKind::LineNumber => WordReading::Refused(unexpected(read)),
     }
 }
 
 /// Returns what a token of an expanded line is read as.
-pub fn reading_of(kind: LineKind, token: Token) -> WordReading
-    ensures reads { reading kind token ≡ reading_named result }
-    ensures whole { IsOf token result }
+pub fn reading_of(kind: LineKind, read: Read) -> WordReading
+    ensures reads { reading kind read ≡ reading_named result }
+    ensures whole { IsOf read result }
 {
-    if is_operator(&token.value) {
-        WordReading::Operator(token)
-    } else if is_name(&token.value) {
-        unknown_name(kind, token)
+    if is_operator(&read.token.value) {
+        WordReading::Operator(read)
+    } else if is_name(&read.token.value) {
+        unknown_name(kind, read)
     } else {
-        WordReading::Word(token)
+        WordReading::Word(read)
     }
 }
 
 /// Returns the fault of what was read in place of the operand or of a parenthesis of a `defined`.
-pub fn unwanted_reading(read: WordReading) -> Fault
+pub fn unwanted_reading(read: WordReading) -> PlacedFault
     ensures { result ≡ unwanted_read read }
 {
     match read {
-        WordReading::Operator(token) => unexpected(token),
+        WordReading::Operator(operator) => unexpected(operator),
         WordReading::Word(word) => unexpected(word),
         WordReading::Refused(fault) => fault,
     }

@@ -9,7 +9,7 @@ use Rattle.pp_model.specs.Acts.{Acted, act}
 use Rattle.pp_model.specs.inner.Acts.{after_line}
 use Rattle.pp_model.specs.Reads.{Defines, Steps}
 use Rattle.pp_model.specs.declared.definition.Named.{Named}
-use Rattle.pp_model.specs.declared.outcome.Outcome.{Outcome}
+use Rattle.pp_model.specs.declared.read.Taken.{Taken}
 use Rattle.pp_model.specs.declared.step.Step.{Step}
 use Rattle.pp_model.specs.declared.step.Step.TheVariants as step
 use Rattle.pp_reference.specs.inner.Acting.{Deciding, Renumbering}
@@ -19,7 +19,7 @@ use Rattle.pp_model.proofs.RedefinitionLemmas.{define_leaves}
 abbrev pub comes : Step → SourceReader → Acted
 comes s after = record { step = s; after = after }
 
-pub step_defines : (A : Answers) (r after : SourceReader) (named : Named) (o : Option Outcome) (t : SourceReader) → act r ≡ comes (step.Defines named) after
+pub step_defines : (A : Answers) (r after : SourceReader) (named : Named) (o : Option Taken) (t : SourceReader) → act r ≡ comes (step.Defines named) after
     → Defines named (after.definitions named.name) after o t → Steps A r o t
 step_defines A r after named o t e by =
     let left : (act r).after.definitions ≡ r.definitions = define_leaves r named (ap (λ (a : Acted). a.step) e) in
@@ -27,14 +27,14 @@ step_defines A r after named o t e by =
     act_does A (step.Defines named) after r o t e (rw (ap (λ (d : Definitions). d named.name) same) at by)
 
 -- a line whose value is wanted is passed once that is known
-pub step_decides : (A : Answers) (r after : SourceReader) (word : Location) (tokens : List Token) (o : Option Outcome) (t : SourceReader)
+pub step_decides : (A : Answers) (r after : SourceReader) (word : Location) (tokens : List Token) (o : Option Taken) (t : SourceReader)
     → act r ≡ comes (step.Condition word tokens) (after_line after) → after ≡ r → Deciding A word tokens after o t → Steps A r o t
 step_decides A r after word tokens o t e same by =
     let did = step.Condition word tokens in
     let there : Deciding A word tokens r o t = subst (λ (x : SourceReader). Deciding A word tokens x o t) same by in
     act_does A did (after_line r) r o t (e ∙ ap (λ (x : SourceReader). comes did (after_line x)) same) (there.result, there.is, there.comes)
 
-pub step_renumbers : (A : Answers) (r after : SourceReader) (word : Location) (tokens : List Token) (o : Option Outcome) (t : SourceReader)
+pub step_renumbers : (A : Answers) (r after : SourceReader) (word : Location) (tokens : List Token) (o : Option Taken) (t : SourceReader)
     → act r ≡ comes (step.LineNumber word tokens) (after_line after) → after ≡ r → Renumbering A word tokens after o t → Steps A r o t
 step_renumbers A r after word tokens o t e same by =
     let did = step.LineNumber word tokens in

@@ -1,12 +1,13 @@
 -- What a turn of an expander does for its next item.
 use Rattle.std.proofs.Common.{◌≡◌, ℕ, List, refl, sym, ◌∙◌, subst}
 use Rattle.std.specs.Prelude.{Option, Some, None, Result, Ok, Err, true}
-use Rattle.pp_lexer.specs.declared.token.Location.{Location}
+use Rattle.pp_model.specs.declared.place.Place.{Place}
+use Rattle.pp_model.specs.Places.{PlacedFault}
 use Rattle.pp_model.specs.Names.{Name}
 use Rattle.pp_model.specs.Definitions.{Definitions}
 use Rattle.pp_model.specs.Reading.{Reading, Expander, Opening, opening, masked_names}
 use Rattle.pp_model.specs.Taking.{Takes}
-use Rattle.pp_model.specs.Calls.{Fault, Answers, Gathered, Gathers, arguments_of, paren_at, site_of, Calls}
+use Rattle.pp_model.specs.Calls.{Answers, Gathered, Gathers, arguments_of, paren_at, site_of, Calls}
 use Rattle.pp_model.specs.Calls as calls
 use Rattle.pp_model.specs.Emitting.{Emits, with_macro, Collects}
 use Rattle.pp_model.specs.Emitting as emitting
@@ -27,7 +28,7 @@ site_at I e site = record { paren = site.paren; arguments = site.arguments; numb
 
 -- what a call goes on to, for each answer to it
 pub record Goes {S : Type 0} (I : Reading S) (A : Answers) (e : Expander S) (call : MacroCall) (f : Expander S) : Type 0 where
-  pub refused : (fault : Fault) → A call.opening.definition (site_at I f call.site) (Err fault) → Emits I A e (taken.Fault fault) f
+  pub refused : (fault : PlacedFault) → A call.opening.definition (site_at I f call.site) (Err fault) → Emits I A e (taken.Fault fault) f
   pub fits : (arguments : List (List Read)) → A call.opening.definition (site_at I f call.site) (Ok arguments) → (o : Taken) (q : Expander S)
       → Emits I A (with_macro call.opening call.site.line arguments f) o q → Emits I A e o q
 
@@ -38,15 +39,15 @@ Means {S} I A e Replaced f = (o : Taken) (q : Expander S) → Emits I A f o q �
 Means I A e (Called call) f = Goes I A e call f
 
 -- a name without a call after it
-pub no_call : {S : Type 0} (I : Reading S) (A : Answers) (x : Taken) (m : Opening) (e f g : Expander S) (p : Option Location) → Takes I e x f
+pub no_call : {S : Type 0} (I : Reading S) (A : Answers) (x : Taken) (m : Opening) (e f g : Expander S) (p : Option Place) → Takes I e x f
     → opening I f x ≡ Some m → m.definition.function_like ≡ true → TakesParen I f p g → p ≡ None → Emits I A e x g
 no_call I A x m e f g p t w k (none o _ _ u _ takes at is keeps) n =
     emitting.name_alone x o x m e f u g t w k (calls.alone o f u _ takes at refl) refl keeps
 no_call I A x m e f g p t w k (some o paren _ _ _ takes at is) n = cc
 
 -- a call that does not end
-pub ended_call : {S : Type 0} (I : Reading S) (A : Answers) (x : Taken) (m : Opening) (paren : Location) (fault : Fault) (e f g h : Expander S)
-    (p : Option Location) → Takes I e x f → opening I f x ≡ Some m → m.definition.function_like ≡ true → TakesParen I f p g → p ≡ Some paren
+pub ended_call : {S : Type 0} (I : Reading S) (A : Answers) (x : Taken) (m : Opening) (paren : Place) (fault : PlacedFault) (e f g h : Expander S)
+    (p : Option Place) → Takes I e x f → opening I f x ≡ Some m → m.definition.function_like ≡ true → TakesParen I f p g → p ≡ Some paren
     → Gathers I 0 paren g (Err fault) h → Emits I A e (taken.Fault fault) h
 ended_call I A x m paren fault e f g h p t w k (none o _ _ u _ takes at is keeps) n gathers = cc
 ended_call I A x m paren fault e f g h p t w k (some o paren' _ _ _ takes at is) n gathers =
@@ -55,8 +56,8 @@ ended_call I A x m paren fault e f g h p t w k (some o paren' _ _ _ takes at is)
 
 -- a call that ends, for each answer to it
 pub whole_call : {S : Type 0} (I : Reading S)
-    (A : Answers) (m : Opening) (paren : Location) (gathered : Gathered) (answer : Result (List (List Read)) Fault) (f g h : Expander S)
-    (p : Option Location) → TakesParen I f p g → p ≡ Some paren → Gathers I 0 paren g (Ok gathered) h
+    (A : Answers) (m : Opening) (paren : Place) (gathered : Gathered) (answer : Result (List (List Read)) PlacedFault) (f g h : Expander S)
+    (p : Option Place) → TakesParen I f p g → p ≡ Some paren → Gathers I 0 paren g (Ok gathered) h
     → A m.definition (site_of I h paren gathered.tokens) answer → Calls I A m.definition f (calls.called_by gathered.closing.line answer) h
 whole_call I A m paren gathered answer f g h p (none o _ _ u _ takes at is keeps) n gathers a = cc
 whole_call I A m paren gathered answer f g h p (some o paren' _ _ _ takes at is) n gathers a =
@@ -68,7 +69,7 @@ pub whole_goes : {S : Type 0} (I : Reading S) (A : Answers) (x : Taken) (m : Ope
     → Gathers I 0 site.paren g (Ok gathered) h → site.line ≡ gathered.closing.line → site.arguments ≡ arguments_of gathered.tokens
     → Goes I A e (record { opening = m; site = site }) h
 whole_goes {S} I A x m site gathered e f g h t w k paren gathers line cut =
-    let at : (answer : Result (List (List Read)) Fault) → A m.definition (site_at I h site) answer
+    let at : (answer : Result (List (List Read)) PlacedFault) → A m.definition (site_at I h site) answer
     → A m.definition (site_of I h site.paren gathered.tokens) answer =
     λ answer a.
     subst (λ (arguments : List (List Read)). A m.definition
@@ -107,7 +108,7 @@ turns_mean I A t e g (opens x m _ _ f _ takes w at) = turns_at_mean I A x m t e 
 
 -- the answer that is known for these names is the call's
 pub answer_known : {S : Type 0} (I : Reading S) (A : Answers) (e : Expander S) (call : MacroCall) (numbering : Numbering)
-    (visible : Definitions) (around : List Name) (answer : Result (List (List Read)) Fault) → numbering ≡ I.numbering e.reader
+    (visible : Definitions) (around : List Name) (answer : Result (List (List Read)) PlacedFault) → numbering ≡ I.numbering e.reader
     → visible ≡ I.visible e.reader → around ≡ masked_names e
     → A call.opening.definition (record {
       paren = call.site.paren;
@@ -120,17 +121,17 @@ pub answer_known : {S : Type 0} (I : Reading S) (A : Answers) (e : Expander S) (
 answer_known I A e call numbering visible around answer n v h a = rw (← n, ← v, ← h) a
 
 -- a call whose answer is a fault
-pub resolves_fault : {S : Type 0} (I : Reading S) (A : Answers) (e f h : Expander S) (call : MacroCall) (answer : Result (List (List Read)) Fault)
-    (fault : Fault) → Goes I A e call f → A call.opening.definition (site_at I f call.site) answer → Resolves call answer f (Some fault) h
+pub resolves_fault : {S : Type 0} (I : Reading S) (A : Answers) (e f h : Expander S) (call : MacroCall) (answer : Result (List (List Read)) PlacedFault)
+    (fault : PlacedFault) → Goes I A e call f → A call.opening.definition (site_at I f call.site) answer → Resolves call answer f (Some fault) h
     → Emits I A e (taken.Fault fault) h
 resolves_fault I A e f h call (Ok arguments) fault goes a r = let never : Some fault ≡ None = r.0 in cc
 resolves_fault {S} I A e f h call (Err found) fault goes a r =
     let same : fault ≡ found = (let is : Some fault ≡ Some found = r.0 in cc) in
     subst (λ (x : Expander S). Emits I A e (taken.Fault fault) x) (sym r.1)
-    (subst (λ (x : Fault). Emits I A e (taken.Fault x) f) (sym same) (goes.refused found a))
+    (subst (λ (x : PlacedFault). Emits I A e (taken.Fault x) f) (sym same) (goes.refused found a))
 
 -- a call that is replaced
-pub resolves_next : {S : Type 0} (I : Reading S) (A : Answers) (e f h : Expander S) (call : MacroCall) (answer : Result (List (List Read)) Fault)
+pub resolves_next : {S : Type 0} (I : Reading S) (A : Answers) (e f h : Expander S) (call : MacroCall) (answer : Result (List (List Read)) PlacedFault)
     → Goes I A e call f → A call.opening.definition (site_at I f call.site) answer → Resolves call answer f None h → (o : Taken) (q : Expander S)
     → Emits I A h o q → Emits I A e o q
 resolves_next {S} I A e f h call (Ok arguments) goes a r o q next =

@@ -8,6 +8,7 @@ use crate::lists::{ReadList, ReadLists};
 use pp_lexer::token::{Location, PreprocessorError};
 use pp_model::definition::Definition;
 use pp_model::parentheses::{ends_argument, is_left_paren, nesting_after};
+use pp_model::place::Place;
 use pp_model::read::{Read, Taken};
 use std::alloc::{AllocError, Global};
 use std::marker::Model;
@@ -30,11 +31,11 @@ impl Model for Gathered {
 }
 
 /// The place of the `(`, if what was taken is one.
-pub fn paren_at(taken: &Taken) -> Option<Location>
+pub fn paren_at(taken: &Taken) -> Option<Place>
     ensures { result ≡ paren_at taken.now }
 {
     match taken {
-        Taken::Token(read) if is_left_paren(&read.token.value) => Some(read.token.location),
+        Taken::Token(read) if is_left_paren(&read.token.value) => Some(read.place()),
         _ => None,
     }
 }

@@ -4,26 +4,32 @@ ghost use Rattle.std.specs.Prelude.{◌≡◌, ◌≤◌, slice_get, IfOk};
 ghost use Rattle.pp_reference.specs.inner.Changes.{meaning_of};
 ghost use Rattle.pp_model.specs.Emitting.{answers_at};
 ghost use Rattle.pp_model.specs.LineValues.{IsAlone, IsCondition, IsLineNumber};
-ghost use Rattle.pp_reference.specs.inner.Halting.{Satisfies};
 
 use crate::definitions::Definitions;
 use crate::line_words::line_words;
-use crate::stop::{Budget, Halt};
+use crate::stop::{Budget, Stop};
 use pp_lexer::token::{Location, PreprocessorError};
 use pp_model::definition::TokenList;
 use pp_model::line_value::unwanted_word;
 use pp_model::numbering::{Numbering, as_line_number};
+use pp_model::place::{Place, PlacedFault};
 use pp_model::word::{LineKind, Words};
 use std::alloc::Global;
 
 // The value of the words, which are one expression, or their first fault.
-fn value_alone(alloc: Global, directive: Location, words: &mut Words) -> Result<i64, Halt>
-    ensures { Satisfies result (IsAlone directive words.old (λ value. value)) }
+fn value_alone(
+    alloc: Global,
+    directive: Location,
+    words: &mut Words,
+) -> Result<Result<i64, PlacedFault>, Stop>
+    ensures { IfOk result (λ answer. IsAlone directive words.old (λ value. value) answer) }
 {
-    let value = words.take_expression(alloc, directive)??;
-    match words.peek() {
-        Some(word) => Err(Halt::Fault(unwanted_word(alloc, word)?)),
-        None => Ok(value),
+    match words.take_expression(alloc, directive)? {
+        Ok(value) => match words.peek() {
+            Some(word) => Ok(Err(unwanted_word(alloc, word)?)),
+            None => Ok(Ok(value)),
+        },
+        Err(fault) => Ok(Err(fault)),
     }
 }
 
@@ -36,9 +42,9 @@ pub fn condition(
     definitions: &Definitions,
     levels: u32,
     budget: &mut Budget,
-) -> Result<bool, Halt>
-    ensures reads { Satisfies result (IsCondition (answers_at levels) directive tokens
-        numbering (meaning_of definitions.now)) }
+) -> Result<Result<bool, PlacedFault>, Stop>
+    ensures reads { IfOk result (λ answer. IsCondition (answers_at levels) directive tokens
+        numbering (meaning_of definitions.now) answer) }
     ensures budget { budget.new.steps ≤ budget.old.steps }
 {
     let kind = LineKind::Condition;
@@ -52,8 +58,10 @@ pub fn condition(
         levels,
         budget,
     )?;
-    let value = value_alone(alloc, directive, &mut words)?;
-    Ok(value != 0)
+    match value_alone(alloc, directive, &mut words)? {
+        Ok(value) => Ok(Ok(value != 0)),
+        Err(fault) => Ok(Err(fault)),
+    }
 }
 
 /// The line number of a `#line`, or its first fault.
@@ -65,9 +73,9 @@ pub fn line_number(
     definitions: &Definitions,
     levels: u32,
     budget: &mut Budget,
-) -> Result<u32, Halt>
-    ensures reads { Satisfies result (IsLineNumber (answers_at levels) directive tokens
-        numbering (meaning_of definitions.now)) }
+) -> Result<Result<u32, PlacedFault>, Stop>
+    ensures reads { IfOk result (λ answer. IsLineNumber (answers_at levels) directive tokens
+        numbering (meaning_of definitions.now) answer) }
     ensures budget { budget.new.steps ≤ budget.old.steps }
 {
     let kind = LineKind::LineNumber;
@@ -81,13 +89,18 @@ pub fn line_number(
         levels,
         budget,
     )?;
-    let value = words.take_expression(alloc, directive)??;
+    let value = match words.take_expression(alloc, directive)? {
+        Ok(value) => value,
+        Err(fault) => return Ok(Err(fault)),
+    };
     let Some(number) = as_line_number(value) else {
-        return Err(Halt::Fault((PreprocessorError::LineOverflow, directive)));
+        return Ok(Err((PreprocessorError::LineOverflow, Place::in_source(directive))));
     };
     if words.peek().is_none() {
-        return Ok(number);
+        return Ok(Ok(number));
     }
-    value_alone(alloc, directive, &mut words)?;
-    Ok(number)
+    match value_alone(alloc, directive, &mut words)? {
+        Ok(_) => Ok(Ok(number)),
+        Err(fault) => Ok(Err(fault)),
+    }
 }

@@ -1,10 +1,11 @@
-//! Copies of lists of tokens, of names and of definitions.
+//! Copies of lists of tokens, of names and of definitions, and of errors.
 
 ghost use Rattle.std.specs.Prelude.{◌≡◌, IfOk};
 
 use pp_lexer::token::{Text, Token};
 use pp_model::copies::{copy_read, copy_token};
 use pp_model::definition::Definition;
+use pp_model::outcome::Fault;
 use pp_model::read::Read;
 use std::alloc::{AllocError, Global};
 
@@ -49,5 +50,16 @@ pub fn copy_definition(alloc: Global, definition: &Definition) -> Result<Definit
         function_like: definition.function_like,
         parameters: copy_names(alloc, &definition.parameters)?,
         body: copy_tokens(alloc, &definition.body)?,
+        text: definition.text,
     })
+}
+
+/// A copy of an error of the lexer.
+pub fn copy_fault(alloc: Global, fault: &Fault) -> Result<Fault, AllocError>
+    ensures { IfOk result (λ copy. copy ≡ fault.now) }
+{
+    match fault.0.clone(alloc) {
+        Ok(error) => Ok((error, fault.1)),
+        Err(_) => Err(AllocError),
+    }
 }

@@ -22,6 +22,7 @@ use pp_lexer::rules::Rules;
 use pp_lexer::token::{Location, PreprocessorError, Text, TokenValue};
 use pp_model::definition::{Definition, Named, Placed};
 use pp_model::names::is_own_name;
+use pp_model::place::SOURCE_TEXT;
 use std::alloc::Global;
 use std::marker::Model;
 
@@ -154,6 +155,7 @@ fn definition_at(alloc: Global, word: Location, items: &[SourceItem]) -> Result<
             function_like: false,
             parameters: Vec::new(alloc),
             body: body.items,
+            text: SOURCE_TEXT,
         });
     }
     let list = parameters(alloc, word, after_first_token(items))?;
@@ -162,6 +164,7 @@ fn definition_at(alloc: Global, word: Location, items: &[SourceItem]) -> Result<
         function_like: true,
         parameters: list.names.items,
         body: body.items,
+        text: SOURCE_TEXT,
     })
 }
 

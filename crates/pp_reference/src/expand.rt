@@ -16,7 +16,7 @@ use crate::reader::{ArgumentReader, Reader};
 use crate::stop::{Budget, Stop};
 use pp_lexer::token::{PreprocessorError, Text};
 use pp_model::numbering::Numbering;
-use pp_model::outcome::Fault;
+use pp_model::place::PlacedFault;
 use pp_model::read::{Read, Taken};
 use std::alloc::{AllocError, Global};
 
@@ -41,7 +41,7 @@ pub fn answer(
     hidden: &[Text],
     levels: u32,
     budget: &mut Budget,
-) -> Result<Result<ReadLists, Fault>, Stop>
+) -> Result<Result<ReadLists, PlacedFault>, Stop>
     ensures answers { IfOk result (λ answer. answers_at levels call.now.opening.definition
         (record {
           paren = call.now.site.paren;
@@ -81,7 +81,7 @@ pub fn expand_arguments(
     hidden: &[Text],
     levels: u32,
     budget: &mut Budget,
-) -> Result<Result<ReadLists, Fault>, Stop>
+) -> Result<Result<ReadLists, PlacedFault>, Stop>
     ensures each { IfOk result (λ answer. Each (Alone levels) numbering
         (meaning_of visible.now) hidden.now arguments.now answer) }
     ensures budget { budget.new.steps ≤ budget.old.steps }
@@ -114,7 +114,7 @@ pub fn expand_argument(
     hidden: &[Text],
     levels: u32,
     budget: &mut Budget,
-) -> Result<Result<ReadList, Fault>, Stop>
+) -> Result<Result<ReadList, PlacedFault>, Stop>
     ensures alone { IfOk result (λ expanded. Alone levels tokens.now numbering
         (meaning_of visible.now) hidden.now expanded) }
     ensures budget { budget.new.steps ≤ budget.old.steps }
@@ -132,7 +132,7 @@ fn collect(
     expander: &mut Expander<ArgumentReader<'_>>,
     levels: u32,
     budget: &mut Budget,
-) -> Result<Result<ReadList, Fault>, Stop>
+) -> Result<Result<ReadList, PlacedFault>, Stop>
     ensures collects { IfOk result (λ expanded. Collects argument_reading (answers_at levels)
         (seen list_state expander.old) expanded) }
     ensures budget { budget.new.steps ≤ budget.old.steps }
@@ -174,7 +174,7 @@ fn answer_alone(
     call: &MacroCall,
     levels: u32,
     budget: &mut Budget,
-) -> Result<Result<ReadLists, Fault>, Stop>
+) -> Result<Result<ReadLists, PlacedFault>, Stop>
     ensures answers { IfOk result (λ answer. answers_at levels call.now.opening.definition
         (record {
           paren = call.now.site.paren;
@@ -236,7 +236,7 @@ fn answer_in<R: Reader>(
     call: &MacroCall,
     levels: u32,
     budget: &mut Budget,
-) -> Result<Result<ReadLists, Fault>, Stop>
+) -> Result<Result<ReadLists, PlacedFault>, Stop>
     ensures answers { IfOk result (λ answer. answers_at levels call.now.opening.definition
         (record {
           paren = call.now.site.paren;

@@ -16,12 +16,12 @@ use crate::lists::ReadLists;
 use crate::names::is_among;
 use crate::reader::Reader;
 use crate::stop::{Budget, Stop};
-use pp_lexer::token::{Integer, Location, PreprocessorError, Text, Token, TokenValue};
+use pp_lexer::token::{Integer, PreprocessorError, Text, Token, TokenValue};
 use pp_model::copies::copy_token;
 use pp_model::definition::Definition;
 use pp_model::names::is_line_name;
-use pp_model::outcome::Fault;
 use pp_model::parentheses::{Nesting, nesting_of};
+use pp_model::place::{Place, PlacedFault};
 use pp_model::read::{Read, Taken};
 use pp_model::splice::{CallPlace, Entry};
 use std::alloc::{AllocError, Global};
@@ -30,6 +30,8 @@ use std::marker::Model;
 /// A token that opens a macro.
 #[derive(Drop)]
 pub struct Opening {
+    /// The number of the text that the token is in.
+    pub text: u32,
     /// The token.
     pub token: Token,
     /// Its name.
@@ -43,14 +45,19 @@ impl Model for Opening {
 
     ghost Value = { spec.Opening };
 
-    ghost view = { λ m. record { token = m.token; name = m.name; definition = m.definition } };
+    ghost view = { λ m. record {
+      text = m.text;
+      token = m.token;
+      name = m.name;
+      definition = m.definition;
+    } };
 }
 
 /// The parentheses of a call, whose `)` has been taken.
 #[derive(Drop)]
 pub struct Site {
     /// The place of the `(`.
-    pub paren: Location,
+    pub paren: Place,
     /// The line of the `)`.
     pub line: u32,
     /// The arguments, as they were read.
@@ -63,7 +70,7 @@ pub enum AfterName {
     /// No `(`.
     NoCall,
     /// A call with a fault before its `)`.
-    Broken(Fault),
+    Broken(PlacedFault),
     /// A call.
     Whole(Site),
 }
@@ -106,15 +113,20 @@ pub struct Expander<R> {
 /// A token that opens a macro, copied.
 fn opening_of(
     alloc: Global,
-    token: &Token,
+    read: &Read,
     name: &Text,
     definition: &Definition,
 ) -> Result<Opening, AllocError>
-    ensures { IfOk result (λ opening. opening
-        ≡ record { token = token.now; name = name.now; definition = definition.now }) }
+    ensures { IfOk result (λ opening. opening ≡ record {
+      text = read.now.text;
+      token = read.now.token;
+      name = name.now;
+      definition = definition.now;
+    }) }
 {
     Ok(Opening {
-        token: copy_token(alloc, token)?,
+        text: read.text,
+        token: copy_token(alloc, &read.token)?,
         name: name.try_clone(alloc)?,
         definition: copy_definition(alloc, definition)?,
     })
@@ -135,16 +147,17 @@ fn line_of(opening: &Opening) -> u32
     opening.token.location.line
 }
 
-/// A line number at this place.
-fn line_number(location: Location, shown: Option<Integer>) -> Taken
-    ensures { result ≡ line_number location shown }
+/// A line number at this place, in place of the token there.
+fn line_number(place: Place, shown: Option<Integer>) -> Taken
+    ensures { result ≡ line_number place shown }
 {
     match shown {
-        Some(number) => Taken::Token(Read::unpainted(Token {
-            value: TokenValue::Integer(number),
-            location,
-        })),
-        None => Taken::Fault((PreprocessorError::LineOverflow, location)),
+        Some(number) => {
+            let value = TokenValue::Integer(number);
+            let location = place.location;
+            Taken::Token(Read::of_text(Token { value, location }, place.text))
+        }
+        None => Taken::Fault((PreprocessorError::LineOverflow, place)),
     }
 }
 
@@ -153,12 +166,11 @@ fn shown_token<R: Reader>(reader: &R, after: &[Entry], read: Read) -> Taken
     ensures { result ≡ shown_token (R.reading.shown_line (R.state reader.now)) after.now read }
 {
     if is_line_name(&read.token.value) {
-        let location = read.token.location;
         let line = match outermost_call(after) {
             Some(call) => call.line,
-            None => location.line,
+            None => read.token.location.line,
         };
-        line_number(location, reader.shown_line(line))
+        line_number(read.place(), reader.shown_line(line))
     } else {
         Taken::Token(read)
     }
@@ -192,6 +204,7 @@ fn painted_among(names: &[Text], read: Read) -> Read
     let painted = read.painted || is_one_of(names, &read.token.value);
     Read {
         token: read.token,
+        text: read.text,
         painted,
     }
 }
@@ -306,7 +319,7 @@ impl<R: Reader> Expander<R> {
         let Some(definition) = self.reader.visible().find(name) else {
             return Ok(None);
         };
-        Ok(Some(opening_of(self.alloc, &read.token, name, definition)?))
+        Ok(Some(opening_of(self.alloc, read, name, definition)?))
     }
 
     /// Puts a macro's replacement before the list.
@@ -320,12 +333,14 @@ impl<R: Reader> Expander<R> {
             ≡ with_macro opening line arguments.now (seen R.state self.old)) }
     {
         let Opening {
+            text,
             token,
             name,
             definition,
         } = opening;
         let call = CallPlace {
             name: token.location,
+            text,
             line,
         };
         list::splice(
@@ -342,8 +357,8 @@ impl<R: Reader> Expander<R> {
     pub fn resolve(
         &mut self,
         call: MacroCall,
-        answer: Result<ReadLists, Fault>,
-    ) -> Result<Option<Fault>, AllocError>
+        answer: Result<ReadLists, PlacedFault>,
+    ) -> Result<Option<PlacedFault>, AllocError>
         ensures { IfOk result (λ fault. Resolves call answer (seen R.state self.old) fault
             (seen R.state self.new)) }
     {
@@ -366,9 +381,9 @@ impl<R: Reader> Expander<R> {
     /// The tokens up to the `)` of a call whose `(` is at `paren`, or the first fault before it.
     pub fn gather(
         &mut self,
-        paren: Location,
+        paren: Place,
         budget: &mut Budget,
-    ) -> Result<Result<Gathered, Fault>, Stop>
+    ) -> Result<Result<Gathered, PlacedFault>, Stop>
         ensures gathers { IfOk result (λ gathered. Gathers R.reading 0 paren
             (seen R.state self.old) gathered (seen R.state self.new)) }
         ensures budget { budget.new.steps ≤ budget.old.steps }
@@ -383,13 +398,13 @@ impl<R: Reader> Expander<R> {
                 Taken::Fault(fault) => return Ok(Err(fault)),
                 Taken::End => return Ok(Err((PreprocessorError::UnexpectedEndOfInput, last))),
             };
-            last = read.token.location;
+            last = read.place();
             match nesting_of(depth, &read.token.value) {
                 Nesting::Closes => {
                     drop(read);
                     return Ok(Ok(Gathered {
                         tokens,
-                        closing: last,
+                        closing: last.location,
                     }));
                 }
                 Nesting::TooMany => {
@@ -403,7 +418,7 @@ impl<R: Reader> Expander<R> {
     }
 
     /// Takes the `(` of a call, or holds anything else that comes.
-    fn take_paren(&mut self, budget: &mut Budget) -> Result<Option<Location>, Stop>
+    fn take_paren(&mut self, budget: &mut Budget) -> Result<Option<Place>, Stop>
         ensures takes { IfOk result (λ paren. TakesParen R.reading (seen R.state self.old) paren
             (seen R.state self.new)) }
         ensures budget { budget.new.steps ≤ budget.old.steps }

@@ -7,11 +7,11 @@ ghost use Rattle.pp_model.specs.inner.Lines as parts;
 ghost use Rattle.pp_reference.specs.inner.Halting.{Meets};
 
 use crate::conversion::{conversion, identifier_of, is_newline, refused_token};
+use crate::copies::copy_fault;
 use crate::item::SourceItem;
 use crate::stop::{Halt, Stop};
 use pp_lexer::lexer::{self, LexerItem};
 use pp_lexer::token::{Location, PreprocessorError, Text, Token};
-use pp_model::copies::copy_fault;
 use pp_model::definition::{Placed, TokenList};
 use pp_model::outcome::Fault;
 use std::alloc::Global;

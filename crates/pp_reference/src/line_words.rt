@@ -19,38 +19,45 @@ use crate::reader::LineReader;
 use crate::stop::{Budget, Stop};
 use pp_lexer::token::{Location, PreprocessorError, Text, Token, TokenValue};
 use pp_model::numbering::Numbering;
-use pp_model::outcome::Fault;
 use pp_model::parentheses::{is_left_paren, is_right_paren};
+use pp_model::place::{Place, PlacedFault};
 use pp_model::read::{Read, Taken};
 use pp_model::word::{LineKind, Word, WordReading, Words, reading_of, unwanted_reading};
 use std::alloc::{AllocError, Global};
 
 /// The fault of what was taken in place of the operand or of a parenthesis of a `defined`.
-fn unwanted_word(kind: LineKind, directive: Location, taken: Taken) -> Fault
+fn unwanted_word(kind: LineKind, directive: Location, taken: Taken) -> PlacedFault
     ensures { result ≡ unwanted_closing kind directive taken }
 {
     match taken {
-        Taken::Token(read) => unwanted_reading(reading_of(kind, read.token)),
+        Taken::Token(read) => unwanted_reading(reading_of(kind, read)),
         Taken::Fault(fault) => fault,
-        Taken::End => (PreprocessorError::UnexpectedEndOfInput, directive),
+        Taken::End => (
+            PreprocessorError::UnexpectedEndOfInput,
+            Place::in_source(directive),
+        ),
     }
 }
 
 /// The name of an identifier, or the fault of anything else that was taken in place of the name of a `defined`.
-fn name_or_fault(directive: Location, taken: Taken) -> Result<Text, Fault>
+fn name_or_fault(directive: Location, taken: Taken) -> Result<Text, PlacedFault>
     ensures { MatchResult result (λ name. name_in taken ≡ Some name)
         (λ fault. (name_in taken ≡ None) × (fault ≡ unwanted_part directive taken)) }
 {
     match taken {
         Taken::Token(read) => {
-            let Token { value, location } = read.token;
+            let place = read.place();
+            let value = read.token.value;
             match value {
                 TokenValue::Ident(name) => Ok(name),
-                other => Err((PreprocessorError::UnexpectedToken(other), location)),
+                other => Err((PreprocessorError::UnexpectedToken(other), place)),
             }
         }
         Taken::Fault(fault) => Err(fault),
-        Taken::End => Err((PreprocessorError::UnexpectedEndOfInput, directive)),
+        Taken::End => Err((
+            PreprocessorError::UnexpectedEndOfInput,
+            Place::in_source(directive),
+        )),
     }
 }
 
@@ -89,7 +96,7 @@ fn closed_operand(
     name: &Text,
     levels: u32,
     budget: &mut Budget,
-) -> Result<Result<bool, Fault>, Stop>
+) -> Result<Result<bool, PlacedFault>, Stop>
     ensures closes { IfOk result (λ answer. Closes kind directive (answers_at levels) name.now
         (seen line_state expander.old) answer (seen line_state expander.new)) }
     ensures budget { budget.new.steps ≤ budget.old.steps }
@@ -110,7 +117,7 @@ fn operand_in_parentheses(
     expander: &mut Expander<LineReader<'_>>,
     levels: u32,
     budget: &mut Budget,
-) -> Result<Result<bool, Fault>, Stop>
+) -> Result<Result<bool, PlacedFault>, Stop>
     ensures inside { IfOk result
         (λ answer. InParentheses kind directive (answers_at levels)
         (seen line_state expander.old) answer (seen line_state expander.new)) }
@@ -130,7 +137,7 @@ fn operand(
     expander: &mut Expander<LineReader<'_>>,
     levels: u32,
     budget: &mut Budget,
-) -> Result<Result<bool, Fault>, Stop>
+) -> Result<Result<bool, PlacedFault>, Stop>
     ensures operand { IfOk result (λ answer. Operand kind directive (answers_at levels)
         (seen line_state expander.old) answer (seen line_state expander.new)) }
     ensures budget { budget.new.steps ≤ budget.old.steps }
@@ -155,7 +162,7 @@ fn read_into(
     words: &mut Vec<Word>,
     levels: u32,
     budget: &mut Budget,
-) -> Result<Option<Fault>, Stop>
+) -> Result<Option<PlacedFault>, Stop>
     requires { words.old.items ≡ [] }
     ensures words { IfOk result (λ ending. LineWords kind directive (answers_at levels)
         (seen line_state expander.old) (record { words = words.new.items; ending = ending })) }
@@ -163,13 +170,13 @@ fn read_into(
 {
     'words: loop {
         budget.spend()?;
-        let token = match emit(expander, levels, budget)? {
-            Taken::Token(read) => read.token,
+        let read = match emit(expander, levels, budget)? {
+            Taken::Token(read) => read,
             Taken::Fault(fault) => return Ok(Some(fault)),
             Taken::End => return Ok(None),
         };
-        let place = token.location;
-        match reading_of(kind, token) {
+        let place = read.place();
+        match reading_of(kind, read) {
             WordReading::Refused(fault) => return Ok(Some(fault)),
             WordReading::Word(word) => words.push(Word::Plain(word))?,
             WordReading::Operator(operator) => {

@@ -95,19 +95,20 @@ fn parameter_of(parameters: &[Text], value: &TokenValue) -> Option<usize>
     }
 }
 
-/// Appends the replacement of a token of a body.
+/// Appends the replacement of a token of a body, which is of this text.
 fn push_replacement(
     alloc: Global,
     list: &mut Vec<Entry>,
+    text: u32,
     token: &Token,
     parameter: Option<usize>,
     arguments: &[ReadList],
 ) -> Result<(), AllocError>
     ensures { OnOk result ((rest : List Item) → list.new.items ++ rest
-        ≡ list.old.items ++ replacement arguments.now token.now parameter rest) }
+        ≡ list.old.items ++ replacement arguments.now text token.now parameter rest) }
 {
     let Some(position) = parameter else {
-        list.push(Entry::Plain(Read::unpainted(copy_token(alloc, token)?)))?;
+        list.push(Entry::Plain(Read::of_text(copy_token(alloc, token)?, text)))?;
         return Ok(());
     };
     match arguments.get(position) {
@@ -116,20 +117,21 @@ fn push_replacement(
     }
 }
 
-/// Appends a body with its parameters replaced.
+/// Appends a body, which is of this text, with its parameters replaced.
 fn push_replaced(
     alloc: Global,
     list: &mut Vec<Entry>,
     parameters: &[Text],
     arguments: &[ReadList],
+    text: u32,
     body: &[Token],
 ) -> Result<(), AllocError>
     ensures { OnOk result ((rest : List Item) → list.new.items ++ rest
-        ≡ list.old.items ++ body_before parameters.now arguments.now body.now rest) }
+        ≡ list.old.items ++ body_before parameters.now arguments.now text body.now rest) }
 {
     for token in body {
         let parameter = parameter_of(parameters, &token.value);
-        push_replacement(alloc, list, token, parameter, arguments)?;
+        push_replacement(alloc, list, text, token, parameter, arguments)?;
     }
     Ok(())
 }
@@ -152,6 +154,7 @@ pub fn splice(
         &mut front,
         &definition.parameters,
         &arguments.items,
+        definition.text,
         &definition.body,
     )?;
     front.push(Entry::End(EndMark { name, call }))?;

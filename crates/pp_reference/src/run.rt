@@ -11,6 +11,7 @@ ghost use Rattle.std.specs.Str.{chars};
 
 use crate::block::blocks_at;
 use crate::conversion::{conversion, is_newline};
+use crate::copies::copy_fault;
 use crate::definitions::Definitions;
 use crate::expand::{emit, expansion_limit};
 use crate::expander::Expander;
@@ -23,7 +24,6 @@ use pp_lexer::lexer::{Lexer, LexerItem};
 use pp_lexer::rules::Rules;
 use pp_lexer::token::{PreprocessorError, Text};
 use pp_model::call::{Call, Reply};
-use pp_model::copies::copy_fault;
 use pp_model::definition::TokenList;
 use pp_model::outcome::Outcome;
 use std::alloc::{AllocError, Global};
@@ -104,6 +104,7 @@ fn start(alloc: Global, rules: Rules, items: &[SourceItem]) -> Result<Expander<S
         items,
         position: 0,
         definitions: Definitions::new(alloc),
+        contents: 0,
         line_offset: 0,
         truths: Vec::new(alloc),
         unfinished,

@@ -5,11 +5,11 @@ ghost use Rattle.pp_model.specs.Conversions as conversions;
 ghost use Rattle.pp_model.specs.Sights as spec;
 
 use crate::conversion::{conversion, identifier_of, is_hash, is_newline, refused_token};
+use crate::copies::copy_fault;
 use crate::item::SourceItem;
 use crate::line::first_token;
 use crate::stop::{Halt, Stop};
 use pp_lexer::lexer;
-use pp_model::copies::copy_fault;
 use pp_model::directive::directive_of;
 use pp_model::sight::Sight;
 use std::alloc::Global;

@@ -6,7 +6,7 @@ ghost use Rattle.pp_reference.specs.inner.Changes.{meaning_of};
 ghost use Rattle.pp_model.specs.Emitting.{answers_at, expansion_limit};
 ghost use Rattle.pp_reference.specs.inner.ReaderState.{reader_of};
 ghost use Rattle.pp_model.specs.Reads.{Defines, Steps};
-ghost use Rattle.pp_model.specs.declared.outcome.Outcome.TheVariants as outcome;
+ghost use Rattle.pp_model.specs.declared.read.Taken.TheVariants as taken;
 
 use crate::condition::{condition, line_number};
 use crate::definitions::Definitions;
@@ -14,11 +14,11 @@ use crate::expand::expansion_limit;
 use crate::reader::Reader;
 use crate::redefinition::is_same_definition;
 use crate::source_reader::SourceReader;
-use crate::stop::{Budget, Halt, Stop};
+use crate::stop::{Budget, Stop};
 use pp_lexer::token::{Integer, Location, PreprocessorError, Text};
 use pp_model::definition::{Named, TokenList};
 use pp_model::numbering::Numbering;
-use pp_model::outcome::{Fault, Outcome};
+use pp_model::place::{PlacedFault, placed};
 use pp_model::read::Taken;
 use pp_model::step::Step;
 use std::alloc::Global;
@@ -32,16 +32,16 @@ pub struct Source<'a> {
     pub reader: SourceReader<'a>,
 }
 
-// A fault as an outcome of reading.
-fn fault_outcome(fault: Fault) -> Option<Outcome>
-    ensures { result ≡ Some (outcome.Fault fault) }
+// A fault as what a step gives.
+fn given_fault(fault: PlacedFault) -> Option<Taken>
+    ensures { result ≡ Some (taken.Fault fault) }
 {
-    Some(Outcome::Fault(fault))
+    Some(Taken::Fault(fault))
 }
 
 impl<'a> Source<'a> {
     // Defines the name, unless it has another definition already.
-    fn define(&mut self, named: Named) -> Result<Option<Outcome>, Stop>
+    fn define(&mut self, named: Named) -> Result<Option<Taken>, Stop>
         ensures { IfOk result (λ o. Defines named
             (meaning_of self.old.reader.changes named.name) (reader_of self.old.reader) o
             (reader_of self.new.reader)) }
@@ -54,7 +54,10 @@ impl<'a> Source<'a> {
                 Ok(None)
             }
             Some(old) if is_same_definition(old, &named.definition) => Ok(None),
-            Some(_) => Ok(fault_outcome((PreprocessorError::DefineRedefined, named.location))),
+            Some(_) => Ok(given_fault(placed((
+                PreprocessorError::DefineRedefined,
+                named.location,
+            )))),
         }
     }
 
@@ -64,7 +67,7 @@ impl<'a> Source<'a> {
         word: Location,
         tokens: TokenList,
         budget: &mut Budget,
-    ) -> Result<Option<Outcome>, Stop>
+    ) -> Result<Option<Taken>, Stop>
         requires { self.old.reader.position + 2 ≤ length self.old.reader.items }
         ensures decides { IfOk result (λ o. Deciding (answers_at expansion_limit) word tokens
             (reader_of self.old.reader) o (reader_of self.new.reader)) }
@@ -80,13 +83,12 @@ impl<'a> Source<'a> {
             definitions,
             expansion_limit(),
             budget,
-        ) {
+        )? {
             Ok(holds) => {
                 self.reader.decide(holds)?;
                 Ok(None)
             }
-            Err(Halt::Fault(fault)) => Ok(fault_outcome(fault)),
-            Err(Halt::Stop(stop)) => Err(stop),
+            Err(fault) => Ok(given_fault(fault)),
         }
     }
 
@@ -96,7 +98,7 @@ impl<'a> Source<'a> {
         word: Location,
         tokens: TokenList,
         budget: &mut Budget,
-    ) -> Result<Option<Outcome>, Stop>
+    ) -> Result<Option<Taken>, Stop>
         requires { self.old.reader.position + 2 ≤ length self.old.reader.items }
         ensures renumbers { IfOk result
             (λ o. Renumbering (answers_at expansion_limit) word tokens
@@ -113,25 +115,24 @@ impl<'a> Source<'a> {
             definitions,
             expansion_limit(),
             budget,
-        ) {
+        )? {
             Ok(number) => {
                 self.reader.renumber(word, number);
                 Ok(None)
             }
-            Err(Halt::Fault(fault)) => Ok(fault_outcome(fault)),
-            Err(Halt::Stop(stop)) => Err(stop),
+            Err(fault) => Ok(given_fault(fault)),
         }
     }
 
     // One token or line of the source.
-    fn step(&mut self, budget: &mut Budget) -> Result<Option<Outcome>, Stop>
+    fn step(&mut self, budget: &mut Budget) -> Result<Option<Taken>, Stop>
         ensures steps { IfOk result (λ o. Steps (answers_at expansion_limit)
             (reader_of self.old.reader) o (reader_of self.new.reader)) }
         ensures budget { budget.new.steps ≤ budget.old.steps }
     {
         match self.reader.act(self.alloc)? {
             Step::Passed => Ok(None),
-            Step::Given(outcome) => Ok(Some(outcome)),
+            Step::Given(outcome) => Ok(Some(Taken::unpainted(outcome))),
             Step::Defines(named) => self.define(named),
             Step::Condition(word, tokens) => self.decide(word, tokens, budget),
             Step::LineNumber(word, tokens) => self.renumber(word, tokens, budget),
@@ -154,8 +155,8 @@ impl Reader for Source<'_> {
     fn read(&mut self, budget: &mut Budget) -> Result<Taken, Stop> {
         'lines: loop {
             budget.spend()?;
-            if let Some(outcome) = self.step(budget)? {
-                return Ok(Taken::unpainted(outcome));
+            if let Some(taken) = self.step(budget)? {
+                return Ok(taken);
             }
         }
     }

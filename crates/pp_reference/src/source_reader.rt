@@ -53,6 +53,8 @@ pub struct SourceReader<'a> {
     pub position: usize,
     /// The definitions that hold now.
     pub definitions: Definitions,
+    /// How many contents were added.
+    pub contents: u32,
     /// The number that is added to a line for `__LINE__`.
     pub line_offset: i64,
     /// The conditions that were read, the latest first.
@@ -72,6 +74,7 @@ impl<'a> Model for SourceReader<'a> {
       items = r.items.now;
       position = r.position;
       changes = r.definitions;
+      contents = r.contents;
       line_offset = r.line_offset;
       truths = r.truths.items;
       unfinished = r.unfinished;
@@ -170,16 +173,23 @@ impl<'a> SourceReader<'a> {
         Numbering::of_list(self.rules, self.line_offset)
     }
 
-    /// Defines the name as these tokens, replacing any definition of it.
+    /// Defines the name as these tokens of one more content, replacing any definition of it. Stops if that content can
+    /// have no number.
     pub fn add(&mut self, alloc: Global, name: Text, body: TokenList) -> Result<(), Stop>
         ensures { OnOk result (reader_of self.new ≡ after_addition name body (reader_of self.old)) }
     {
+        if self.contents == u32::MAX {
+            return Err(Stop::OutOfMemory);
+        }
+        let text = self.contents + 1;
         let definition = Definition {
             function_like: false,
             parameters: Vec::new(alloc),
             body: body.items,
+            text,
         };
         self.definitions.change(name, Some(definition))?;
+        self.contents = text;
         Ok(())
     }
 

@@ -9,7 +9,7 @@ use std::alloc::{AllocError, AllocFailed};
 /// Why the plain program gives no answer.
 #[derive(Clone, Copy, PartialEq, Eq, Debug)]
 pub enum Stop {
-    /// An allocation failed.
+    /// An allocation failed, or a content can have no number.
     OutOfMemory,
     /// The steps of the budget are used up, or a list is too long.
     OutOfBudget,

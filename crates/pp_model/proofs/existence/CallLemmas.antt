@@ -1,11 +1,12 @@
 -- Something is taken from an expander, and the search for a call from there finds a call, none or a fault.
 use Rattle.std.proofs.Common.{ℕ}
 use Rattle.std.specs.Prelude.{⊤, Result}
-use Rattle.pp_lexer.specs.declared.token.Location.{Location}
+use Rattle.pp_model.specs.declared.place.Place.{Place}
+use Rattle.pp_model.specs.Places.{PlacedFault}
 use Rattle.pp_model.specs.Definitions.{Definition}
 use Rattle.pp_model.specs.Reading.{Reading, Expander}
 use Rattle.pp_model.specs.Taking.{Takes}
-use Rattle.pp_model.specs.Calls.{Fault, Gathered, Gathers, Answers, Called, Calls}
+use Rattle.pp_model.specs.Calls.{Gathered, Gathers, Answers, Called, Calls}
 use Rattle.pp_model.specs.declared.read.Taken.{Taken}
 use Rattle.pp_model.proofs.existence.Turns.{GoesOn, goes_on, Premises}
 use Rattle.pp_model.proofs.existence.SearchLemmas.{Takings, taking, gathers_from, calling}
@@ -24,7 +25,7 @@ module _ {R : Type 0} {I : Reading R} {A : Answers} {Fine : R → Type 0} {left 
       first : GoesOn I A Fine e → (x : Taken) × (f : Expander R) × Takes I e x f
       first (goes_on x o e1 f h t fine_f more emits fine_h next) = (x, f, t)
 
-  pub fine_gathering : (n : ℕ) (last : Location) (e : Expander R) → Fine e.reader → (x : Result Gathered Fault) × (f : Expander R) × Gathers I n last e x f
+  pub fine_gathering : (n : ℕ) (last : Place) (e : Expander R) → Fine e.reader → (x : Result Gathered PlacedFault) × (f : Expander R) × Gathers I n last e x f
   fine_gathering n last e fine = gathers_from I Fine To (λ e f g a b. tt) n last e (takings e (every p e fine))
 
   pub fine_call : (d : Definition) (e : Expander R) → Fine e.reader → (x : Called) × (f : Expander R) × Calls I A d e x f

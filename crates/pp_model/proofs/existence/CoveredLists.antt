@@ -32,7 +32,7 @@ module _ {R : Type 0} {I : Reading R} {A : Answers} {Fine : R → Type 0} {left 
   -- the expander goes on where a macro that is defined and not open opens before these entries
   abbrev pub Opens : List Entry → Type 0
   Opens S = (m : Opening) (line : ℕ) (arguments : List (List Read)) → I.visible c.reader m.name ≡ Some m.definition
-      → is_in m.name (open_names S ++ c.hidden) ≡ false → G (over (macro_before m.name m.definition (called_at m.token line) arguments S))
+      → is_in m.name (open_names S ++ c.hidden) ≡ false → G (over (macro_before m.name m.definition (called_at m.text m.token line) arguments S))
 
   -- it goes on where these entries are left after the marks at the front
   abbrev pub Goes : List Entry → Type 0

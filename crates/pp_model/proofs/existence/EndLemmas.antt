@@ -1,6 +1,7 @@
 -- A source gives finitely many tokens, and then an error or the end.
 use Rattle.std.proofs.Common.{◌≡◌, true, List, [], ◌∷◌, refl}
 use Rattle.pp_lexer.specs.declared.token.Token.{Token}
+use Rattle.pp_model.specs.Places.{unplaced}
 use Rattle.pp_model.specs.Painting.{item_of}
 use Rattle.pp_model.specs.Reading.{Expander}
 use Rattle.pp_model.specs.Calls.{Answers}
@@ -28,7 +29,7 @@ module _ (A : Answers) where
       let rest = more refl in
       (read.token ∷ rest.0, rest.1, first read.token rest.1 rest.0 (read.token ∷ rest.0) e f (given e f (taken.Token read) i) rest.2 refl)
   given_first e f (taken.Fault fault) i more =
-      ([], outcome.Fault fault, last (outcome.Fault fault) [] e f (given e f (taken.Fault fault) i) refl refl)
+      ([], outcome.Fault (unplaced fault), last (outcome.Fault (unplaced fault)) [] e f (given e f (taken.Fault fault) i) refl refl)
   given_first e f taken.End i more = ([], outcome.End, last outcome.End [] e f (given e f taken.End i) refl refl)
 
   ending : (e : Expander SourceReader) → GoesOn (source_reading A) A HasFinite e → Ending e

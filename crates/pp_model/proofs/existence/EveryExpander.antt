@@ -6,7 +6,7 @@ use Rattle.std.specs.Prelude.{slice_get, unwrap_or}
 use Rattle.pp_lexer.specs.declared.token.Token.{Token}
 use Rattle.pp_model.specs.Names.{Name}
 use Rattle.pp_model.specs.SpliceList.{open_names, parameter_of, replacement, body_before, macro_before}
-use Rattle.pp_model.specs.Painting.{unpainted, taken_among}
+use Rattle.pp_model.specs.Painting.{read_in, taken_among}
 use Rattle.pp_model.specs.Reading.{Reading, Expander, masked_names}
 use Rattle.pp_model.specs.Taking.{held, listed, shown_token}
 use Rattle.pp_model.specs.Calls.{Answers}
@@ -52,17 +52,17 @@ module _ {R : Type 0} {I : Reading R} {A : Answers} {Fine : R → Type 0} {left 
       let rest = covered_tokens k grow tokens S le a in
       (covered_token k grow (map Plain tokens ++ S) rest.1 rest.0 read, rest.1)
 
-  covered_replacement : (k : ℕ) → Grows k → (arguments : List (List Read)) (token : Token) (position : Option ℕ) (S : List Entry) → room_over S ≤ k
-      → Covered c S → Covered c (replacement arguments token position S) × (room_over (replacement arguments token position S) ≤ k)
-  covered_replacement k grow arguments token None S le a = (covered_token k grow S le a (unpainted token), le)
-  covered_replacement k grow arguments token (Some n) S le a = covered_tokens k grow (unwrap_or (slice_get arguments n) []) S le a
+  covered_replacement : (k : ℕ) → Grows k → (arguments : List (List Read)) (text : ℕ) (token : Token) (position : Option ℕ) (S : List Entry) → room_over S ≤ k
+      → Covered c S → Covered c (replacement arguments text token position S) × (room_over (replacement arguments text token position S) ≤ k)
+  covered_replacement k grow arguments text token None S le a = (covered_token k grow S le a (read_in text token), le)
+  covered_replacement k grow arguments text token (Some n) S le a = covered_tokens k grow (unwrap_or (slice_get arguments n) []) S le a
 
-  covered_body : (k : ℕ) → Grows k → (parameters : List Name) (arguments : List (List Read)) (body : List Token) (S : List Entry) → room_over S ≤ k
-      → Covered c S → Covered c (body_before parameters arguments body S) × (room_over (body_before parameters arguments body S) ≤ k)
-  covered_body k grow parameters arguments [] S le a = (a, le)
-  covered_body k grow parameters arguments (token ∷ body) S le a =
-      let rest = covered_body k grow parameters arguments body S le a in
-      covered_replacement k grow arguments token (parameter_of parameters token.value) (body_before parameters arguments body S) rest.1 rest.0
+  covered_body : (k : ℕ) → Grows k → (parameters : List Name) (arguments : List (List Read)) (text : ℕ) (body : List Token) (S : List Entry) → room_over S ≤ k
+      → Covered c S → Covered c (body_before parameters arguments text body S) × (room_over (body_before parameters arguments text body S) ≤ k)
+  covered_body k grow parameters arguments text [] S le a = (a, le)
+  covered_body k grow parameters arguments text (token ∷ body) S le a =
+      let rest = covered_body k grow parameters arguments text body S le a in
+      covered_replacement k grow arguments text token (parameter_of parameters token.value) (body_before parameters arguments text body S) rest.1 rest.0
 
   -- ---- by how many names may still open
 
@@ -72,10 +72,10 @@ module _ {R : Type 0} {I : Reading R} {A : Answers} {Fine : R → Type 0} {left 
       absurd (omega (arith, falls, le))
   grows (suc k) = λ S le a m line arguments defined free.
       let falls = room_falls names m.name (open_names S ++ c.hidden) ((c.premises.finite c.reader c.ready).among m.name m.definition defined) free in
-      let marked = End (record { name = m.name; call = called_at m.token line }) ∷ S in
+      let marked = End (record { name = m.name; call = called_at m.text m.token line }) ∷ S in
       let fewer : room_over marked ≤ k = omega (arith, falls, le) in
-      let covered = covered_body k (grows k) m.definition.parameters arguments m.definition.body marked fewer a in
-      let all = macro_before m.name m.definition (called_at m.token line) arguments S in
+      let covered = covered_body k (grows k) m.definition.parameters arguments m.definition.text m.definition.body marked fewer a in
+      let all = macro_before m.name m.definition (called_at m.text m.token line) arguments S in
       covered_goes c all all covered.0 refl
 
   every_list : (S : List Entry) → Covered c S

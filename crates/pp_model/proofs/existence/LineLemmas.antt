@@ -3,10 +3,11 @@ use Rattle.std.proofs.Common.{◌≡◌, Bool, true, false, [], ◌∷◌, refl,
 use Rattle.std.specs.Prelude.{Result, Ok, Err, is_ok}
 use Rattle.pp_lexer.specs.declared.token.Location.{Location}
 use Rattle.pp_lexer.specs.declared.token.TokenValue.{TokenValue}
+use Rattle.pp_model.specs.Places.{PlacedFault, place_of}
 use Rattle.pp_model.specs.Names.{Name, is_same_name, defined_name}
 use Rattle.pp_model.specs.Reading.{Expander, Listed, line_reading}
 use Rattle.pp_model.specs.Taking.{Takes}
-use Rattle.pp_model.specs.Calls.{Fault, Answers, is_left_paren, is_right_paren}
+use Rattle.pp_model.specs.Calls.{Answers, is_left_paren, is_right_paren}
 use Rattle.pp_model.specs.Emitting.{Emits}
 use Rattle.pp_model.specs.LineWords.{WordReading, operator, word, fault, reading, unwanted_part, name_in, has_value, is_defined, closed_by, InParentheses, Operand, Words, word_before, LineWords, ended, failed, refused, plain, answered, faulty}
 use Rattle.pp_model.specs.ExistenceLaws.{AnAnswer, AnOperand, ALine}
@@ -64,14 +65,14 @@ module _ (kind : LineKind) (directive : Location) (A : Answers) where
   -- ---- an operand
 
   record Operating (e : Expander Listed) : Type 0 where
-    result : Result Bool Fault
+    result : Result Bool PlacedFault
     after : Expander Listed
     operand : Operand kind directive A e result after
     goes : is_ok result ≡ true → Worded after
 
   -- the operand after its `(`
   record Enclosing (e : Expander Listed) : Type 0 where
-    result : Result Bool Fault
+    result : Result Bool PlacedFault
     after : Expander Listed
     inside : InParentheses kind directive A e result after
     goes : is_ok result ≡ true → Worded after
@@ -128,17 +129,17 @@ module _ (kind : LineKind) (directive : Location) (A : Answers) where
 
   -- ---- words
 
-  operated : (e g : Expander Listed) (read : Read) → Emits line_reading A e (taken.Token read) g → reading kind read.token ≡ operator → (o : Operating g)
-      → (r : Result Bool Fault) → o.result ≡ r → Worded e
+  operated : (e g : Expander Listed) (read : Read) → Emits line_reading A e (taken.Token read) g → reading kind read ≡ operator → (o : Operating g)
+      → (r : Result Bool PlacedFault) → o.result ≡ r → Worded e
   operated e g read i p o (Ok answer) q =
       let rest = o.goes (rw q refl) in
-      let words = word_before (Defined read.token.location (Ok answer)) rest.0 in
+      let words = word_before (Defined (place_of read) (Ok answer)) rest.0 in
       (words, answered read answer e g o.after rest.0 words i p (rw q at o.operand) rest.1 refl)
   operated e g read i p o (Err f) q =
-      let words : Words = record { words = Defined read.token.location (Err f) ∷ []; ending = None } in
+      let words : Words = record { words = Defined (place_of read) (Err f) ∷ []; ending = None } in
       (words, faulty read f e g o.after words i p (rw q at o.operand) refl)
 
-  read_token : (e g : Expander Listed) (read : Read) → Emits line_reading A e (taken.Token read) g → Lined g → (r : WordReading) → reading kind read.token ≡ r
+  read_token : (e g : Expander Listed) (read : Read) → Emits line_reading A e (taken.Token read) g → Lined g → (r : WordReading) → reading kind read ≡ r
       → Worded e
   read_token e g read i l operator p =
       let o = asked g l.asking (name_in l.asking.given) refl in
@@ -151,7 +152,7 @@ module _ (kind : LineKind) (directive : Location) (A : Answers) where
       (words, refused read f e g words i p refl)
 
   first_word : (e g : Expander Listed) (x : Taken) → Emits line_reading A e x g → (is_token x ≡ true → Lined g) → Worded e
-  first_word e g (taken.Token read) i goes = read_token e g read i (goes refl) (reading kind read.token) refl
+  first_word e g (taken.Token read) i goes = read_token e g read i (goes refl) (reading kind read) refl
   first_word e g (taken.Fault f) i goes = let words : Words = record { words = []; ending = Some f } in (words, failed f e g words i refl)
   first_word e g taken.End i goes = let words : Words = record { words = []; ending = None } in (words, ended e g words i refl)
 

@@ -2,9 +2,10 @@
 use Rattle.std.proofs.Common.{◌≡◌, ℕ, ◌<◌, Bool, true, List, [], ◌∷◌, drop, length, refl, arith}
 use Rattle.std.specs.Prelude.{Result, Ok, Err, slice_get}
 use Rattle.std.specs.Option.{option_map_or}
+use Rattle.pp_model.specs.Places.{PlacedFault}
 use Rattle.pp_model.specs.Names.{Name}
 use Rattle.pp_model.specs.Reading.{Reading, Expander, Listed, listed_reading}
-use Rattle.pp_model.specs.Calls.{Fault, Answers}
+use Rattle.pp_model.specs.Calls.{Answers}
 use Rattle.pp_model.specs.Emitting.{first_before, Emits, Collects, done, failed, item}
 use Rattle.pp_model.specs.ExistenceLaws.{IsFinite, AnAnswer, AReading, ATaking, AGathering, ACall, AnItem, AList}
 use Rattle.pp_model.specs.declared.read.Read.{Read}
@@ -49,7 +50,7 @@ module _ (is_reserved : Name → Bool) (A : Answers) (answered : AnAnswer A) whe
 
 module _ {R : Type 0} (I : Reading R) (A : Answers) (Fine : R → Type 0) where
   abbrev Listing : Expander R → Type 0
-  Listing e = (out : Result (List Read) Fault) × Collects I A e out
+  Listing e = (out : Result (List Read) PlacedFault) × Collects I A e out
 
   given_first : (e f : Expander R) (x : Taken) → Emits I A e x f → (is_token x ≡ true → Listing f) → Listing e
   given_first e f (taken.Token read) i rest =

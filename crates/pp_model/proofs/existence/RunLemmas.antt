@@ -1,13 +1,14 @@
 -- Every source has an item in each state of a run, and a run of each list of calls.
 use Rattle.std.proofs.Common.{◌≡◌, ℕ, false, List, [], ◌∷◌, refl}
-use Rattle.std.specs.Prelude.{Result, Ok, Err}
+use Rattle.std.specs.Prelude.{Result, Ok, Err, ◌+◌}
 use Rattle.std.specs.Str.{chars}
 use Rattle.pp_lexer.specs.Lexed.{Seen}
 use Rattle.pp_lexer.specs.declared.token.Token.{Token}
 use Rattle.pp_lexer.specs.declared.rules.Rules.{Rules}
+use Rattle.pp_model.specs.Places.{Fault}
 use Rattle.pp_model.specs.Painting.{item_of}
 use Rattle.pp_model.specs.Reading.{Expander}
-use Rattle.pp_model.specs.Calls.{Fault, Answers}
+use Rattle.pp_model.specs.Calls.{Answers}
 use Rattle.pp_model.specs.Definitions.{object_like}
 use Rattle.pp_model.specs.Emitting.{answers_at, expansion_limit}
 use Rattle.pp_model.specs.SourceReader.{SourceReader}
@@ -61,7 +62,7 @@ module _ (A : Answers) (answered : AnAnswer A) (rules : Rules) where
   replies_to [] e finite = ([], done e [] refl)
   replies_to (add_define name content ∷ calls) e finite =
       adds name content e calls (content_tokens (items_by rules content)) refl
-      (λ tokens. replies_to calls (with_added (chars name) tokens e) (with_one e.reader.definitions (chars name) finite (object_like tokens)))
+      (λ tokens. replies_to calls (with_added (chars name) tokens e) (with_one e.reader.definitions (chars name) finite (object_like (e.reader.contents + 1) tokens)))
       (replies_to calls e finite)
   replies_to (next ∷ calls) e finite =
       let i = next_item e (every_source A answered e finite) in
@@ -76,7 +77,7 @@ start_finite rules source = record { names = []; among = λ name definition h. c
 module _ (level : ℕ) where
   leads_to_finite : (e f : Expander SourceReader) → LeadsTo (answers_at level) e f → HasFinite e.reader → HasFinite f.reader
   leads_to_finite = each_state (answers_at level) (λ e. HasFinite e.reader)
-      (λ name tokens e finite. with_one e.reader.definitions name finite (object_like tokens))
+      (λ name tokens e finite. with_one e.reader.definitions name finite (object_like (e.reader.contents + 1) tokens))
       (λ x e f item finite.
       let i = next_item e (every_source (answers_at level) (an_answer level) e finite) in
       let one = one_item_at (source_reading (answers_at level)) (source_reads_one (answers_at level) (one_answer level)) level in

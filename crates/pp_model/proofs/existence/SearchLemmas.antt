@@ -1,12 +1,13 @@
 -- The search after the name of a function-like macro finds no call, a call or a fault.
 use Rattle.std.proofs.Common.{◌≡◌, ℕ, zero, suc, ◌<◌, true, List, [], refl, arith, Option, Some, None}
 use Rattle.std.specs.Prelude.{Result, Ok, Err, is_ok}
-use Rattle.pp_lexer.specs.declared.token.Location.{Location}
 use Rattle.pp_lexer.specs.declared.token.PreprocessorError.TheVariants.{IntegerOverflow, UnexpectedEndOfInput}
+use Rattle.pp_model.specs.declared.place.Place.{Place}
+use Rattle.pp_model.specs.Places.{PlacedFault, place_of}
 use Rattle.pp_model.specs.Definitions.{Definition}
 use Rattle.pp_model.specs.Reading.{Reading, Expander}
 use Rattle.pp_model.specs.Taking.{Takes}
-use Rattle.pp_model.specs.Calls.{Fault, Nesting, closes, within, too_many, nesting, before, Gathered, Gathers, closed, inside, overfull, ended, failed, Answers, site_of, Called, no_call, refused, fits, paren_at, Calls, alone, broken, whole}
+use Rattle.pp_model.specs.Calls.{Nesting, closes, within, too_many, nesting, before, Gathered, Gathers, closed, inside, overfull, ended, failed, Answers, site_of, Called, no_call, refused, fits, paren_at, Calls, alone, broken, whole}
 use Rattle.pp_model.specs.ExistenceLaws.{IsFinite, AnAnswer}
 use Rattle.pp_model.specs.declared.read.Read.{Read}
 use Rattle.pp_model.specs.declared.read.Taken.{Taken}
@@ -16,11 +17,11 @@ use Rattle.pp_model.proofs.existence.CoveredLists.{Front, size}
 use Rattle.pp_model.proofs.existence.TakingLemmas.{Comes, took}
 
 -- Where a `(` was taken, a token was.
-paren_is_token : (x : Taken) (paren : Location) → paren_at x ≡ Some paren → is_token x ≡ true
+paren_is_token : (x : Taken) (paren : Place) → paren_at x ≡ Some paren → is_token x ≡ true
 paren_is_token (taken.Token read) paren h = refl
 paren_is_token _ paren h = cc
 
-ok_before : (read : Read) (x : Result Gathered Fault) → is_ok (before read x) ≡ true → is_ok x ≡ true
+ok_before : (read : Read) (x : Result Gathered PlacedFault) → is_ok (before read x) ≡ true → is_ok x ≡ true
 ok_before read (Ok g) h = refl
 ok_before read (Err fault) h = h
 
@@ -31,8 +32,8 @@ module _ {R : Type 0} (I : Reading R) (Fine : R → Type 0) (To : Expander R →
   pub data Takings : Expander R → Type 0 where
     taking : (x : Taken) (e f : Expander R) → Takes I e x f → Fine f.reader → (is_token x ≡ true → To e f) → (is_token x ≡ true → Takings f) → Takings e
 
-  record Gathering (n : ℕ) (last : Location) (e : Expander R) : Type 0 where
-    result : Result Gathered Fault
+  record Gathering (n : ℕ) (last : Place) (e : Expander R) : Type 0 where
+    result : Result Gathered PlacedFault
     after : Expander R
     gathers : Gathers I n last e result after
     fine : Fine after.reader
@@ -51,13 +52,13 @@ module _ {R : Type 0} (I : Reading R) (Fine : R → Type 0) (To : Expander R →
 
   module _ (joined : (e f g : Expander R) → To e f → To f g → To e g) where
     -- up to the `)` of a call
-    gathering : (n : ℕ) (last : Location) (e : Expander R) → Takings e → Gathering n last e
+    gathering : (n : ℕ) (last : Place) (e : Expander R) → Takings e → Gathering n last e
     gathering n last e (taking (taken.Token read) e1 f t fine to more) =
-        by (nesting n read.token.value) refl (λ k. gathering k read.token.location f (more refl))
+        by (nesting n read.token.value) refl (λ k. gathering k (place_of read) f (more refl))
       where
-        by : (w : Nesting) → nesting n read.token.value ≡ w → ((k : ℕ) → Gathering k read.token.location f) → Gathering n last e
+        by : (w : Nesting) → nesting n read.token.value ≡ w → ((k : ℕ) → Gathering k (place_of read) f) → Gathering n last e
         by closes q later =
-            let out : Result Gathered Fault = Ok (record { tokens = []; closing = read.token.location }) in
+            let out : Result Gathered PlacedFault = Ok (record { tokens = []; closing = read.token.location }) in
             record { result = out; after = f; gathers = closed n last read e f out t q refl; fine = fine; comes = λ k. to refl }
         by (within j) q later =
             let rest = later j in
@@ -70,23 +71,23 @@ module _ {R : Type 0} (I : Reading R) (Fine : R → Type 0) (To : Expander R →
               comes = λ k. joined e f rest.after (to refl) (rest.comes (ok_before read rest.result k));
             }
         by too_many q later =
-            let out : Result Gathered Fault = Err (IntegerOverflow, read.token.location) in
+            let out : Result Gathered PlacedFault = Err (IntegerOverflow, place_of read) in
             record { result = out; after = f; gathers = overfull n last read e f out t q refl; fine = fine; comes = λ k. cc }
     gathering n last e (taking (taken.Fault fault) e1 f t fine to more) =
         record { result = Err fault; after = f; gathers = failed n last fault e f (Err fault) t refl; fine = fine; comes = λ k. cc }
     gathering n last e (taking taken.End e1 f t fine to more) =
-        let out : Result Gathered Fault = Err (UnexpectedEndOfInput, last) in
+        let out : Result Gathered PlacedFault = Err (UnexpectedEndOfInput, last) in
         record { result = out; after = f; gathers = ended n last e f out t refl; fine = fine; comes = λ k. cc }
 
-    pub gathers_from : (n : ℕ) (last : Location) (e : Expander R) → Takings e → (x : Result Gathered Fault) × (f : Expander R) × Gathers I n last e x f
+    pub gathers_from : (n : ℕ) (last : Place) (e : Expander R) → Takings e → (x : Result Gathered PlacedFault) × (f : Expander R) × Gathers I n last e x f
     gathers_from n last e takings = let s = gathering n last e takings in (s.result, s.after, s.gathers)
 
     -- a call, or none
     pub calling : (A : Answers) → AnAnswer A → ((r : R) → Fine r → IsFinite (I.visible r)) → (d : Definition) (e : Expander R) → Takings e → Calling A d e
     calling A answered finite d e (taking x e1 f t fine to more) = by_paren (paren_at x) refl
       where
-        by_answer : (paren : Location) → paren_at x ≡ Some paren → (gathered : Gathered) (g : Expander R) → Gathers I 0 paren f (Ok gathered) g
-            → Fine g.reader → To e g → (answer : Result (List (List Read)) Fault) → A d (site_of I g paren gathered.tokens) answer → Calling A d e
+        by_answer : (paren : Place) → paren_at x ≡ Some paren → (gathered : Gathered) (g : Expander R) → Gathers I 0 paren f (Ok gathered) g
+            → Fine g.reader → To e g → (answer : Result (List (List Read)) PlacedFault) → A d (site_of I g paren gathered.tokens) answer → Calling A d e
         by_answer paren p gathered g gathers fine_g comes (Ok arguments) is =
             let called = fits arguments gathered.closing.line in
             record { called = called; after = g; calls = whole x paren gathered (Ok arguments) e f g called t p gathers is refl; found = comes }
@@ -94,7 +95,7 @@ module _ {R : Type 0} (I : Reading R) (Fine : R → Type 0) (To : Expander R →
             let called = refused fault in
             record { called = called; after = g; calls = whole x paren gathered (Err fault) e f g called t p gathers is refl; found = fine_g }
 
-        by_result : (paren : Location) → paren_at x ≡ Some paren → (s : Gathering 0 paren f) (g : Result Gathered Fault) → s.result ≡ g → Calling A d e
+        by_result : (paren : Place) → paren_at x ≡ Some paren → (s : Gathering 0 paren f) (g : Result Gathered PlacedFault) → s.result ≡ g → Calling A d e
         by_result paren p s (Ok gathered) q =
             let comes = joined e f s.after (to (paren_is_token x paren p)) (s.comes (rw q refl)) in
             let answer = answered d (site_of I s.after paren gathered.tokens) (finite s.after.reader s.fine) in
@@ -106,7 +107,7 @@ module _ {R : Type 0} (I : Reading R) (Fine : R → Type 0) (To : Expander R →
           found = s.fine;
         }
 
-        by_paren : (found : Option Location) → paren_at x ≡ found → Calling A d e
+        by_paren : (found : Option Place) → paren_at x ≡ found → Calling A d e
         by_paren None p = record { called = no_call x; after = f; calls = alone x e f (no_call x) t p refl; found = (fine, to) }
         by_paren (Some paren) p =
             let s = gathering 0 paren f (more (paren_is_token x paren p)) in

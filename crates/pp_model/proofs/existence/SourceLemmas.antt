@@ -4,10 +4,13 @@ use Rattle.std.specs.Prelude.{Result, Ok, Err, pos, ◌-ℤ◌}
 use Rattle.pp_lexer.specs.declared.token.Location.{Location}
 use Rattle.pp_lexer.specs.declared.token.PreprocessorError.TheVariants.{DefineRedefined}
 use Rattle.pp_lexer.specs.declared.token.Token.{Token}
+use Rattle.pp_model.specs.declared.read.Taken.{Taken}
+use Rattle.pp_model.specs.declared.read.Taken.TheVariants as taken
+use Rattle.pp_model.specs.Places.{PlacedFault, placed}
 use Rattle.pp_model.specs.Definitions.{Definition, IsSameDefinition}
 use Rattle.pp_model.specs.Painting.{taken_of}
 use Rattle.pp_model.specs.Reading.{Expander}
-use Rattle.pp_model.specs.Calls.{Fault, Answers}
+use Rattle.pp_model.specs.Calls.{Answers}
 use Rattle.pp_model.specs.LineValues.{IsCondition, IsLineNumber}
 use Rattle.pp_model.specs.SourceReader.{SourceReader}
 use Rattle.pp_model.specs.Acts.{decided, act}
@@ -28,9 +31,9 @@ use Rattle.pp_model.proofs.ReadsLemmas.{that_does}
 use Rattle.pp_model.specs.Numbering.{list_numbering}
 
 -- reading goes on after a step with this outcome, or a token was given
-abbrev goes : Option Outcome → Bool
+abbrev goes : Option Taken → Bool
 goes None = true
-goes (Some o) = is_given_token o
+goes (Some x) = is_token x
 
 abbrev pub HasFinite : SourceReader → Type 0
 HasFinite r = IsFinite r.definitions
@@ -43,7 +46,7 @@ module _ (A : Answers) (answered : AnAnswer A) where
   -- ---- one token or line
 
   record Stepped (r : SourceReader) : Type 0 where
-    outcome : Option Outcome
+    outcome : Option Taken
     after : SourceReader
     steps : Steps A r outcome after
     finite : HasFinite after
@@ -62,10 +65,10 @@ module _ (A : Answers) (answered : AnAnswer A) where
     }
 
     -- a fault
-    faulty : (did : Step) (fault : Fault) (t : SourceReader) → (act r).step ≡ did → HasFinite t → Does A r did (act r).after (Some (outcome.Fault fault)) t
+    faulty : (did : Step) (fault : PlacedFault) (t : SourceReader) → (act r).step ≡ did → HasFinite t → Does A r did (act r).after (Some (taken.Fault fault)) t
         → Stepped r
     faulty did fault t p finite d =
-        record { outcome = Some (outcome.Fault fault); after = t; steps = that_does A did r _ t p d; finite = finite; falls = λ h. cc }
+        record { outcome = Some (taken.Fault fault); after = t; steps = that_does A did r _ t p d; finite = finite; falls = λ h. cc }
 
     defined_by : (named : Named) → (act r).step ≡ step.Defines named → (old : Option Definition) → r.definitions named.name ≡ old → Stepped r
     defined_by named p None q =
@@ -75,16 +78,16 @@ module _ (A : Answers) (answered : AnAnswer A) where
       where
         by : IsSameDefinition old named.definition ⊎ (IsSameDefinition old named.definition → ⊥) → Stepped r
         by (inl same) = passed (step.Defines named) (act r).after p refl ((moves r).finite f) refl (rw q (refl, inl (same, refl)))
-        by (inr other) = faulty (step.Defines named) (DefineRedefined, named.location) (act r).after p ((moves r).finite f) (rw q (refl, inr (other, refl)))
+        by (inr other) = faulty (step.Defines named) (placed (DefineRedefined, named.location)) (act r).after p ((moves r).finite f) (rw q (refl, inr (other, refl)))
 
     decided_by : (word : Location) (tokens : List Token) → (act r).step ≡ step.Condition word tokens
-        → (x : Result Bool Fault) → IsCondition A word tokens (list_numbering r.rules r.line_offset) r.definitions x → Stepped r
+        → (x : Result Bool PlacedFault) → IsCondition A word tokens (list_numbering r.rules r.line_offset) r.definitions x → Stepped r
     decided_by word tokens p (Ok holds) c =
         passed (step.Condition word tokens) (decided r.position holds (act r).after) p refl ((moves r).finite f) refl (Ok holds, c, (refl, refl))
     decided_by word tokens p (Err fault) c = faulty (step.Condition word tokens) fault r p f (Err fault, c, (refl, refl))
 
     numbered_by : (word : Location) (tokens : List Token) → (act r).step ≡ step.LineNumber word tokens
-        → (x : Result ℕ Fault) → IsLineNumber A word tokens (list_numbering r.rules r.line_offset) r.definitions x → Stepped r
+        → (x : Result ℕ PlacedFault) → IsLineNumber A word tokens (list_numbering r.rules r.line_offset) r.definitions x → Stepped r
     numbered_by word tokens p (Ok n) c =
         let t : SourceReader = record (act r).after { line_offset = pos n -ℤ pos (numbered_line r.rules word.line) } in
         passed (step.LineNumber word tokens) t p refl ((moves r).finite f) refl (Ok n, c, (refl, refl))
@@ -93,11 +96,11 @@ module _ (A : Answers) (answered : AnAnswer A) where
     step_by : (s : Step) → (act r).step ≡ s → Stepped r
     step_by step.Passed p = passed step.Passed (act r).after p refl ((moves r).finite f) refl (refl, refl)
     step_by (step.Given x) p = record {
-      outcome = Some x;
+      outcome = Some (taken_of x);
       after = (act r).after;
-      steps = that_does A (step.Given x) r (Some x) (act r).after p (refl, refl);
+      steps = that_does A (step.Given x) r (Some (taken_of x)) (act r).after p (refl, refl);
       finite = (moves r).finite f;
-      falls = λ h. act_less_left r (rw p (rw h refl));
+      falls = λ h. act_less_left r (rw p (rw (token_given x h) refl));
     }
     step_by (step.Defines named) p = defined_by named p (r.definitions named.name) refl
     step_by (step.Condition word tokens) p =
@@ -118,14 +121,14 @@ module _ (A : Answers) (answered : AnAnswer A) where
       let s = stepped r f in
       go s s.outcome refl (λ less. read_on fuel s.after s.finite (omega (arith, less, room)))
     where
-      go : (s : Stepped r) (o : Option Outcome) → s.outcome ≡ o → (left s.after < left r → Given (source_reading A) HasFinite left s.after)
+      go : (s : Stepped r) (o : Option Taken) → s.outcome ≡ o → (left s.after < left r → Given (source_reading A) HasFinite left s.after)
           → Given (source_reading A) HasFinite left r
       go s (Some x) p more = record {
-        given = taken_of x;
+        given = x;
         after = s.after;
-        reads = here x (taken_of x) r s.after (rw p at s.steps) refl;
+        reads = here x r s.after (rw p at s.steps);
         fine = s.finite;
-        falls = λ h. s.falls (rw p (token_given x h));
+        falls = λ h. s.falls (rw p h);
       }
       go s None p more =
           let less = s.falls (rw p refl) in

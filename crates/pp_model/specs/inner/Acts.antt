@@ -2,7 +2,7 @@
 use Rattle.std.specs.Prelude.{◌+◌, Bool, List, Option, drop}
 use Rattle.pp_lexer.specs.Lexed.{Seen}
 use Rattle.pp_lexer.specs.declared.token.Token.{Token}
-use Rattle.pp_model.specs.Calls.{Fault}
+use Rattle.pp_model.specs.Places.{Fault}
 use Rattle.pp_model.specs.Lines.{line_length}
 use Rattle.pp_model.specs.Blocks.{Block, blocks_at, innermost}
 use Rattle.pp_model.specs.Moves.{Move}

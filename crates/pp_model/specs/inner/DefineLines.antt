@@ -1,8 +1,8 @@
 -- Parts of a `#define` line, under names of their own.
 use Rattle.std.specs.Prelude.{List, Option, Some, None, Result, Err}
 use Rattle.pp_lexer.specs.declared.lexer.item.Token.{Token as LexerToken}
+use Rattle.pp_model.specs.Places.{Fault}
 use Rattle.pp_model.specs.Names.{Name}
-use Rattle.pp_model.specs.Calls.{Fault}
 use Rattle.pp_model.specs.Conversions.{refused_token}
 use Rattle.pp_model.specs.DefineLines.{new_parameter}
 

@@ -1,7 +1,7 @@
 -- Parts of the table of directives, under names of their own.
 use Rattle.std.specs.Prelude.{ℕ, ◌+◌, Option}
 use Rattle.std.specs.Option.{option_map_or}
-use Rattle.pp_model.specs.Calls.{Fault}
+use Rattle.pp_model.specs.Places.{Fault}
 use Rattle.pp_model.specs.Moves.{Move, failing, passing}
 
 -- a line that is skipped, by the lexer's first error on it, if there is one

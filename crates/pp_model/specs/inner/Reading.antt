@@ -1,6 +1,5 @@
 -- Parts of reading, under names of their own.
 use Rattle.std.specs.Prelude.{◌≡◌, List, drop, Option, option_map, slice_get}
-use Rattle.pp_lexer.specs.declared.token.Token.{Token}
 use Rattle.pp_model.specs.Names.{Name}
 use Rattle.pp_model.specs.Definitions.{Definition}
 use Rattle.pp_model.specs.Reading.{Opening, Listed}
@@ -9,9 +8,10 @@ use Rattle.pp_model.specs.declared.read.Read.{Read}
 use Rattle.pp_model.specs.declared.read.Taken.{Taken}
 use Rattle.pp_model.specs.declared.read.Taken.TheVariants as taken
 
-abbrev pub opening_by : Token → Name → Option Definition → Option Opening
-opening_by token name definition =
-    option_map (λ definition. record { token = token; name = name; definition = definition }) definition
+abbrev pub opening_by : Read → Name → Option Definition → Option Opening
+opening_by read name definition =
+    option_map (λ definition. record { text = read.text; token = read.token; name = name; definition = definition })
+    definition
 
 abbrev pub after_listed : List Read → List Read
 after_listed tokens = drop 1 tokens

@@ -1,9 +1,9 @@
 -- Parts of runs, under names of their own.
-use Rattle.std.specs.Prelude.{if◌then◌else◌, List, Result, Ok, Err, Some}
+use Rattle.std.specs.Prelude.{if◌then◌else◌, List, Result, Ok, Err, Some, ◌+◌}
 use Rattle.pp_lexer.specs.Items.{Lexeme}
 use Rattle.pp_lexer.specs.declared.token.Token.{Token}
 use Rattle.pp_expression.specs.Answers.{◌>>=◌}
-use Rattle.pp_model.specs.Calls.{Fault}
+use Rattle.pp_model.specs.Places.{Fault}
 use Rattle.pp_model.specs.Conversions.{is_newline, conversion}
 use Rattle.pp_model.specs.Emitting.{first_before}
 use Rattle.pp_model.specs.Names.{Name}
@@ -17,4 +17,8 @@ content_from (Ok token) later =
 
 abbrev pub after_addition : Name → List Token → SourceReader → SourceReader
 after_addition name tokens reader =
-    record reader { definitions = with_change reader.definitions name (Some (object_like tokens)) }
+    let text = reader.contents + 1 in
+    record reader {
+      definitions = with_change reader.definitions name (Some (object_like text tokens));
+      contents = text;
+    }

@@ -5,8 +5,8 @@ use Rattle.pp_lexer.specs.Items.{Lexeme}
 use Rattle.pp_lexer.specs.Lexed.{Seen}
 use Rattle.pp_lexer.specs.declared.lexer.item.Token.{Token as LexerToken}
 use Rattle.pp_lexer.specs.declared.token.Token.{Token}
+use Rattle.pp_model.specs.Places.{Fault}
 use Rattle.pp_model.specs.Names.{Name, is_same_name}
-use Rattle.pp_model.specs.Calls.{Fault}
 use Rattle.pp_model.specs.Conversions.{identifier_of}
 use Rattle.pp_model.specs.Sights.{sight_from, named_directive, token_sight}
 use Rattle.pp_model.specs.declared.directive.Directive.{Directive}

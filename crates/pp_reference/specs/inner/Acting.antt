@@ -2,7 +2,8 @@
 use Rattle.std.specs.Prelude.{◌≡◌, ◌+◌, ◌≤◌, length, ℕ, Bool, List, Option, Result, Ok, Err, ⊤}
 use Rattle.pp_lexer.specs.declared.token.Location.{Location}
 use Rattle.pp_lexer.specs.declared.token.Token.{Token}
-use Rattle.pp_model.specs.Calls.{Fault, Answers}
+use Rattle.pp_model.specs.Places.{PlacedFault}
+use Rattle.pp_model.specs.Calls.{Answers}
 use Rattle.pp_model.specs.LineValues.{IsCondition, IsLineNumber}
 use Rattle.pp_model.specs.SourceReader.{SourceReader}
 use Rattle.pp_reference.specs.inner.ReaderState.{ReaderState}
@@ -10,7 +11,7 @@ use Rattle.pp_model.specs.Acts.{Acted}
 use Rattle.pp_model.specs.Reads.{Evaluated}
 use Rattle.pp_model.specs.inner.Acts.{fault_at, after_line, after_condition}
 use Rattle.pp_model.specs.inner.Reads.{after_line_number}
-use Rattle.pp_model.specs.declared.outcome.Outcome.{Outcome}
+use Rattle.pp_model.specs.declared.read.Taken.{Taken}
 use Rattle.pp_model.specs.declared.step.Step.{Step}
 use Rattle.pp_model.specs.declared.step.Step.TheVariants as step
 use Rattle.pp_reference.specs.declared.stop.Halt.{Halt}
@@ -40,15 +41,15 @@ HasLineIfOk (Ok step) old new = HasLine step old new
 HasLineIfOk (Err h) old new = ⊤
 
 -- what the line of a condition gives
-pub record Deciding (A : Answers) (word : Location) (tokens : List Token) (r : SourceReader) (o : Option Outcome)
+pub record Deciding (A : Answers) (word : Location) (tokens : List Token) (r : SourceReader) (o : Option Taken)
     (t : SourceReader) : Type 0 where
-  pub result : Result Bool Fault
+  pub result : Result Bool PlacedFault
   pub is : IsCondition A word tokens (list_numbering r.rules r.line_offset) r.definitions result
   pub comes : Evaluated result (after_condition r) r o t
 
 -- what a `#line` gives
-pub record Renumbering (A : Answers) (word : Location) (tokens : List Token) (r : SourceReader) (o : Option Outcome)
+pub record Renumbering (A : Answers) (word : Location) (tokens : List Token) (r : SourceReader) (o : Option Taken)
     (t : SourceReader) : Type 0 where
-  pub result : Result ℕ Fault
+  pub result : Result ℕ PlacedFault
   pub is : IsLineNumber A word tokens (list_numbering r.rules r.line_offset) r.definitions result
   pub comes : Evaluated result (after_line_number r word) r o t

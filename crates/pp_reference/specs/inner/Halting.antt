@@ -1,6 +1,6 @@
 -- What the parts of the plain program give: a value or a fault as the definitions say, or a stop.
 use Rattle.std.specs.Prelude.{◌≡◌, Result, Ok, Err, ⊤}
-use Rattle.pp_model.specs.Calls.{Fault}
+use Rattle.pp_model.specs.Places.{Fault}
 use Rattle.pp_reference.specs.declared.stop.Halt.{Halt}
 use Rattle.pp_reference.specs.declared.stop.Halt.TheVariants as halt
 
@@ -9,9 +9,3 @@ abbrev pub Meets : {A : Type 0} → Result A Halt → Result A Fault → Type 0
 Meets (Ok value) wanted = wanted ≡ Ok value
 Meets (Err (halt.Fault fault)) wanted = wanted ≡ Err fault
 Meets (Err (halt.Stop stop)) wanted = ⊤
-
--- a value or a fault fulfils this; nothing is asked of a stop
-abbrev pub Satisfies : {A : Type 0} → Result A Halt → (Result A Fault → Type 0) → Type 0
-Satisfies (Ok value) P = P (Ok value)
-Satisfies (Err (halt.Fault fault)) P = P (Err fault)
-Satisfies (Err (halt.Stop stop)) P = ⊤

@@ -13,6 +13,7 @@ pub record ReaderState : Type 0 where
   pub items : List Seen
   pub position : ℕ
   pub changes : List Change
+  pub contents : ℕ
   pub line_offset : ℤ
   pub truths : Truths
   pub unfinished : ℕ
@@ -23,6 +24,7 @@ reader_of state = record {
   items = state.items;
   position = state.position;
   definitions = meaning_of state.changes;
+  contents = state.contents;
   line_offset = state.line_offset;
   truths = state.truths;
   unfinished = state.unfinished;

@@ -1,9 +1,10 @@
 -- The expander of the definitions that each expander of the plain program is, and what one turn of an expander does.
 use Rattle.std.specs.Prelude.{◌≡◌, true, false, [], List, Option, Some, None, Result, Ok, Err}
-use Rattle.pp_lexer.specs.declared.token.Location.{Location}
+use Rattle.pp_model.specs.declared.place.Place.{Place}
+use Rattle.pp_model.specs.Places.{PlacedFault}
 use Rattle.pp_model.specs.Reading.{Reading, Expander, Opening, opening}
 use Rattle.pp_model.specs.Taking.{Takes}
-use Rattle.pp_model.specs.Calls.{Fault, Gathered, Gathers, arguments_of, paren_at}
+use Rattle.pp_model.specs.Calls.{Gathered, Gathers, arguments_of, paren_at}
 use Rattle.pp_model.specs.Emitting.{with_macro}
 use Rattle.pp_model.specs.inner.Emitting.{holding}
 use Rattle.pp_reference.specs.declared.expander.MacroCall.{MacroCall}
@@ -22,13 +23,13 @@ abbrev pub seen : {R S : Type 0} → (R → S) → declared.Expander R → Expan
 seen state e = record { held = e.held; list = e.list.items; reader = state e.reader; hidden = e.hidden.items }
 
 -- a `(` is taken, or what was taken in its place is held
-pub data TakesParen {S : Type 0} (I : Reading S) : Expander S → Option Location → Expander S → Type 0 where
-  none : (o : Taken) (p : Option Location) (e f g : Expander S)
+pub data TakesParen {S : Type 0} (I : Reading S) : Expander S → Option Place → Expander S → Type 0 where
+  none : (o : Taken) (p : Option Place) (e f g : Expander S)
       → Takes I e o f → paren_at o ≡ None
       → p ≡ None
       → g ≡ holding o f
       → TakesParen I e p g
-  some : (o : Taken) (paren : Location) (p : Option Location) (e f : Expander S)
+  some : (o : Taken) (paren : Place) (p : Option Place) (e f : Expander S)
       → Takes I e o f → paren_at o ≡ Some paren
       → p ≡ Some paren
       → TakesParen I e p f
@@ -36,7 +37,7 @@ pub data TakesParen {S : Type 0} (I : Reading S) : Expander S → Option Locatio
 -- what follows the name of a function-like macro, before its arguments are expanded
 pub data Finds {S : Type 0} (I : Reading S) : Expander S → AfterName → Expander S → Type 0 where
   nothing : (c : AfterName) (e f : Expander S) → TakesParen I e None f → c ≡ NoCall → Finds I e c f
-  broken : (paren : Location) (fault : Fault) (c : AfterName) (e f g : Expander S)
+  broken : (paren : Place) (fault : PlacedFault) (c : AfterName) (e f g : Expander S)
       → TakesParen I e (Some paren) f
       → Gathers I 0 paren f (Err fault) g
       → c ≡ Broken fault
@@ -81,8 +82,7 @@ pub data Turns {S : Type 0} (I : Reading S) : Expander S → Turn → Expander S
       → Turns I e t g
 
 -- a call is replaced by its answer, or the answer's fault is given
-abbrev pub Resolves : {S : Type 0} → MacroCall → Result (List (List Read)) Fault → Expander S → Option Fault
-    → Expander S
-    → Type 0
+abbrev pub Resolves : {S : Type 0} → MacroCall → Result (List (List Read)) PlacedFault
+    → Expander S → Option PlacedFault → Expander S → Type 0
 Resolves call (Ok arguments) e fault f = (fault ≡ None) × (f ≡ with_macro call.opening call.site.line arguments e)
 Resolves call (Err found) e fault f = (fault ≡ Some found) × (f ≡ e)

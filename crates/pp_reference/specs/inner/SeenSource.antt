@@ -6,8 +6,9 @@ use Rattle.pp_lexer.specs.declared.token.PreprocessorError.{PreprocessorError}
 use Rattle.pp_lexer.specs.declared.token.PreprocessorError.TheVariants.{OutOfMemory}
 use Rattle.pp_lexer.specs.declared.token.Token.{Token}
 use Rattle.pp_lexer.specs.declared.rules.Rules.{Rules}
+use Rattle.pp_model.specs.Places.{Fault}
 use Rattle.pp_model.specs.Reading.{Expander}
-use Rattle.pp_model.specs.Calls.{Fault, Answers}
+use Rattle.pp_model.specs.Calls.{Answers}
 use Rattle.pp_model.specs.SourceReader.{SourceReader}
 use Rattle.pp_reference.specs.inner.ReaderState.{reader_of}
 use Rattle.pp_model.specs.Run.{by_rules, Call, add_define, next, items_by, content_tokens, with_added}

@@ -1,7 +1,7 @@
 use Rattle.std.proofs.Common.{◌≤◌, ◌+◌, ◌*◌, List, drop}
 use Rattle.std.specs.Prelude.{Result}
-use Rattle.pp_model.specs.Calls.{Fault}
 use Rattle.pp_reference.specs.inner.Changes.{meaning_of}
+use Rattle.pp_model.specs.Places.{PlacedFault}
 use Rattle.pp_model.specs.Emitting.{Emits, Each, Alone, Collects, answers_at}
 use Rattle.pp_model.specs.Reading.{Expander, Listed, argument_reading}
 use Rattle.pp_reference.specs.inner.Seen.{seen}
@@ -41,7 +41,7 @@ decreases-emit_alone-turns l = l.budget.steps
 
 abbrev pub invariant-collect-items : goal.invariant-collect-items
 invariant-collect-items l = record {
-  goes_on : (out : Result (List Read) Fault) → Collects argument_reading (answers_at l.levels) (seen list_state l.expander) out
+  goes_on : (out : Result (List Read) PlacedFault) → Collects argument_reading (answers_at l.levels) (seen list_state l.expander) out
       → Collects argument_reading (answers_at l.levels) (seen list_state l.initial.expander) (after_items l.items.items out);
   spent : l.budget.steps ≤ l.initial.budget.steps;
 }
@@ -51,7 +51,7 @@ decreases-collect-items l = l.budget.steps
 
 abbrev pub invariant-expand_arguments-loop-argument : goal.invariant-expand_arguments-loop-argument
 invariant-expand_arguments-loop-argument l = record {
-  goes_on : (out : Result (List (List Read)) Fault) → Each (Alone l.levels) l.numbering (meaning_of l.visible) l.hidden (drop l.argument-index l.arguments) out
+  goes_on : (out : Result (List (List Read)) PlacedFault) → Each (Alone l.levels) l.numbering (meaning_of l.visible) l.hidden (drop l.argument-index l.arguments) out
       → Each (Alone l.levels) l.numbering (meaning_of l.visible) l.hidden l.arguments (after_items l.expanded.items out);
   spent : l.budget.steps ≤ l.initial.budget.steps;
 }

@@ -1,7 +1,7 @@
 use Rattle.std.proofs.Common.{sym, ap, ◌∙◌}
 use Rattle.std.specs.Prelude.{Result, Ok, Err, Bool}
 use Rattle.std.proofs.lemmas.Result.{IfOk-weaker}
-use Rattle.pp_model.specs.Calls.{Fault}
+use Rattle.pp_model.specs.Places.{PlacedFault}
 use Rattle.pp_model.specs.Emitting.{answers_at}
 use Rattle.pp_model.proofs.OperandCases.{name, in_parentheses, neither}
 use Rattle.pp_reference.proofs.line_words.operand.Goals as goal
@@ -14,9 +14,9 @@ returns-then-is_open_paren-clause-operand c =
 pub returns-in-Ok-clause-operand : goal.returns-in-Ok-clause-operand
 returns-in-Ok-clause-operand c =
     name c.args.kind c.args.directive (answers_at c.args.levels) c.in_ok-found.found c.in-Ok.name _ _ _ c.in_ok-found.ensures.takes c.in-Ok.ensures
-    (ap (λ (b : Bool). let r : Result Bool Fault = Ok b in r) c.is_defined.ensures)
+    (ap (λ (b : Bool). let r : Result Bool PlacedFault = Ok b in r) c.is_defined.ensures)
 
 pub returns-in-Err-clause-operand : goal.returns-in-Err-clause-operand
 returns-in-Err-clause-operand c =
     neither c.args.kind c.args.directive (answers_at c.args.levels) c.in_ok-found.found _ _ _ c.in_ok-found.ensures.takes c.in-Err.ensures.0
-    (sym c.is_open_paren.ensures ∙ c.if-is_open_paren.false) (ap (λ (f : Fault). let r : Result Bool Fault = Err f in r) c.in-Err.ensures.1)
+    (sym c.is_open_paren.ensures ∙ c.if-is_open_paren.false) (ap (λ (f : PlacedFault). let r : Result Bool PlacedFault = Err f in r) c.in-Err.ensures.1)

@@ -1,7 +1,7 @@
 use Rattle.std.proofs.Common.{ap}
 use Rattle.std.specs.Prelude.{Result, Err, Bool}
 use Rattle.std.proofs.lemmas.Result.{IfOk-weaker}
-use Rattle.pp_model.specs.Calls.{Fault}
+use Rattle.pp_model.specs.Places.{PlacedFault}
 use Rattle.pp_model.specs.Emitting.{answers_at}
 use Rattle.pp_model.proofs.OperandCases.{no_name}
 use Rattle.pp_model.proofs.WordLemmas.{closes_named}
@@ -16,4 +16,4 @@ returns-in-Ok-clause-inside c =
 pub returns-in-Err-clause-inside : goal.returns-in-Err-clause-inside
 returns-in-Err-clause-inside c =
     no_name c.args.kind c.args.directive (answers_at c.args.levels) c.in_ok-found.found _ _ _ c.in_ok-found.ensures.takes c.in-Err.ensures.0
-    (ap (λ (f : Fault). let r : Result Bool Fault = Err f in r) c.in-Err.ensures.1)
+    (ap (λ (f : PlacedFault). let r : Result Bool PlacedFault = Err f in r) c.in-Err.ensures.1)

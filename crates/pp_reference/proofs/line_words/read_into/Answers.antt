@@ -1,5 +1,6 @@
 use Rattle.std.proofs.Common.{◌∷◌, [], refl, arith}
 use Rattle.std.specs.Prelude.{Ok, Err, Some, None}
+use Rattle.pp_model.specs.Places.{place_of}
 use Rattle.pp_model.specs.LineWords.{word_before, ended, failed, refused, plain, answered, faulty}
 use Rattle.pp_model.specs.declared.word.Word.TheVariants.{Plain, Defined}
 use Rattle.pp_model.proofs.WordLemmas.{after_words-before, after_words-end}
@@ -34,8 +35,8 @@ words-preserved-in-Continue-branch-4 c = record {
 pub words-preserved : goal.words-preserved
 words-preserved c = record {
   goes_on = λ rest h.
-      rw (c.in_ok-push-in-Ok.ensures.items, ← after_words-before c.words.words.items (Defined c.in-Token.read.token.location (Ok c.in-Ok.answer)) rest)
-      (c.words.invariant.goes_on (word_before (Defined c.in-Token.read.token.location (Ok c.in-Ok.answer)) rest)
+      rw (c.in_ok-push-in-Ok.ensures.items, c.place-place.ensures, ← after_words-before c.words.words.items (Defined (place_of c.in-Token.read) (Ok c.in-Ok.answer)) rest)
+      (c.words.invariant.goes_on (word_before (Defined (place_of c.in-Token.read) (Ok c.in-Ok.answer)) rest)
       (answered c.in-Token.read c.in-Ok.answer _ _ _ rest _ (rw c.in-Token.is at c.in_ok-read.ensures.emits) c.in-Operator.ensures.reads
       (rw c.in-Ok.is at c.in_ok-answer-in-Operator.ensures.operand) h refl));
   spent = omega arith;
@@ -43,7 +44,7 @@ words-preserved c = record {
 
 pub returns-in-Err-clause-words : goal.returns-in-Err-clause-words
 returns-in-Err-clause-words c =
-    rw (c.in_ok-push-in-Err.ensures.items)
-    (c.words.invariant.goes_on (record { words = Defined c.in-Token.read.token.location (Err c.in-Err.fault) ∷ []; ending = None })
+    rw (c.in_ok-push-in-Err.ensures.items, c.place-place.ensures)
+    (c.words.invariant.goes_on (record { words = Defined (place_of c.in-Token.read) (Err c.in-Err.fault) ∷ []; ending = None })
     (faulty c.in-Token.read c.in-Err.fault _ _ _ _ (rw c.in-Token.is at c.in_ok-read.ensures.emits) c.in-Operator.ensures.reads
     (rw c.in-Err.is at c.in_ok-answer-in-Operator.ensures.operand) refl))

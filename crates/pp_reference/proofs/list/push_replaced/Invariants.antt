@@ -4,5 +4,5 @@ use Rattle.pp_model.specs.declared.splice.Entry.{Entry}
 use Rattle.pp_reference.proofs.list.push_replaced.Given as goal
 
 abbrev pub invariant-loop-token : goal.invariant-loop-token
-invariant-loop-token l = (rest : List Entry) → l.list.items ++ body_before l.parameters l.arguments
-    (drop l.token-index l.body) rest ≡ l.initial.list.items ++ body_before l.parameters l.arguments l.body rest
+invariant-loop-token l = (rest : List Entry) → l.list.items ++ body_before l.parameters l.arguments l.text
+    (drop l.token-index l.body) rest ≡ l.initial.list.items ++ body_before l.parameters l.arguments l.text l.body rest

@@ -18,14 +18,16 @@ returns-in-End-clause-gathers g c =
 
 pub returns-in-TooMany-clause-gathers : goal.returns-in-TooMany-clause-gathers
 returns-in-TooMany-clause-gathers g c =
-    c.tokens.invariant.goes_on (Err (IntegerOverflow, c.in-Token.read.token.location)) (seen g.R.Reader.state c.take.new.self)
-    (overfull c.tokens.depth c.tokens.last c.in-Token.read _ _ _ (rw c.in-Token.is at c.in_ok-read.ensures.takes) c.in-TooMany.ensures refl)
+    c.tokens.invariant.goes_on (Err (IntegerOverflow, c.place-last.result)) (seen g.R.Reader.state c.take.new.self)
+    (overfull c.tokens.depth c.tokens.last c.in-Token.read _ _ _ (rw c.in-Token.is at c.in_ok-read.ensures.takes) c.in-TooMany.ensures
+    (rw c.place-last.ensures refl))
 
 pub returns-in-Closes-clause-gathers : goal.returns-in-Closes-clause-gathers
 returns-in-Closes-clause-gathers g c =
-    rw (← after_tokens-closed c.tokens.tokens.items c.in-Token.read.token.location)
-    (c.tokens.invariant.goes_on (Ok (record { tokens = []; closing = c.in-Token.read.token.location })) (seen g.R.Reader.state c.take.new.self)
-    (closed c.tokens.depth c.tokens.last c.in-Token.read _ _ _ (rw c.in-Token.is at c.in_ok-read.ensures.takes) c.in-Closes.ensures refl))
+    rw (← after_tokens-closed c.tokens.tokens.items c.place-last.result.location)
+    (c.tokens.invariant.goes_on (Ok (record { tokens = []; closing = c.place-last.result.location })) (seen g.R.Reader.state c.take.new.self)
+    (closed c.tokens.depth c.tokens.last c.in-Token.read _ _ _ (rw c.in-Token.is at c.in_ok-read.ensures.takes) c.in-Closes.ensures
+    (rw c.place-last.ensures refl)))
 
 pub tokens-preserved : goal.tokens-preserved
 tokens-preserved g c = record {
@@ -33,6 +35,6 @@ tokens-preserved g c = record {
       rw (c.in_ok-push.ensures.items, ← after_tokens-before c.tokens.tokens.items c.in-Token.read rest)
       (c.tokens.invariant.goes_on (before c.in-Token.read rest) end
       (inside c.tokens.depth c.in-Within.deeper c.tokens.last c.in-Token.read _ _ _ rest _
-      (rw c.in-Token.is at c.in_ok-read.ensures.takes) c.in-Within.ensures h refl));
+      (rw c.in-Token.is at c.in_ok-read.ensures.takes) c.in-Within.ensures (rw c.place-last.ensures at h) refl));
   spent = omega arith;
 }

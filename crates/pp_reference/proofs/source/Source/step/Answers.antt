@@ -1,4 +1,5 @@
 use Rattle.std.proofs.Common.{◌∙◌, ap, refl}
+use Rattle.std.specs.Prelude.{Some}
 use Rattle.pp_model.specs.Emitting.{answers_at, expansion_limit}
 use Rattle.pp_reference.specs.inner.Acting.{arrived}
 use Rattle.pp_reference.specs.inner.ReaderState.{reader_of}
@@ -18,7 +19,8 @@ pub returns-in-Given-clause-steps : goal.returns-in-Given-clause-steps
 returns-in-Given-clause-steps c =
     let after = reader_of c.act.new.self in
     act_does (answers_at expansion_limit) (step.Given c.in-Given.outcome) after (reader_of c.args.self.now.reader) _ after
-    ((c.in_ok-act.ensures {u = tt}).acts ∙ ap (λ (s : Step). comes s (arrived s after)) c.in-Given.is) (refl, refl)
+    ((c.in_ok-act.ensures {u = tt}).acts ∙ ap (λ (s : Step). comes s (arrived s after)) c.in-Given.is)
+    (ap Some c.unpainted.ensures, refl)
 
 pub returns-in-Defines-clause-steps : goal.returns-in-Defines-clause-steps
 returns-in-Defines-clause-steps c =

@@ -5,14 +5,14 @@ use Rattle.pp_reference.proofs.source.SourceReaderImpl.read.Goals as goal
 
 pub returns-in-Some-clause-reads : goal.returns-in-Some-clause-reads
 returns-in-Some-clause-reads c =
-    c.lines.invariant.goes_on c.unpainted.result (reader_of c.step.new.self.reader)
-    (here c.in-Some.outcome c.unpainted.result (reader_of c.lines.self.reader) (reader_of c.step.new.self.reader)
-    (rw c.in-Some.is at (c.in_ok-outcome.ensures {u = tt}).steps) c.unpainted.ensures)
+    c.lines.invariant.goes_on c.in-Some.taken (reader_of c.step.new.self.reader)
+    (here c.in-Some.taken (reader_of c.lines.self.reader) (reader_of c.step.new.self.reader)
+    (rw c.in-Some.is at (c.in_ok-taken.ensures {u = tt}).steps))
 
 pub lines-preserved : goal.lines-preserved
 lines-preserved c = record {
   goes_on = λ x t h.
       c.lines.invariant.goes_on x t
-      (later x (reader_of c.lines.self.reader) (reader_of c.step.new.self.reader) t (rw c.in_default.is at (c.in_ok-outcome.ensures {u = tt}).steps) h);
+      (later x (reader_of c.lines.self.reader) (reader_of c.step.new.self.reader) t (rw c.in_default.is at (c.in_ok-taken.ensures {u = tt}).steps) h);
   spent = omega arith;
 }

@@ -1,0 +1,34 @@
+-- Places in texts, and errors with their places (docs/RULES.md, Errors).
+use Rattle.std.specs.Prelude.{ℕ}
+use Rattle.pp_lexer.specs.declared.token.Location.{Location}
+use Rattle.pp_lexer.specs.declared.token.PreprocessorError.{PreprocessorError}
+use Rattle.pp_model.specs.declared.place.Place.{Place}
+use Rattle.pp_model.specs.declared.read.Read.{Read}
+
+-- the number of the source among the texts
+abbrev pub source_text : ℕ
+source_text = 0
+
+-- a place of the source
+abbrev pub in_source : Location → Place
+in_source location = record { location = location; text = source_text }
+
+-- the place of a token that is read
+abbrev pub place_of : Read → Place
+place_of read = record { location = read.token.location; text = read.text }
+
+-- an error with its place
+abbrev pub Fault : Type 0
+Fault = PreprocessorError × Location
+
+-- an error with its place in one of the texts
+abbrev pub PlacedFault : Type 0
+PlacedFault = PreprocessorError × Place
+
+-- an error of the source
+abbrev pub placed : Fault → PlacedFault
+placed fault = (fault.0, in_source fault.1)
+
+-- the error without the text
+abbrev pub unplaced : PlacedFault → Fault
+unplaced fault = (fault.0, fault.1.location)
