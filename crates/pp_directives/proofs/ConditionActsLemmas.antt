@@ -7,7 +7,7 @@ use Rattle.std.specs.Prelude.{ℤ, pos, ◌-ℤ◌}
 use Rattle.pp_lexer.specs.declared.rules.Rules.{Rules}
 use Rattle.pp_lexer.specs.declared.token.Location.{Location}
 use Rattle.pp_lexer.specs.declared.token.Token.{Token}
-use Rattle.pp_model.specs.Calls.{Fault}
+use Rattle.pp_model.specs.Places.{Fault, unplaced}
 use Rattle.pp_model.specs.Lines.{line_length, line_tokens}
 use Rattle.pp_model.specs.Reads.{numbered_line}
 use Rattle.pp_model.specs.declared.block.Part.TheVariants as part
@@ -16,8 +16,8 @@ use Rattle.pp_macros.specs.inner.OpenBlocks.{last_block, outer_blocks, with_last
 use Rattle.pp_macros.specs.declared.blocks.OpenBlock.{OpenBlock}
 use Rattle.pp_macros.specs.inner.Source.{Source, IsAfter, Condition, LineNumber, holds, numbers}
 use Rattle.pp_macros.specs.inner.Expander.{Satisfies}
-use Rattle.pp_macros.specs.declared.halt.Halt.{Halt}
-use Rattle.pp_macros.specs.declared.halt.Halt.TheVariants as halt
+use Rattle.pp_macros.specs.declared.halt.PlacedHalt.{PlacedHalt}
+use Rattle.pp_macros.specs.declared.halt.PlacedHalt.TheVariants as halt
 use Rattle.pp_directives.specs.inner.ReadingLines.{ReadsLine}
 use Rattle.pp_directives.specs.inner.SourceActs.{Acts, HasKept}
 use Rattle.pp_macros.specs.inner.SourceLexed.{SourceLexed, unreported_at}
@@ -35,13 +35,13 @@ pub with_last_is : (change : OpenBlock → OpenBlock) (blocks : List OpenBlock) 
 with_last_is change blocks block last = ap (λ found. outer_blocks blocks ++ option_map_or (λ b. change b ∷ []) found []) last
 
 module _ (rules : Rules) (definitions : List Defined) (blocks : List OpenBlock)
-    (line_offset : ℤ) (has_text has_directive dead : Bool) (old new : SourceLexed) (word : Location) (tokens : List Token)
+    (line_offset : ℤ) (has_text has_directive dead : Bool) (contents : ℕ) (old new : SourceLexed) (word : Location) (tokens : List Token)
     (read : ReadsLine {A = List Token} (λ tokens. tokens) line_tokens old (Ok tokens) new) where
   none_read : ReportsNone rules.passes_dead_errors (unreported_at old) (unreported_at new)
   none_read = same_none rules.passes_dead_errors (unreported_at old) (unreported_at new) read.errors
 
   after_line : (offset : ℤ) (after : List OpenBlock) → IsAfter (line_length old.rest) unnoted after
-      (source_of old rules definitions blocks offset has_text has_directive dead) (source_of new rules definitions after offset has_text has_directive dead)
+      (source_of old rules definitions blocks offset has_text has_directive dead contents) (source_of new rules definitions after offset has_text has_directive dead contents)
   after_line offset after = record {
     rules = refl;
     rest = read.takes.rest;
@@ -51,12 +51,13 @@ module _ (rules : Rules) (definitions : List Defined) (blocks : List OpenBlock)
     has_text = refl;
     has_directive = refl;
     dead_for_good = refl;
+    contents = refl;
   }
 
   -- an `#if` opens a block
   pub if_opens : (value : Bool) (after : List OpenBlock) → Condition word tokens (list_numbering rules line_offset) definitions (Ok value) → after ≡ blocks ++ block_opened word value ∷ []
       → Acts (block_change (Some part.Opens) word) (line_move (line_tokens old.rest) (decides word) old.rest)
-      (source_of old rules definitions blocks line_offset has_text has_directive dead) (Ok tt) (source_of new rules definitions after line_offset has_text has_directive dead)
+      (source_of old rules definitions blocks line_offset has_text has_directive dead contents) (Ok tt) (source_of new rules definitions after line_offset has_text has_directive dead contents)
   if_opens value after condition made = record {
     acts = rw (read.is, made) (holds value condition (refl, after_line line_offset _, refl));
     holds = tt;
@@ -67,7 +68,7 @@ module _ (rules : Rules) (definitions : List Defined) (blocks : List OpenBlock)
   pub elif_parts : (block : OpenBlock) (value : Bool) (after : List OpenBlock) → Condition word tokens (list_numbering rules line_offset) definitions (Ok value)
       → last_block blocks ≡ Some block → after ≡ outer_blocks blocks ++ block_decided block value ∷ []
       → Acts elif_change (line_move (line_tokens old.rest) (decides word) old.rest)
-      (source_of old rules definitions blocks line_offset has_text has_directive dead) (Ok tt) (source_of new rules definitions after line_offset has_text has_directive dead)
+      (source_of old rules definitions blocks line_offset has_text has_directive dead contents) (Ok tt) (source_of new rules definitions after line_offset has_text has_directive dead contents)
   elif_parts block value after condition last made = record {
     acts = rw (read.is, made ∙ sym (with_last_is (block_branched (Some value)) blocks block last))
         (holds value condition (refl, after_line line_offset _, refl));
@@ -78,7 +79,7 @@ module _ (rules : Rules) (definitions : List Defined) (blocks : List OpenBlock)
   -- a `#line` numbers the lines after it
   pub line_numbers : (n : ℕ) (offset : ℤ) → LineNumber word tokens (list_numbering rules line_offset) definitions (Ok n) → offset ≡ pos n -ℤ pos (numbered_line rules word.line)
       → Acts unchanged (line_move (line_tokens old.rest) (renumbers word) old.rest)
-      (source_of old rules definitions blocks line_offset has_text has_directive dead) (Ok tt) (source_of new rules definitions blocks offset has_text has_directive dead)
+      (source_of old rules definitions blocks line_offset has_text has_directive dead contents) (Ok tt) (source_of new rules definitions blocks offset has_text has_directive dead contents)
   line_numbers n offset number made = record {
     acts = rw (read.is, made) (numbers n number (refl, after_line (pos n -ℤ pos (numbered_line rules word.line)) blocks, refl));
     holds = tt;
@@ -86,7 +87,7 @@ module _ (rules : Rules) (definitions : List Defined) (blocks : List OpenBlock)
   }
 
   kept : (after : List OpenBlock) (offset : ℤ) → length after ≤ length blocks
-      → HasKept (source_of old rules definitions blocks line_offset has_text has_directive dead) (source_of new rules definitions after offset has_text has_directive dead)
+      → HasKept (source_of old rules definitions blocks line_offset has_text has_directive dead contents) (source_of new rules definitions after offset has_text has_directive dead contents)
   kept after offset few = record {
     rules = refl;
     left = omega (arith, few, drop_fewer old.rest new.rest (line_length old.rest) read.takes.rest);
@@ -99,26 +100,26 @@ module _ (rules : Rules) (definitions : List Defined) (blocks : List OpenBlock)
   nothing_more fault = nothing_met fault (unreported_at old) (unreported_at new) read.errors
 
   -- the condition of an `#if` or `#elif` is at fault, and no more blocks are open after it
-  pub condition_failed : (change : BlockChange) (after : List OpenBlock) → length after ≤ length blocks → (h : Halt)
+  pub condition_failed : (change : BlockChange) (after : List OpenBlock) → length after ≤ length blocks → (h : PlacedHalt)
       → Satisfies {A = Bool} (Err h) (Condition word tokens (list_numbering rules line_offset) definitions)
       → Acts change (line_move (line_tokens old.rest) (decides word) old.rest)
-      (source_of old rules definitions blocks line_offset has_text has_directive dead) (Err h)
-      (source_of new rules definitions after line_offset has_text has_directive dead)
+      (source_of old rules definitions blocks line_offset has_text has_directive dead contents) (Err h)
+      (source_of new rules definitions after line_offset has_text has_directive dead contents)
   condition_failed change after few (halt.Fault fault) condition =
-      record { acts = rw read.is (condition, kept after line_offset few); holds = tt; errors = nothing_more fault }
+      record { acts = rw read.is (condition, kept after line_offset few); holds = tt; errors = nothing_more (unplaced fault) }
   condition_failed change after few halt.OutOfMemory condition = record { acts = tt; holds = tt; errors = tt }
 
   -- so is the number of a `#line`, after which the lines may be numbered from anywhere
-  pub number_failed : (offset : ℤ) (h : Halt) → Satisfies {A = ℕ} (Err h) (LineNumber word tokens (list_numbering rules line_offset) definitions)
+  pub number_failed : (offset : ℤ) (h : PlacedHalt) → Satisfies {A = ℕ} (Err h) (LineNumber word tokens (list_numbering rules line_offset) definitions)
       → Acts unchanged (line_move (line_tokens old.rest) (renumbers word) old.rest)
-      (source_of old rules definitions blocks line_offset has_text has_directive dead) (Err h)
-      (source_of new rules definitions blocks offset has_text has_directive dead)
+      (source_of old rules definitions blocks line_offset has_text has_directive dead contents) (Err h)
+      (source_of new rules definitions blocks offset has_text has_directive dead contents)
   number_failed offset (halt.Fault fault) number =
-      record { acts = rw read.is (number, kept blocks offset (omega arith)); holds = tt; errors = nothing_more fault }
+      record { acts = rw read.is (number, kept blocks offset (omega arith)); holds = tt; errors = nothing_more (unplaced fault) }
   number_failed offset halt.OutOfMemory number = record { acts = tt; holds = tt; errors = tt }
 
 -- the same of sources that are equal to these
-pub numbering_failed : (word : Location) (h : Halt) (old new s t : Source) → s ≡ old → t ≡ new
+pub numbering_failed : (word : Location) (h : PlacedHalt) (old new s t : Source) → s ≡ old → t ≡ new
     → Acts unchanged (line_move (line_tokens s.rest) (renumbers word) s.rest) s (Err h) t
     → Acts unchanged (line_move (line_tokens old.rest) (renumbers word) old.rest) old (Err h) new
 numbering_failed word h old new s t before after acts =

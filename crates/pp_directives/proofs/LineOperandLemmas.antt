@@ -2,10 +2,10 @@
 use Rattle.std.proofs.Common.{◌≡◌, ◌∙◌, ℕ, Bool, true, false, List, refl, sym, ap, Option, Some, None}
 use Rattle.std.specs.Prelude.{Result, Ok, Err, is_some}
 use Rattle.pp_lexer.specs.declared.token.Location.{Location}
+use Rattle.pp_model.specs.Places.{PlacedFault}
 use Rattle.pp_model.specs.declared.read.Read.{Read}
 use Rattle.pp_model.specs.Names.{Name}
 use Rattle.pp_model.specs.Reading.{Expander, Listed, line_reading}
-use Rattle.pp_model.specs.Calls.{Fault}
 use Rattle.pp_model.specs.Emitting.{Emits, answers_at}
 use Rattle.pp_model.specs.LineWords.{InParentheses, Operand, is_defined, name_in, unwanted_part, unwanted_closing}
 use Rattle.pp_model.specs.inner.LineWords.{is_open_paren, is_close_paren}
@@ -18,8 +18,8 @@ use Rattle.pp_macros.specs.inner.Defined.{Defined, meaning_of}
 use Rattle.pp_directives.specs.inner.LineItems.{ReadsOn, ReadsItem, ReadsTaken, ReadsClosed, ReadsInParentheses, ReadsOperand, expander_of, taken_of_read, taken_of_item}
 use Rattle.pp_macros.specs.inner.Expander as kept
 use Rattle.pp_macros.specs.inner.Reader.{Listing}
-use Rattle.pp_macros.specs.declared.halt.Halt.{Halt}
-use Rattle.pp_macros.specs.declared.halt.Halt.TheVariants as halt
+use Rattle.pp_macros.specs.declared.halt.PlacedHalt.{PlacedHalt}
+use Rattle.pp_macros.specs.declared.halt.PlacedHalt.TheVariants as halt
 use Rattle.pp_directives.proofs.LineReadLemmas.{reads_broken, reads_then}
 use Rattle.pp_model.specs.declared.numbering.Numbering.{Numbering}
 
@@ -28,20 +28,20 @@ defined_there : (levels : ℕ) (numbering : Numbering) (definitions : List Defin
     → ReadsOn levels numbering definitions m l n k → b ≡ is_some (meaning_of definitions name) → b ≡ is_defined (expander_of n k) name
 defined_there levels numbering definitions m n l k name b after is = is ∙ ap (λ (ds : List Defined). is_some (meaning_of ds name)) (sym after.stands.defined)
 
-answered_there : {b there : Bool} → b ≡ there → ◌≡◌ {A = Result Bool Fault} (Ok b) (Ok there)
-answered_there is = ap (λ (x : Bool). let r : Result Bool Fault = Ok x in r) is
+answered_there : {b there : Bool} → b ≡ there → ◌≡◌ {A = Result Bool PlacedFault} (Ok b) (Ok there)
+answered_there is = ap (λ (x : Bool). let r : Result Bool PlacedFault = Ok x in r) is
 
-reported_fault : (fault wanted : Fault) → fault ≡ wanted → ◌≡◌ {A = Result Bool Fault} (Err fault) (Err wanted)
-reported_fault fault wanted is = ap (λ (f : Fault). let r : Result Bool Fault = Err f in r) is
+reported_fault : (fault wanted : PlacedFault) → fault ≡ wanted → ◌≡◌ {A = Result Bool PlacedFault} (Err fault) (Err wanted)
+reported_fault fault wanted is = ap (λ (f : PlacedFault). let r : Result Bool PlacedFault = Err f in r) is
 
 module _ (kind : LineKind) (directive : Location) (levels : ℕ) (numbering : Numbering) (definitions : List Defined) (m : kept.Expander) (l : Listing) (n : kept.Expander) (k : Listing) where
   -- after the `(` and the name
-  pub closed_broken : (name : Name) (h : Halt) (r : Result Bool Halt) → r ≡ Err h → ReadsItem levels numbering definitions m l (Err h) n k
+  pub closed_broken : (name : Name) (h : PlacedHalt) (r : Result Bool PlacedHalt) → r ≡ Err h → ReadsItem levels numbering definitions m l (Err h) n k
       → ReadsClosed kind directive levels numbering definitions name m l r n k
   closed_broken name h r is reads =
-      reads_broken levels numbering definitions m l (λ (item : Result (Option Read) Fault) (f : Expander Listed). Emits line_reading (answers_at levels)
+      reads_broken levels numbering definitions m l (λ (item : Result (Option Read) PlacedFault) (f : Expander Listed). Emits line_reading (answers_at levels)
       (expander_of m l) (taken_of_item item) f)
-      (λ (answer : Result Bool Fault) (f : Expander Listed). Closes kind directive (answers_at levels) name
+      (λ (answer : Result Bool PlacedFault) (f : Expander Listed). Closes kind directive (answers_at levels) name
       (expander_of m l) answer f) h n n k k r is (λ fault f emits. does_not_close kind directive (answers_at levels) name (given.Fault fault)
       (expander_of m l) f emits fault refl refl) reads
 
@@ -54,7 +54,7 @@ module _ (kind : LineKind) (directive : Location) (levels : ℕ) (numbering : Nu
       item.1,
     )
 
-    pub closed_fault : (name : Name) (fault : Fault) → is_close_paren (taken_of_read found) ≡ false
+    pub closed_fault : (name : Name) (fault : PlacedFault) → is_close_paren (taken_of_read found) ≡ false
         → fault ≡ unwanted_closing kind directive (taken_of_read found) → ReadsClosed kind directive levels numbering definitions name m l (Err (halt.Fault fault)) n k
     closed_fault name fault still is = (
       expander_of n k,
@@ -63,16 +63,16 @@ module _ (kind : LineKind) (directive : Location) (levels : ℕ) (numbering : Nu
 
   module _ (found : Option Read) (taken : ReadsTaken levels numbering definitions m l (Ok found) n k) where
     -- after the `(`
-    pub parenthesized_name : (name : Name) (r : Result Bool Halt) (p : kept.Expander) (q : Listing) → name_in (taken_of_read found) ≡ Some name
+    pub parenthesized_name : (name : Name) (r : Result Bool PlacedHalt) (p : kept.Expander) (q : Listing) → name_in (taken_of_read found) ≡ Some name
         → ReadsClosed kind directive levels numbering definitions name n k r p q → ReadsInParentheses kind directive levels numbering definitions m l r p q
     parenthesized_name name r p q is reads =
-        reads_then levels numbering definitions m l (λ (answer : Result Bool Fault) (f : Expander Listed). Closes kind directive (answers_at levels) name
+        reads_then levels numbering definitions m l (λ (answer : Result Bool PlacedFault) (f : Expander Listed). Closes kind directive (answers_at levels) name
         (expander_of n k) answer f)
-        (λ (answer : Result Bool Fault) (f : Expander Listed). InParentheses kind directive (answers_at levels) (expander_of m l) answer f) n p k q r taken.1
+        (λ (answer : Result Bool PlacedFault) (f : Expander Listed). InParentheses kind directive (answers_at levels) (expander_of m l) answer f) n p k q r taken.1
         (λ answer f closed. closes_named kind directive (answers_at levels) name (taken_of_read found) (expander_of m l)
         (expander_of n k) f answer taken.0 is closed) reads
 
-    pub parenthesized_fault : (fault : Fault) → (name_in (taken_of_read found) ≡ None) × (fault ≡ unwanted_part directive (taken_of_read found))
+    pub parenthesized_fault : (fault : PlacedFault) → (name_in (taken_of_read found) ≡ None) × (fault ≡ unwanted_part directive (taken_of_read found))
         → ReadsInParentheses kind directive levels numbering definitions m l (Err (halt.Fault fault)) n k
     parenthesized_fault fault is = (
       expander_of n k,
@@ -81,12 +81,12 @@ module _ (kind : LineKind) (directive : Location) (levels : ℕ) (numbering : Nu
     )
 
     -- the whole operand
-    pub operand_opened : (r : Result Bool Halt) (p : kept.Expander) (q : Listing) → is_open_paren (taken_of_read found) ≡ true
+    pub operand_opened : (r : Result Bool PlacedHalt) (p : kept.Expander) (q : Listing) → is_open_paren (taken_of_read found) ≡ true
         → ReadsInParentheses kind directive levels numbering definitions n k r p q → ReadsOperand kind directive levels numbering definitions m l r p q
     operand_opened r p q open_paren reads =
-        reads_then levels numbering definitions m l (λ (answer : Result Bool Fault) (f : Expander Listed). InParentheses kind directive (answers_at levels)
+        reads_then levels numbering definitions m l (λ (answer : Result Bool PlacedFault) (f : Expander Listed). InParentheses kind directive (answers_at levels)
         (expander_of n k) answer f)
-        (λ (answer : Result Bool Fault) (f : Expander Listed). Operand kind directive (answers_at levels) (expander_of m l) answer f) n p k q r taken.1
+        (λ (answer : Result Bool PlacedFault) (f : Expander Listed). Operand kind directive (answers_at levels) (expander_of m l) answer f) n p k q r taken.1
         (λ answer f within. operand.in_parentheses kind directive (answers_at levels) (taken_of_read found) (expander_of m l) (expander_of n k) f answer taken.0 open_paren within) reads
 
     pub operand_name : (name : Name) (b : Bool) → name_in (taken_of_read found) ≡ Some name → b ≡ is_some (meaning_of definitions name)
@@ -97,7 +97,7 @@ module _ (kind : LineKind) (directive : Location) (levels : ℕ) (numbering : Nu
       taken.1,
     )
 
-    pub operand_fault : (fault : Fault) → is_open_paren (taken_of_read found) ≡ false → (name_in (taken_of_read found) ≡ None)
+    pub operand_fault : (fault : PlacedFault) → is_open_paren (taken_of_read found) ≡ false → (name_in (taken_of_read found) ≡ None)
         × (fault ≡ unwanted_part directive (taken_of_read found)) → ReadsOperand kind directive levels numbering definitions m l (Err (halt.Fault fault)) n k
     operand_fault fault still is = (
       expander_of n k,

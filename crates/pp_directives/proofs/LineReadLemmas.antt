@@ -1,9 +1,9 @@
 -- What is read of a line, as the code reads it: parts of it read one after the other, and faults that are passed on.
 use Rattle.std.proofs.Common.{◌≡◌, ℕ, ◌≤◌, arith, Bool, true, false, List, [], ◌++◌, refl, sym, subst, le_trans, Option, Some, None}
 use Rattle.std.specs.Prelude.{if◌then◌else◌, Result, Ok, Err}
+use Rattle.pp_model.specs.Places.{PlacedFault}
 use Rattle.pp_model.specs.declared.read.Read.{Read}
 use Rattle.pp_model.specs.Reading.{Expander, Listed, line_reading}
-use Rattle.pp_model.specs.Calls.{Fault}
 use Rattle.pp_model.specs.Emitting.{Emits, answers_at}
 use Rattle.pp_model.specs.Taking.{Takes}
 use Rattle.pp_model.specs.declared.read.Taken.TheVariants as given
@@ -13,7 +13,7 @@ use Rattle.pp_macros.specs.inner.Finishing.{Finishes, IsOpened}
 use Rattle.pp_macros.specs.inner.Frames.{names_of}
 use Rattle.pp_macros.specs.inner.Defined.{Defined}
 use Rattle.pp_macros.specs.Halting.{halt_of}
-use Rattle.pp_macros.specs.Item.{Step, is_out_of_memory}
+use Rattle.pp_macros.specs.Item.{PlacedStep, is_out_of_memory}
 use Rattle.pp_macros.specs.inner.Left.{work_of}
 use Rattle.pp_directives.specs.inner.LineItems.{IsOnLine, IsWorkLess, ReadsOfLine, ReadsOn, ReadsItem, ReadsTaken, expander_of, taken_of_item}
 use Rattle.pp_macros.specs.inner.Expander as kept
@@ -21,19 +21,19 @@ use Rattle.pp_macros.specs.inner.Expander.{TakesNext}
 use Rattle.pp_macros.specs.inner.Reader.{of_list, Listing}
 use Rattle.pp_macros.specs.declared.calls.Taken.{Taken}
 use Rattle.pp_macros.specs.declared.calls.Taken.TheVariants as taken
-use Rattle.pp_macros.specs.declared.step.StepExit.TheVariants.{Error, Continue, Finished}
+use Rattle.pp_macros.specs.declared.step.PlacedExit.TheVariants.{Error, Continue, Finished}
 use Rattle.pp_directives.proofs.LineTurnLemmas.{GoesOn, token_read, pause_read, end_read, fault_read, call_read, call_fault_read, next_read}
 use Rattle.pp_macros.proofs.taking.ListedLeadsLemmas.{turned}
 use Rattle.pp_macros.proofs.open_frames.ReportedLemmas.{wants_taken}
-use Rattle.pp_macros.specs.declared.halt.Halt.{Halt}
-use Rattle.pp_macros.specs.declared.halt.Halt.TheVariants as halt
+use Rattle.pp_macros.specs.declared.halt.PlacedHalt.{PlacedHalt}
+use Rattle.pp_macros.specs.declared.halt.PlacedHalt.TheVariants as halt
 use Rattle.pp_model.specs.declared.numbering.Numbering.{Numbering}
 
 module _ (levels : ℕ) (numbering : Numbering) (definitions : List Defined) (m : kept.Expander) (l : Listing) where
   -- the fault of a step, unless memory was refused
-  pub reads_fault : {T : Type 0} (P : Result T Fault → Expander Listed → Type 0) (h : Halt) (n : kept.Expander) (k : Listing) (fault : Fault)
+  pub reads_fault : {T : Type 0} (P : Result T PlacedFault → Expander Listed → Type 0) (h : PlacedHalt) (n : kept.Expander) (k : Listing) (fault : PlacedFault)
       → h ≡ halt_of fault → (is_out_of_memory fault.0 ≡ false → (f : Expander Listed) × P (Err fault) f) → ReadsOfLine {T = T} levels numbering definitions m l P (Err h) n k
-  reads_fault {T} P h n k fault is passes = subst (λ (x : Halt). ReadsOfLine {T = T} levels numbering definitions m l P (Err x) n k) (sym is)
+  reads_fault {T} P h n k fault is passes = subst (λ (x : PlacedHalt). ReadsOfLine {T = T} levels numbering definitions m l P (Err x) n k) (sym is)
       (go (is_out_of_memory fault.0) refl)
     where
       go : (b : Bool) → is_out_of_memory fault.0 ≡ b → ReadsOfLine {T = T} levels numbering definitions m l P (Err (if b then halt.OutOfMemory else halt.Fault fault)) n k
@@ -41,19 +41,19 @@ module _ (levels : ℕ) (numbering : Numbering) (definitions : List Defined) (m 
       go false e = passes e
 
   -- what was read before has a fault, which is that of the whole
-  pub reads_broken : {T U : Type 0} (P : Result T Fault → Expander Listed → Type 0) (Q : Result U Fault → Expander Listed → Type 0)
-      (h : Halt) (n p : kept.Expander) (k q : Listing) (r : Result U Halt) → r ≡ Err h
-      → ((fault : Fault) (f : Expander Listed) → P (Err fault) f → Q (Err fault) f) → ReadsOfLine {T = T} levels numbering definitions m l P (Err h) n k
+  pub reads_broken : {T U : Type 0} (P : Result T PlacedFault → Expander Listed → Type 0) (Q : Result U PlacedFault → Expander Listed → Type 0)
+      (h : PlacedHalt) (n p : kept.Expander) (k q : Listing) (r : Result U PlacedHalt) → r ≡ Err h
+      → ((fault : PlacedFault) (f : Expander Listed) → P (Err fault) f → Q (Err fault) f) → ReadsOfLine {T = T} levels numbering definitions m l P (Err h) n k
       → ReadsOfLine {T = U} levels numbering definitions m l Q r p q
-  reads_broken {T} {U} P Q h n p k q r is on reads = subst (λ (x : Result U Halt). ReadsOfLine {T = U} levels numbering definitions m l Q x p q) (sym is) (go h reads)
+  reads_broken {T} {U} P Q h n p k q r is on reads = subst (λ (x : Result U PlacedHalt). ReadsOfLine {T = U} levels numbering definitions m l Q x p q) (sym is) (go h reads)
     where
-      go : (h : Halt) → ReadsOfLine {T = T} levels numbering definitions m l P (Err h) n k → ReadsOfLine {T = U} levels numbering definitions m l Q (Err h) p q
+      go : (h : PlacedHalt) → ReadsOfLine {T = T} levels numbering definitions m l P (Err h) n k → ReadsOfLine {T = U} levels numbering definitions m l Q (Err h) p q
       go (halt.Fault fault) reads = (reads.0, on fault reads.0 reads.1)
       go halt.OutOfMemory reads = tt
 
   -- what is read after something that was read
-  pub reads_then : {T : Type 0} (P Q : Result T Fault → Expander Listed → Type 0) (n p : kept.Expander) (k q : Listing) (r : Result T Halt)
-      → ReadsOn levels numbering definitions m l n k → ((x : Result T Fault) (f : Expander Listed) → P x f → Q x f)
+  pub reads_then : {T : Type 0} (P Q : Result T PlacedFault → Expander Listed → Type 0) (n p : kept.Expander) (k q : Listing) (r : Result T PlacedHalt)
+      → ReadsOn levels numbering definitions m l n k → ((x : Result T PlacedFault) (f : Expander Listed) → P x f → Q x f)
       → ReadsOfLine {T = T} levels numbering definitions n k P r p q → ReadsOfLine {T = T} levels numbering definitions m l Q r p q
   reads_then P Q n p k q (Ok value) before on (read, after) =
       (on (Ok value) _ read, record { stands = after.stands; least = le_trans after.least before.least })
@@ -62,10 +62,10 @@ module _ (levels : ℕ) (numbering : Numbering) (definitions : List Defined) (m 
 
 -- what is taken next has a fault, or memory was refused
 pub taken_fault : (levels : ℕ) (numbering : Numbering) (definitions : List Defined) (m : kept.Expander) (l : Listing) → IsOnLine numbering definitions m l
-    → (n : kept.Expander) (k : Listing) (fault : Fault) (h : Halt) → TakesNext m (of_list l) (Err (Error fault)) n (of_list k) → h ≡ halt_of fault
+    → (n : kept.Expander) (k : Listing) (fault : PlacedFault) (h : PlacedHalt) → TakesNext m (of_list l) (Err (Error fault)) n (of_list k) → h ≡ halt_of fault
     → ReadsTaken levels numbering definitions m l (Err h) n k
 taken_fault levels numbering definitions m l on n k fault h next is =
-    reads_fault levels numbering definitions m l (λ (item : Result (Option Read) Fault) (f : Expander Listed). Takes line_reading (expander_of m l)
+    reads_fault levels numbering definitions m l (λ (item : Result (Option Read) PlacedFault) (f : Expander Listed). Takes line_reading (expander_of m l)
     (taken_of_item item) f) h n k fault is
     (λ reported. let read = next_read levels numbering definitions m n l k on (Err (Error fault)) next reported in (expander_of n k, read.0))
 
@@ -80,7 +80,7 @@ items_start levels numbering definitions m l on = record { goes_on = λ o g emit
 
 module _ (levels : ℕ) (numbering : Numbering) (definitions : List Defined) (m : kept.Expander) (l : Listing) (n : kept.Expander) (k : Listing) (on : ItemsOn levels numbering definitions m l n k)
     (p : kept.Expander) (q : Listing) where
-  itself : (step : Step Taken) → TurnsOrRefuses n (of_list k) step p (of_list q) → wants_taken step ≡ false → TurnsTo n (of_list k) step p (of_list q)
+  itself : (step : PlacedStep Taken) → TurnsOrRefuses n (of_list k) step p (of_list q) → wants_taken step ≡ false → TurnsTo n (of_list k) step p (of_list q)
   itself step turns reported = turned n p (of_list k) (of_list q) step turns reported
 
   pub items_token : (read : Read) → TurnsOrRefuses n (of_list k) (Ok (taken.Token read)) p (of_list q)
@@ -113,10 +113,10 @@ module _ (levels : ℕ) (numbering : Numbering) (definitions : List Defined) (m 
   pub items_pause_less : TurnsOrRefuses n (of_list k) (Err Continue) p (of_list q) → IsWorkLess levels n k p q
   items_pause_less turns = (pause_read levels numbering definitions n p k q on.stands (itself (Err Continue) turns refl)).2
 
-  pub items_fault : (fault : Fault) (h : Halt) → TurnsOrRefuses n (of_list k) (Err (Error fault)) p (of_list q) → h ≡ halt_of fault
+  pub items_fault : (fault : PlacedFault) (h : PlacedHalt) → TurnsOrRefuses n (of_list k) (Err (Error fault)) p (of_list q) → h ≡ halt_of fault
       → ReadsItem levels numbering definitions m l (Err h) p q
   items_fault fault h turns is =
-      reads_fault levels numbering definitions m l (λ (item : Result (Option Read) Fault) (f : Expander Listed). Emits line_reading (answers_at levels)
+      reads_fault levels numbering definitions m l (λ (item : Result (Option Read) PlacedFault) (f : Expander Listed). Emits line_reading (answers_at levels)
       (expander_of m l) (taken_of_item item) f) h p q fault is
       (λ reported. let read = fault_read levels numbering definitions n p k q on.stands fault (itself (Err (Error fault)) turns reported) reported in
       (read.0, on.goes_on (given.Fault fault) read.0 read.1))
@@ -133,11 +133,11 @@ module _ (levels : ℕ) (numbering : Numbering) (definitions : List Defined) (m 
     pub items_call_less : (u : kept.Expander) → IsOpened levels numbering definitions (names_of p.frames ++ []) c p u → IsWorkLess levels n k u q
     items_call_less u opened = (call_read levels numbering definitions n p k q on.stands c call u opened).2
 
-    pub items_call_fault : (u : kept.Expander) (h : Halt) (r : Result (Option Read) Halt) → Finishes levels numbering definitions [] c p (Err h) u → r ≡ Err h
+    pub items_call_fault : (u : kept.Expander) (h : PlacedHalt) (r : Result (Option Read) PlacedHalt) → Finishes levels numbering definitions [] c p (Err h) u → r ≡ Err h
         → ReadsItem levels numbering definitions m l r u q
-    items_call_fault u h r finishes is = subst (λ (x : Result (Option Read) Halt). ReadsItem levels numbering definitions m l x u q) (sym is) (go h finishes)
+    items_call_fault u h r finishes is = subst (λ (x : Result (Option Read) PlacedHalt). ReadsItem levels numbering definitions m l x u q) (sym is) (go h finishes)
       where
-        go : (h : Halt) → Finishes levels numbering definitions [] c p (Err h) u → ReadsItem levels numbering definitions m l (Err h) u q
+        go : (h : PlacedHalt) → Finishes levels numbering definitions [] c p (Err h) u → ReadsItem levels numbering definitions m l (Err h) u q
         go (halt.Fault fault) finishes =
             let read = call_fault_read levels numbering definitions n p k q on.stands c call fault finishes.0 in
             (read.0, on.goes_on (given.Fault fault) read.0 read.1)

@@ -1,9 +1,10 @@
 -- Reading the line of an `#if`, `#elif` or `#line`: each step of the code reads what the definitions read.
 use Rattle.std.proofs.Common.{◌≡◌, ◌∙◌, inl, inr, true, false, ℕ, ◌≤◌, List, [], ◌∷◌, ◌++◌, refl, sym, ap, subst, Option, Some, None, Bool}
 use Rattle.std.specs.Prelude.{if◌then◌else◌, Result, Ok, Err, option_map, unwrap_or, ⊤}
+use Rattle.pp_model.specs.Places.{PlacedFault, place_of}
 use Rattle.pp_model.specs.Numbering.{number_of}
 use Rattle.pp_model.specs.declared.read.Read.{Read}
-use Rattle.pp_model.specs.Calls.{Fault, Gathered, Site, site_of}
+use Rattle.pp_model.specs.Calls.{Gathered, Site, site_of}
 use Rattle.pp_model.specs.Emitting.{Emits, answers_at}
 use Rattle.pp_model.specs.Names.{Name, is_identifier, line_name}
 use Rattle.pp_model.specs.Reading.{Expander, Listed, line_reading}
@@ -17,7 +18,7 @@ use Rattle.pp_macros.specs.inner.CallTurns.{Sought, no_call, refused, gathered, 
 use Rattle.pp_macros.specs.inner.Defined.{Macro, Defined}
 use Rattle.pp_macros.specs.inner.Finishing.{site_at, IsOpened}
 use Rattle.pp_macros.specs.inner.Frames.{Frame, Advance, advance, names_of, outermost_frame_line}
-use Rattle.pp_macros.specs.Item.{Step, wants_memory, is_out_of_memory}
+use Rattle.pp_macros.specs.Item.{PlacedStep, wants_memory, is_out_of_memory}
 use Rattle.pp_macros.specs.inner.Left.{work_of, IsSound, most_open, most_bodies, regions}
 use Rattle.pp_directives.specs.inner.LineItems.{expander_of, IsHeld, IsOnLine, ReadsOn, IsWorkLess}
 use Rattle.pp_macros.specs.inner.Expander as kept
@@ -27,8 +28,8 @@ use Rattle.pp_macros.specs.inner.Reading.{painted_step}
 use Rattle.pp_macros.specs.inner.Turns.{Moves, as_pause, frame_move, masks}
 use Rattle.pp_macros.specs.declared.calls.Taken.{Taken}
 use Rattle.pp_macros.specs.declared.calls.Taken.TheVariants as taken
-use Rattle.pp_macros.specs.declared.step.StepExit.{StepExit}
-use Rattle.pp_macros.specs.declared.step.StepExit.TheVariants.{Error, Continue, Finished}
+use Rattle.pp_macros.specs.declared.step.PlacedExit.{PlacedExit}
+use Rattle.pp_macros.specs.declared.step.PlacedExit.TheVariants.{Error, Continue, Finished}
 use Rattle.pp_macros.proofs.work.CallFallsLemmas.{IsLess, IsPending, turn_falls}
 use Rattle.pp_macros.proofs.taking.ListedLeadsLemmas.{IsListed, list_simulates, list_shows, list_hides, list_sees, StandsListed, listed_leads, stands_listed, site_same, opened_less}
 use Rattle.pp_macros.proofs.taking.ExpanderLemmas.{next_no_pause}
@@ -46,23 +47,23 @@ abbrev IsList : Reader → Type 0
 IsList (of_source source) = ⊥
 IsList (of_list l) = ⊤
 
-abbrev IsNoFault : Step Read → Type 0
+abbrev IsNoFault : PlacedStep Read → Type 0
 IsNoFault (Ok read) = ⊤
 IsNoFault (Err Continue) = ⊤
 IsNoFault (Err Finished) = ⊤
 IsNoFault (Err (Error fault)) = ⊥
 
 -- A list has no fault of its own: what is taken there is a token, a pause or the end.
-record IsQuiet (step : Step Read) (s : Reader) : Type 0 where
+record IsQuiet (step : PlacedStep Read) (s : Reader) : Type 0 where
   quiet : IsNoFault step
   list : IsList s
 
-taken_quiet : (move : Step Read) (fs : List Frame) (s : Reader) → IsList s → IsNoFault move → IsNoFault (taken_as move fs s)
+taken_quiet : (move : PlacedStep Read) (fs : List Frame) (s : Reader) → IsList s → IsNoFault move → IsNoFault (taken_as move fs s)
 taken_quiet (Err exit) fs s list h = h
 taken_quiet (Ok read) fs (of_source source) list h = absurd list
 taken_quiet (Ok read) fs (of_list l) list h = go (is_identifier line_name read.token.value)
   where
-    go : (b : Bool) → IsNoFault (step_of_outcome (if b then line_number read.token.location
+    go : (b : Bool) → IsNoFault (step_of_outcome (if b then line_number (place_of read)
         (Some (number_of l.numbering (unwrap_or (outermost_frame_line fs) read.token.location.line))) else given.Token read))
     go true = tt
     go false = tt
@@ -79,7 +80,7 @@ frame_quiet : (fs : List Frame) (o : Option Advance) → IsNoFault (frame_move f
 frame_quiet fs None = tt
 frame_quiet fs (Some a) = pause_quiet a.gives
 
-moves_quiet : (frames gs : List Frame) (r s : Reader) (move : Step Read) → IsList r → Moves frames r move gs s → wants_memory move ≡ false → IsQuiet move s
+moves_quiet : (frames gs : List Frame) (r s : Reader) (move : PlacedStep Read) → IsList r → Moves frames r move gs s → wants_memory move ≡ false → IsQuiet move s
 moves_quiet [] gs (of_list old) (of_list new) move list (e, inl h) reported = record { quiet = rw h.0 (listed_quiet old.tokens); list = tt }
 moves_quiet [] gs (of_list old) (of_list new) move list (e, inr h) reported = absurd (let bad : true ≡ false = rw h at reported in cc)
 moves_quiet [] gs (of_list old) (of_source new) move list (e, h) reported = absurd h
@@ -87,29 +88,29 @@ moves_quiet [] gs (of_source old) s move list h reported = absurd list
 moves_quiet (f ∷ fs) gs r s move list (same, inl h) reported = record { quiet = rw h.0 (frame_quiet fs (advance f)); list = rw same list }
 moves_quiet (f ∷ fs) gs r s move list (same, inr h) reported = absurd (let bad : true ≡ false = rw h at reported in cc)
 
-held_quiet : (step : Step Read) → IsHeld (Some step) → IsNoFault step
+held_quiet : (step : PlacedStep Read) → IsHeld (Some step) → IsNoFault step
 held_quiet (Ok read) h = tt
 held_quiet (Err Continue) h = tt
 held_quiet (Err Finished) h = tt
 held_quiet (Err (Error fault)) h = h
 
-quiet_held : (step : Step Read) → IsNoFault step → is_pause step ≡ false → IsHeld (Some step)
+quiet_held : (step : PlacedStep Read) → IsNoFault step → is_pause step ≡ false → IsHeld (Some step)
 quiet_held (Ok read) h goes = tt
 quiet_held (Err Continue) h goes = cc
 quiet_held (Err Finished) h goes = tt
 quiet_held (Err (Error fault)) h goes = h
 
-free_held : (o : Option (Step Read)) → o ≡ None → IsHeld o
+free_held : (o : Option (PlacedStep Read)) → o ≡ None → IsHeld o
 free_held o e = subst IsHeld (sym e) tt
 
-fetch_frees : (m n : kept.Expander) (r s : Reader) (step : Step Read) → StepsFetching m r step n s → n.held ≡ None
+fetch_frees : (m n : kept.Expander) (r s : Reader) (step : PlacedStep Read) → StepsFetching m r step n s → n.held ≡ None
 fetch_frees m n r s step (held step1 m1 n1 r1 s1 is at same) = ap (λ (k : kept.Expander). k.held) at
 fetch_frees m n r s step (moved move step1 m1 n1 r1 s1 free moves is freed) = freed
 
-step_frees : (m n : kept.Expander) (r s : Reader) (step : Step Read) → StepsTaking m r step n s → n.held ≡ None
+step_frees : (m n : kept.Expander) (r s : Reader) (step : PlacedStep Read) → StepsTaking m r step n s → n.held ≡ None
 step_frees m n r s step steps = fetch_frees m n r s steps.first steps.fetches
 
-fetch_quiet : (m n : kept.Expander) (r s : Reader) (step : Step Read) → IsList r → IsHeld m.held → StepsFetching m r step n s → wants_memory step ≡ false
+fetch_quiet : (m n : kept.Expander) (r s : Reader) (step : PlacedStep Read) → IsList r → IsHeld m.held → StepsFetching m r step n s → wants_memory step ≡ false
     → IsQuiet step s
 fetch_quiet m n r s step list holds (held step1 m1 n1 r1 s1 is at same) reported =
     record { quiet = held_quiet step (subst IsHeld is holds); list = rw same list }
@@ -117,39 +118,39 @@ fetch_quiet m n r s step list holds (moved move step1 m1 n1 r1 s1 free moves is 
     let h = moves_quiet m.frames n.frames r s move list moves (taken_reported move n.frames s (rw is at reported)) in
     record { quiet = rw is (taken_quiet move n.frames s h.list h.quiet); list = h.list }
 
-painted_quiet : (names : List Name) (first : Step Read) → IsNoFault first → IsNoFault (painted_step names first)
+painted_quiet : (names : List Name) (first : PlacedStep Read) → IsNoFault first → IsNoFault (painted_step names first)
 painted_quiet names (Ok read) h = h
 painted_quiet names (Err exit) h = h
 
-step_quiet : (m n : kept.Expander) (r s : Reader) (step : Step Read) → IsList r → IsHeld m.held → StepsTaking m r step n s → wants_memory step ≡ false
+step_quiet : (m n : kept.Expander) (r s : Reader) (step : PlacedStep Read) → IsList r → IsHeld m.held → StepsTaking m r step n s → wants_memory step ≡ false
     → IsQuiet step s
 step_quiet m n r s step list holds steps reported =
     let names = masks n.frames s in
     let h = fetch_quiet m n r s steps.first list holds steps.fetches (painted_reported names steps.first (rw steps.paints at reported)) in
     record { quiet = rw steps.paints (painted_quiet names steps.first h.quiet); list = h.list }
 
-next_quiet : (m n : kept.Expander) (r s : Reader) (step : Step Read) → IsList r → IsHeld m.held → TakesNext m r step n s → wants_memory step ≡ false → IsQuiet step s
+next_quiet : (m n : kept.Expander) (r s : Reader) (step : PlacedStep Read) → IsList r → IsHeld m.held → TakesNext m r step n s → wants_memory step ≡ false → IsQuiet step s
 next_quiet m n r s step list holds (now step1 m1 n1 r1 s1 steps goes) reported = step_quiet m n r s step list holds steps reported
 next_quiet m n r s step list holds (later step1 m1 between n1 r1 s1 t1 steps next) reported =
     let h = step_quiet m between r s1 (Err Continue) list holds steps refl in
     next_quiet between n s1 s step h.list (free_held between.held (step_frees m between r s1 (Err Continue) steps)) next reported
 
 -- what is held after a turn; after a call it is said elsewhere
-abbrev HoldsAfter : Step Taken → kept.Expander → Type 0
+abbrev HoldsAfter : PlacedStep Taken → kept.Expander → Type 0
 HoldsAfter (Ok (taken.Token read)) n = IsHeld n.held
 HoldsAfter (Ok (taken.Call c)) n = ⊤
 HoldsAfter (Err Continue) n = IsHeld n.held
 HoldsAfter (Err Finished) n = IsHeld n.held
 HoldsAfter (Err (Error fault)) n = ⊤
 
-free_after : (step : Step Taken) (n : kept.Expander) → n.held ≡ None → HoldsAfter step n
+free_after : (step : PlacedStep Taken) (n : kept.Expander) → n.held ≡ None → HoldsAfter step n
 free_after (Ok (taken.Token read)) n e = free_held n.held e
 free_after (Ok (taken.Call c)) n e = tt
 free_after (Err Continue) n e = free_held n.held e
 free_after (Err Finished) n e = free_held n.held e
 free_after (Err (Error fault)) n e = tt
 
-sought_holds : (read : Read) (opened : Macro) (c : Sought) (step : Step Taken) (n p q : kept.Expander) (s t : Reader) → IsList s
+sought_holds : (read : Read) (opened : Macro) (c : Sought) (step : PlacedStep Taken) (n p q : kept.Expander) (s t : Reader) → IsList s
     → n.held ≡ None → Seeks n s c p t → Finds read opened c step p q → HoldsAfter step q
 sought_holds read opened c step n p q s t list free (alone next n1 p1 s1 t1 c1 taken_next none reported is) found =
     let found' : Finds read opened (no_call next) step p q = subst (λ (x : Sought). Finds read opened x step p q) is found in
@@ -158,11 +159,11 @@ sought_holds read opened c step n p q s t list free (alone next n1 p1 s1 t1 c1 t
 sought_holds read opened c step n p q s t list free (called next paren n1 between p1 s1 u t1 g c1 taken_next at gathers is) found =
     go g (subst (λ (x : Sought). Finds read opened x step p q) is found)
   where
-    go : (g : Result Gathered Fault) → Finds read opened (sought_by paren g) step p q → HoldsAfter step q
+    go : (g : Result Gathered PlacedFault) → Finds read opened (sought_by paren g) step p q → HoldsAfter step q
     go (Err fault) h = rw h.0 tt
     go (Ok g) h = rw h.0 tt
 
-turn_holds : (m n : kept.Expander) (r s : Reader) (step : Step Taken) → IsList r → IsHeld m.held → TurnsTo m r step n s → HoldsAfter step n
+turn_holds : (m n : kept.Expander) (r s : Reader) (step : PlacedStep Taken) → IsList r → IsHeld m.held → TurnsTo m r step n s → HoldsAfter step n
 turn_holds m n r s step list holds (passes exit step1 m1 n1 r1 s1 steps is) = free_after step n (step_frees m n r s (Err exit) steps)
 turn_holds m n r s step list holds (gives read step1 m1 n1 r1 s1 steps none is) = free_after step n (step_frees m n r s (Ok read) steps)
 turn_holds m p r s step list holds (object read opened step1 m1 n p1 r1 s1 steps some plain is at) =
@@ -172,10 +173,10 @@ turn_holds m q r t step list holds (seeks read opened c step1 m1 n p q1 r1 s t1 
     (step_frees m n r s (Ok read) steps) sought found
 
 -- the end is taken where a turn comes to it
-end_taken : (m n : kept.Expander) (r s : Reader) (step : Step Taken) → step ≡ Err Finished → TurnsTo m r step n s → StepsTaking m r (Err Finished) n s
-end_taken m n r s step e (passes exit step1 m1 n1 r1 s1 steps is) = subst (λ (x : StepExit). StepsTaking m r (Err x) n s) (exit_same exit (sym is ∙ e)) steps
+end_taken : (m n : kept.Expander) (r s : Reader) (step : PlacedStep Taken) → step ≡ Err Finished → TurnsTo m r step n s → StepsTaking m r (Err Finished) n s
+end_taken m n r s step e (passes exit step1 m1 n1 r1 s1 steps is) = subst (λ (x : PlacedExit). StepsTaking m r (Err x) n s) (exit_same exit (sym is ∙ e)) steps
   where
-    exit_same : (exit : StepExit) → ◌≡◌ {A = Step Taken} (Err exit) (Err Finished) → exit ≡ Finished
+    exit_same : (exit : PlacedExit) → ◌≡◌ {A = PlacedStep Taken} (Err exit) (Err Finished) → exit ≡ Finished
     exit_same exit e = cc
 end_taken m n r s step e (gives read step1 m1 n1 r1 s1 steps none is) = cc
 end_taken m p r s step e (object read opened step1 m1 n p1 r1 s1 steps some plain is at) = cc
@@ -187,7 +188,7 @@ end_taken m q r t step e (seeks read opened c step1 m1 n p q1 r1 s t1 steps some
     no_end (gathered paren g) h = let is = h.0 in cc
 
 module _ (numbering : Numbering) (definitions : List Defined) where
-  held_stands : (o : Option (Step Read)) (l : Listing) (x : Listed) → IsHeld o → IsListed true numbering definitions [] (of_list l) x
+  held_stands : (o : Option (PlacedStep Read)) (l : Listing) (x : Listed) → IsHeld o → IsListed true numbering definitions [] (of_list l) x
       → StandsHeld line_reading (IsListed true numbering definitions []) [] o (of_list l) x
   held_stands None l x h listed = listed
   held_stands (Some (Ok read)) l x h listed = listed
@@ -195,7 +196,7 @@ module _ (numbering : Numbering) (definitions : List Defined) where
   held_stands (Some (Err Continue)) l x h listed = absurd h
   held_stands (Some (Err (Error fault))) l x h listed = absurd h
 
-  stands_held : (o : Option (Step Read)) (l : Listing) (x : Listed) → IsHeld o
+  stands_held : (o : Option (PlacedStep Read)) (l : Listing) (x : Listed) → IsHeld o
       → StandsHeld line_reading (IsListed true numbering definitions []) [] o (of_list l) x → IsListed true numbering definitions [] (of_list l) x
   stands_held None l x h listed = listed
   stands_held (Some (Ok read)) l x h listed = listed
@@ -231,7 +232,7 @@ GoesOn levels m l n k = (o : Given) (g : Expander Listed) → Emits line_reading
     → Emits line_reading (answers_at levels) (expander_of m l) o g
 
 module _ (levels : ℕ) (numbering : Numbering) (definitions : List Defined) (m n : kept.Expander) (l k : Listing) (on : IsOnLine numbering definitions m l) where
-  leads : (step : Step Taken) → TurnsTo m (of_list l) step n (of_list k) → wants_taken step ≡ false
+  leads : (step : PlacedStep Taken) → TurnsTo m (of_list l) step n (of_list k) → wants_taken step ≡ false
       → LeadsTo line_reading (IsListed true numbering definitions []) [] (list_simulates true numbering definitions []) (list_shows true numbering definitions
       []) (list_hides true numbering definitions []) (list_sees true numbering definitions []) (answers_at levels) step (expander_of m l) n (of_list k)
   leads step turns reported = listed_leads true numbering definitions [] (answers_at levels) m n l k step (expander_of m l)
@@ -270,7 +271,7 @@ module _ (levels : ℕ) (numbering : Numbering) (definitions : List Defined) (m 
       (subst (λ (f : Expander Listed). Emits line_reading (answers_at levels) (expander_of m l) given.End f) at.0 h.1, record { stands = at.1; least = less })
 
   -- a fault
-  pub fault_read : (fault : Fault) → TurnsTo m (of_list l) (Err (Error fault)) n (of_list k) → is_out_of_memory fault.0 ≡ false
+  pub fault_read : (fault : PlacedFault) → TurnsTo m (of_list l) (Err (Error fault)) n (of_list k) → is_out_of_memory fault.0 ≡ false
       → (f : Expander Listed) × Emits line_reading (answers_at levels) (expander_of m l) (given.Fault fault) f
   fault_read fault turns reported = let h = leads (Err (Error fault)) turns reported in (h.0, h.1)
 
@@ -286,7 +287,7 @@ module _ (levels : ℕ) (numbering : Numbering) (definitions : List Defined) (m 
     site = site_same true numbering definitions [] n k c led.0 led.1 pending.free
 
     -- a call that has a fault
-    pub call_fault_read : (fault : Fault) → answers_at levels c.opened.definition (site_at c numbering definitions (names_of n.frames ++ [])) (Err fault)
+    pub call_fault_read : (fault : PlacedFault) → answers_at levels c.opened.definition (site_at c numbering definitions (names_of n.frames ++ [])) (Err fault)
         → (f : Expander Listed) × Emits line_reading (answers_at levels) (expander_of m l) (given.Fault fault) f
     call_fault_read fault answers = (led.0, (led.2 fault (subst (λ (x : Site). answers_at levels c.opened.definition x (Err fault)) (sym site) answers)).0)
 
@@ -314,7 +315,7 @@ module _ (levels : ℕ) (numbering : Numbering) (definitions : List Defined) (m 
         )
 
   -- what is taken next
-  pub next_read : (step : Step Read) → TakesNext m (of_list l) step n (of_list k) → wants_memory step ≡ false
+  pub next_read : (step : PlacedStep Read) → TakesNext m (of_list l) step n (of_list k) → wants_memory step ≡ false
       → Takes line_reading (expander_of m l) (outcome_of_step step) (expander_of n k) × ReadsOn levels numbering definitions m l n k
   next_read step next reported =
       let r = of_list l in
@@ -332,7 +333,7 @@ module _ (levels : ℕ) (numbering : Numbering) (definitions : List Defined) (m 
       let same : h.0 ≡ expander_of n k =
       ap (λ (o : Option Given). record h.0 { held = o }) h.3
       ∙ ap (λ (e : Expander Listed). record e { held = None }) at.0
-      ∙ ap (λ (o : Option (Step Read)). record (expander_of holding k) { held = option_map outcome_of_step o }) (sym free) in
+      ∙ ap (λ (o : Option (PlacedStep Read)). record (expander_of holding k) { held = option_map outcome_of_step o }) (sym free) in
       let stood : IsOnLine numbering definitions holding k = at.1 in (
         subst (λ (f : Expander Listed). Takes line_reading (expander_of m l) (outcome_of_step step) f) same h.1,
         record {

@@ -4,7 +4,7 @@ use Rattle.std.specs.Prelude.{ℤ, pos, ◌-ℤ◌}
 use Rattle.pp_lexer.specs.declared.rules.Rules.{Rules}
 use Rattle.pp_lexer.specs.declared.token.Location.{Location}
 use Rattle.pp_lexer.specs.declared.token.Token.{Token}
-use Rattle.pp_model.specs.Calls.{Fault}
+use Rattle.pp_model.specs.Places.{Fault}
 use Rattle.pp_model.specs.Definitions.{Definition}
 use Rattle.pp_model.specs.Lines.{first_token}
 use Rattle.pp_model.specs.declared.definition.Named.{Named}
@@ -38,6 +38,7 @@ noted_after taken old after still_open b = record {
   has_text = b.has_text;
   has_directive = refl;
   dead_for_good = b.dead_for_good;
+  contents = b.contents;
 }
 
 module _ (taken : ℕ) (old after : Source) (given : Option Token) where
@@ -70,7 +71,7 @@ module _ (taken : ℕ) (old after : Source) (given : Option Token) where
       → HasEffect effect taken directive_line change old (as_pause given) (remembering after)
   effect_noted (gives token) change h = (h.0, after_noted _ h.1, h.2)
   effect_noted (gives_item item word) change h = (h.0, after_noted _ h.1, h.2)
-  effect_noted (fails fault) change h = absurd (pause_no_fault given fault h.0)
+  effect_noted (fails fault) change h = absurd (pause_no_fault given _ h.0)
   effect_noted ends change h = absurd (pause_not_ends (last_block old.blocks) given old after h)
   effect_noted passes change h = (h.0, after_noted _ h.1, h.2)
   effect_noted (defines named) change h = defines_noted named (meaning_of old.definitions named.name) h
@@ -80,24 +81,24 @@ module _ (taken : ℕ) (old after : Source) (given : Option Token) where
   effect_noted (renumbers word tokens) change h = renumbers_noted word tokens h
 
 -- what a directive does after its number sign, where the word was read
-pub word_read : (rules : Rules) (definitions : List Defined) (blocks : List OpenBlock) (line_offset : ℤ) (has_text has_directive dead : Bool) (old mid : SourceLexed)
+pub word_read : (rules : Rules) (definitions : List Defined) (blocks : List OpenBlock) (line_offset : ℤ) (has_text has_directive dead : Bool) (contents : ℕ) (old mid : SourceLexed)
     → mid.rest ≡ drop 1 old.rest → (change : BlockChange) (move : Move) (given : Option Token) (after : Source)
-    → Makes unnoted change move (source_of mid rules definitions blocks line_offset has_text has_directive dead) (as_pause given) after
-    → Makes directive_line change (taking_more 1 move) (source_of old rules definitions blocks line_offset has_text has_directive dead)
+    → Makes unnoted change move (source_of mid rules definitions blocks line_offset has_text has_directive dead contents) (as_pause given) after
+    → Makes directive_line change (taking_more 1 move) (source_of old rules definitions blocks line_offset has_text has_directive dead contents)
     (as_pause given) (remembering after)
-word_read rules definitions blocks line_offset has_text has_directive dead old mid taken change move given after h =
-    effect_noted (1 + move.taken) (source_of old rules definitions blocks line_offset has_text has_directive dead) after given move.effect change
-    (effect_after rules definitions blocks line_offset has_text has_directive dead old mid 1 move.taken (1 + move.taken) refl taken unnoted change given after move.effect h)
+word_read rules definitions blocks line_offset has_text has_directive dead contents old mid taken change move given after h =
+    effect_noted (1 + move.taken) (source_of old rules definitions blocks line_offset has_text has_directive dead contents) after given move.effect change
+    (effect_after rules definitions blocks line_offset has_text has_directive dead contents old mid 1 move.taken (1 + move.taken) refl taken unnoted change given after move.effect h)
 
 -- the same where an error of the lexer was read in the place of the word, and is passed
-pub error_passed : (rules : Rules) (definitions : List Defined) (blocks : List OpenBlock) (line_offset : ℤ) (has_text has_directive dead : Bool)
+pub error_passed : (rules : Rules) (definitions : List Defined) (blocks : List OpenBlock) (line_offset : ℤ) (has_text has_directive dead : Bool) (contents : ℕ)
     (old mid new : SourceLexed) (hash : Location) (fault : Fault) → first_token hash old.rest ≡ Err fault → HasTaken 1 old mid
     → IsMet fault (unreported_at old) (unreported_at mid) → new ≡ record mid { error_place = None } → rules.passes_dead_errors ≡ true
     → ActsNoted (word_note false (first_token hash old.rest)) (word_change (first_token hash old.rest))
     (word_move rules false (facts_among blocks) (first_token hash old.rest) (drop 1 old.rest))
-    (source_of old rules definitions blocks line_offset has_text has_directive dead) (Ok tt)
-    (source_of new rules definitions blocks line_offset has_text has_directive dead)
-error_passed rules definitions blocks line_offset has_text has_directive dead old mid new hash fault is took met same passed =
+    (source_of old rules definitions blocks line_offset has_text has_directive dead contents) (Ok tt)
+    (source_of new rules definitions blocks line_offset has_text has_directive dead contents)
+error_passed rules definitions blocks line_offset has_text has_directive dead contents old mid new hash fault is took met same passed =
     rw (is, passed, same) (record {
       acts = (
         refl,
@@ -110,6 +111,7 @@ error_passed rules definitions blocks line_offset has_text has_directive dead ol
           has_text = refl;
           has_directive = refl;
           dead_for_good = refl;
+          contents = refl;
         },
         refl,
       );

@@ -4,7 +4,7 @@ use Rattle.pp_lexer.specs.Items.{Lexeme}
 use Rattle.pp_lexer.specs.Lexed.{Seen}
 use Rattle.pp_lexer.specs.declared.lexer.item.Token.{Token as LexerToken}
 use Rattle.pp_lexer.specs.declared.token.Location.{Location}
-use Rattle.pp_model.specs.Calls.{Fault}
+use Rattle.pp_model.specs.Places.{Fault}
 use Rattle.pp_model.specs.Conversions.{identifier_of, closes_parameters, parts_parameters, refused_token}
 use Rattle.pp_model.specs.DefineLines.{Parameters, parameters, after_parameter, after_comma}
 use Rattle.pp_model.specs.Names.{Name}

@@ -1,15 +1,16 @@
 -- Errors of the lexer that are passed, and those that are left then.
 use Rattle.std.proofs.Common.{◌≡◌, Bool, true, false, List, [], ◌∷◌, ◌++◌, refl, sym, subst, Option, Some, None, Ok, Err}
 use Rattle.pp_lexer.specs.declared.token.Location.{Location}
-use Rattle.pp_macros.specs.Item.{Fault, Step}
+use Rattle.pp_macros.specs.Item.{Fault, PlacedStep}
 use Rattle.pp_macros.specs.LexerErrors.{ErrorAt, AreLeft, none, kept, passed, PassesErrors}
 use Rattle.pp_macros.specs.inner.Unreported.{Unreported, with_read, IsMet, IsMetOrPassed, Reports, ExitReports, StepReports}
-use Rattle.pp_macros.specs.Halting.{exit_of}
+use Rattle.pp_macros.specs.Halting.{exit_of, placed_halt_of}
 use Rattle.pp_macros.specs.declared.halt.Halt.{Halt}
 use Rattle.pp_macros.specs.declared.halt.Halt.TheVariants as halt
-use Rattle.pp_macros.specs.declared.step.StepExit.{StepExit}
-use Rattle.pp_macros.specs.declared.step.StepExit.TheVariants.{Error, Continue, Finished}
+use Rattle.pp_macros.specs.declared.step.PlacedExit.{PlacedExit}
+use Rattle.pp_macros.specs.declared.step.PlacedExit.TheVariants.{Error, Continue, Finished}
 use Rattle.pp_directives.proofs.UnreportedLemmas.{nothing_met, same_none}
+use Rattle.pp_model.specs.Places.{unplaced}
 
 -- none is passed
 all_left : (errors : List ErrorAt) → AreLeft errors errors
@@ -30,17 +31,17 @@ pub met_or_passed : (passes : Bool) (fault : Fault) (old new : Unreported) → I
 met_or_passed passes fault old new met = λ none. passes_none passes _ _ (sym (met none))
 
 -- an exit after which no error was read
-pub exit_same : (passes : Bool) (exit : StepExit) (old new : Unreported) → new ≡ old → ExitReports passes exit old new
-exit_same passes (Error fault) old new same = λ reported. met_or_passed passes fault old new (nothing_met fault old new same)
+pub exit_same : (passes : Bool) (exit : PlacedExit) (old new : Unreported) → new ≡ old → ExitReports passes exit old new
+exit_same passes (Error fault) old new same = λ reported. met_or_passed passes (unplaced fault) old new (nothing_met (unplaced fault) old new same)
 exit_same passes Continue old new same = same_none passes old new same
 exit_same passes Finished old new same = same
 
-pub step_same : {A : Type 0} (passes : Bool) (step : Step A) (old new : Unreported) → new ≡ old → StepReports passes step old new
+pub step_same : {A : Type 0} (passes : Bool) (step : PlacedStep A) (old new : Unreported) → new ≡ old → StepReports passes step old new
 step_same passes (Ok value) old new same = same_none passes old new same
 step_same passes (Err exit) old new same = exit_same passes exit old new same
 
 -- an exit for what reading met
-pub halt_reported : (A : Type 0) (passes : Bool) (halt : Halt) (exit : StepExit) (old new : Unreported) → exit ≡ exit_of halt
+pub halt_reported : (A : Type 0) (passes : Bool) (halt : Halt) (exit : PlacedExit) (old new : Unreported) → exit ≡ exit_of (placed_halt_of halt)
     → Reports {A = A} false (Err halt) old new → ExitReports passes exit old new
 halt_reported A passes (halt.Fault fault) exit old new is met = rw is (λ reported. met_or_passed passes fault old new met)
 halt_reported A passes halt.OutOfMemory exit old new is met = rw is (λ reported. cc)

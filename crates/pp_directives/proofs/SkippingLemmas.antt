@@ -5,13 +5,15 @@ use Rattle.pp_lexer.specs.Lexed.{Seen}
 use Rattle.pp_lexer.specs.declared.rules.Rules.{Rules}
 use Rattle.pp_lexer.specs.declared.token.Location.{Location}
 use Rattle.pp_lexer.specs.declared.token.Token.{Token}
-use Rattle.pp_model.specs.Calls.{Fault}
+use Rattle.pp_model.specs.Places.{Fault}
 use Rattle.pp_model.specs.Lines.{line_length}
 use Rattle.pp_model.specs.Moves.{Move}
-use Rattle.pp_macros.specs.Halting.{exit_of}
-use Rattle.pp_macros.specs.Item.{Step}
+use Rattle.pp_macros.specs.Halting.{exit_of, placed_halt_of}
+use Rattle.pp_macros.specs.Item.{PlacedStep}
 use Rattle.pp_macros.specs.declared.halt.Halt.{Halt}
 use Rattle.pp_macros.specs.declared.halt.Halt.TheVariants as halt
+use Rattle.pp_macros.specs.declared.halt.PlacedHalt.{PlacedHalt}
+use Rattle.pp_macros.specs.declared.halt.PlacedHalt.TheVariants as placed_halt
 use Rattle.pp_macros.specs.inner.Defined.{names_in, body_tokens}
 use Rattle.pp_macros.specs.inner.LineReading.{Meets}
 use Rattle.pp_macros.specs.inner.OpenBlocks.{BlockChange}
@@ -61,18 +63,18 @@ rest_passed fault old mid new rules met skips = go old.rules.passes_dead_errors
     go false same = rw same (met_or_passed false fault (unreported_of old) (unreported_of mid) met)
 
 -- what a directive does is the same if what is left of its line is skipped
-pub skips_move : (note : Note) (change : BlockChange) (move : Move) (given : Result (Option Token) Halt) (old mid new : Source)
+pub skips_move : (note : Note) (change : BlockChange) (move : Move) (given : Result (Option Token) PlacedHalt) (old mid new : Source)
     → DoesMove as_pause note change move old given mid → SkipsAfter given mid new → DoesMove as_pause note change move old given new
 skips_move note change move (Ok token) old mid new does same = rw same does
-skips_move note change move (Err (halt.Fault fault)) old mid new does skips = (does.0, rest_keeps old mid new does.1 skips)
-skips_move note change move (Err halt.OutOfMemory) old mid new does skips = tt
+skips_move note change move (Err (placed_halt.Fault fault)) old mid new does skips = (does.0, rest_keeps old mid new does.1 skips)
+skips_move note change move (Err placed_halt.OutOfMemory) old mid new does skips = tt
 
 -- memory ran out while it was skipped
-pub refused_directive : (hash : Location) (old new : Source) (halt : Halt) (step : Step Token) → Meets {A = Unit {0}} {B = Unit {0}} (λ t. t) (Err halt) (Ok tt)
-    → step ≡ Err (exit_of halt) → StepsDirective hash old step new
+pub refused_directive : (hash : Location) (old new : Source) (halt : Halt) (step : PlacedStep Token) → Meets {A = Unit {0}} {B = Unit {0}} (λ t. t) (Err halt) (Ok tt)
+    → step ≡ Err (exit_of (placed_halt_of halt)) → StepsDirective hash old step new
 refused_directive hash old new (halt.Fault fault) step only is = cc
 refused_directive hash old new halt.OutOfMemory step only is = record {
-  given = Err halt.OutOfMemory;
+  given = Err placed_halt.OutOfMemory;
   mid = old;
   gives = record { acts = tt; holds = tt; errors = tt };
   skips = tt;

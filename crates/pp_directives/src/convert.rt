@@ -8,22 +8,23 @@ ghost use Rattle.pp_macros.specs.Held.{HoldsOrdinary};
 ghost use Rattle.pp_lexer.specs.TokenValue.{is_ordinary};
 ghost use Rattle.pp_lexer.specs.declared.lexer.item.TokenValue.TheVariants.{NewLine};
 ghost use Rattle.pp_model.specs.Conversions.{conversion};
-ghost use Rattle.pp_macros.specs.Item.{as_step};
+ghost use Rattle.pp_macros.specs.Item.{as_placed_step};
 ghost use Rattle.pp_directives.specs.WordTokens.{word_token};
 
 use pp_lexer::lexer::{self, Form, PlainItem, without_suffix};
 use pp_lexer::token::{Float, Integer, Text, Token, TokenValue};
-use pp_macros::step::{Step, StepExit};
+use pp_macros::step::{PlacedExit, PlacedStep};
 use pp_model::conversion::convert_lexer_token;
+use pp_model::place::placed;
 use std::alloc::{AllocError, Global};
 
-/// `convert_lexer_token` as a step: for a number sign it is an `Error`.
-pub fn convert_lexer_token_to_step(token: lexer::Token) -> Step<Token>
+/// The token of the preprocessor as a step over the source: for a number sign it is an error at its place.
+pub fn placed_token(token: lexer::Token) -> PlacedStep<Token>
     requires { token.value ≢ NewLine }
-    ensures is { result ≡ as_step (conversion token) }
+    ensures is { result ≡ as_placed_step (conversion token) }
     ensures ordinary { IfOk result (λ token. IsTrue (is_ordinary token.value)) }
 {
-    convert_lexer_token(token).map_err(StepExit::Error)
+    convert_lexer_token(token).map_err(|fault| PlacedExit::Error(placed(fault)))
 }
 
 // The text with this spelling.

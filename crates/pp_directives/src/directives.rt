@@ -20,20 +20,21 @@ mod blocks;
 mod plain_text;
 
 use crate::content::content_tokens;
-use crate::convert::convert_lexer_token_to_step;
+use crate::convert::placed_token;
 use crate::lines::pass_rest;
 use crate::source_lexer::SourceLexer;
 use pp_lexer::lexer::{self, Form};
 use pp_lexer::rules::Rules;
-use pp_lexer::token::{Integer, Location, PreprocessorError, Text, Token, out_of_memory};
+use pp_lexer::token::{Integer, Location, PreprocessorError, Text, Token};
 use pp_macros::blocks::Blocks;
 use pp_macros::budget::Budget;
 use pp_macros::define::Define;
-use pp_macros::halt::Halt;
+use pp_macros::halt::{Halt, PlacedHalt};
 use pp_macros::macro_processor::SpareCounts;
 use pp_macros::names::Definitions;
-use pp_macros::step::{Step, StepExit};
+use pp_macros::step::{PlacedExit, PlacedStep, no_memory};
 use pp_model::numbering::{Numbering, text_number};
+use pp_model::place::placed;
 use std::alloc::{AllocError, Global};
 use std::marker::Model;
 
@@ -50,6 +51,8 @@ pub struct DirectiveProcessor<'a> {
     has_directive: bool,
     // Whether an `#elif` outside of all blocks made the rest of the source dead.
     dead_for_good: bool,
+    // How many contents were added.
+    contents: u32,
     // those of the last line that was expanded alone
     counts: SpareCounts,
 }
@@ -71,6 +74,7 @@ impl<'a> Model for DirectiveProcessor<'a> {
       has_text = p.has_text;
       has_directive = p.has_directive;
       dead_for_good = p.dead_for_good;
+      contents = p.contents;
     } };
 }
 
@@ -92,6 +96,7 @@ impl<'a> DirectiveProcessor<'a> {
             has_text: false,
             has_directive: false,
             dead_for_good: false,
+            contents: 0,
             counts: SpareCounts::none(alloc, Budget::unbounded()),
         }
     }
@@ -142,16 +147,21 @@ impl<'a> DirectiveProcessor<'a> {
     }
 
     /// Defines the name as the tokens of a content of fewer than 2^32 - 1 bytes, read by these rules, replacing any
-    /// definition of it. After an error nothing is changed.
+    /// definition of it. The content is the next text. After an error nothing is changed. With 2^32 - 1 contents before
+    /// it the error is that of an allocation that failed.
     pub fn set_content(&mut self, name: &str, content: &str, rules: Rules) -> Result<(), Halt>
         requires { length content.now < 2 ^ 32 - 1 }
         ensures { SetsContent (chars name.now)
             (content_tokens (items_by rules content.now)) self.old result self.new }
     {
         let body = content_tokens(self.alloc, content, rules)?;
-        let define = Define::object_like(self.alloc, body)?;
+        let Some(text) = self.contents.checked_add(1) else {
+            return Err(Halt::OutOfMemory);
+        };
+        let define = Define::object_like(self.alloc, text, body)?;
         let name = Text::from(String::from_str(self.alloc, name)?);
         self.definitions.set(name, define)?;
+        self.contents = text;
         Ok(())
     }
 
@@ -179,7 +189,7 @@ impl<'a> DirectiveProcessor<'a> {
     }
 
     // Reports the innermost block that is open at the end of the source or, without one, the end.
-    fn end(&mut self) -> StepExit
+    fn end(&mut self) -> PlacedExit
         requires unspent { self.old.spent ≡ false }
         requires end { self.old.rest ≡ [] }
         ensures reads { StepsSource self.old (Err result) self.new }
@@ -187,8 +197,11 @@ impl<'a> DirectiveProcessor<'a> {
             (unreported_of self.new) }
     {
         match self.blocks.pop() {
-            Some(block) => StepExit::Error((PreprocessorError::UnfinishedBlock, block.word)),
-            None => StepExit::Finished,
+            Some(block) => PlacedExit::Error(placed((
+                PreprocessorError::UnfinishedBlock,
+                block.word,
+            ))),
+            None => PlacedExit::Finished,
         }
     }
 
@@ -206,7 +219,7 @@ impl<'a> DirectiveProcessor<'a> {
     }
 
     // A step at a directive, after its number sign. After a fault what is left of its line may be skipped.
-    fn step_directive(&mut self, hash: Location) -> Step<Token>
+    fn step_directive(&mut self, hash: Location) -> PlacedStep<Token>
         requires { self.old.spent ≡ false }
         ensures reads { StepsDirective hash self.old result self.new }
         ensures holds { IfOk result (λ token. HoldsOrdinary token.value) }
@@ -215,17 +228,17 @@ impl<'a> DirectiveProcessor<'a> {
     {
         match self.read_directive(hash) {
             Ok(Some(item)) => Ok(item),
-            Ok(None) => Err(StepExit::Continue),
-            Err(Halt::OutOfMemory) => Err(StepExit::from(Halt::OutOfMemory)),
-            Err(Halt::Fault(fault)) => {
+            Ok(None) => Err(PlacedExit::Continue),
+            Err(PlacedHalt::OutOfMemory) => Err(PlacedExit::from(PlacedHalt::OutOfMemory)),
+            Err(PlacedHalt::Fault(fault)) => {
                 self.skip_faulty_line()?;
-                Err(StepExit::Error(fault))
+                Err(PlacedExit::Error(fault))
             }
         }
     }
 
     // A step at any item, or at the end.
-    fn step_any(&mut self) -> Step<Token>
+    fn step_any(&mut self) -> PlacedStep<Token>
         requires { self.old.spent ≡ false }
         ensures reads { StepsSource self.old result self.new }
         ensures holds { IfOk result (λ token. HoldsOrdinary token.value) }
@@ -233,7 +246,7 @@ impl<'a> DirectiveProcessor<'a> {
             (unreported_of self.old) (unreported_of self.new) }
     {
         if self.lexer.pass_newline() {
-            return Err(StepExit::Continue);
+            return Err(PlacedExit::Continue);
         }
         let token = match self.lexer.next_token() {
             Ok(Some(token)) => token,
@@ -241,18 +254,18 @@ impl<'a> DirectiveProcessor<'a> {
             Err(Halt::Fault(fault)) if self.passes_errors() => {
                 drop(fault);
                 self.lexer.take_error_place();
-                return Err(StepExit::Continue);
+                return Err(PlacedExit::Continue);
             }
-            Err(halt) => return Err(StepExit::from(halt)),
+            Err(halt) => return Err(PlacedExit::from(halt)),
         };
         if self.lexer.is_over_budget() {
             drop(token);
-            return Err(StepExit::Error(out_of_memory()));
+            return Err(PlacedExit::Error(no_memory()));
         }
         match token.value {
             lexer::TokenValue::NewLine => {
                 drop(token);
-                Err(StepExit::Continue)
+                Err(PlacedExit::Continue)
             }
             lexer::TokenValue::Hash if token.start_of_line => {
                 let hash = token.location;
@@ -260,13 +273,13 @@ impl<'a> DirectiveProcessor<'a> {
                 self.step_directive(hash)
             }
             _ if self.is_live() => {
-                let token = convert_lexer_token_to_step(token)?;
+                let token = placed_token(token)?;
                 self.has_text = true;
                 Ok(token)
             }
             _ => {
                 drop(token);
-                Err(StepExit::Continue)
+                Err(PlacedExit::Continue)
             }
         }
     }
@@ -281,20 +294,20 @@ impl<'a> DirectiveProcessor<'a> {
     /// what is left of its line is skipped if the rules say so. At the end `UnfinishedBlock` is reported for each block
     /// that is open, the innermost first.
     #[inline(always)]
-    pub fn step(&mut self) -> Step<Token>
+    pub fn step(&mut self) -> PlacedStep<Token>
         ensures reads { StepsSource self.old result self.new }
         ensures holds { IfOk result (λ token. HoldsOrdinary token.value) }
         ensures errors { StepReports self.old.rules.passes_dead_errors result
             (unreported_of self.old) (unreported_of self.new) }
     {
         if self.lexer.is_spent() {
-            return Err(StepExit::Finished);
+            return Err(PlacedExit::Finished);
         }
         let Some(word) = self.lexer.peek_word() else {
             return self.step_any();
         };
         let Ok(()) = self.lexer.pay() else {
-            return Err(StepExit::Error(out_of_memory()));
+            return Err(PlacedExit::Error(no_memory()));
         };
         if matches!(word.form, Form::Hash) {
             if !word.start_of_line {
@@ -305,10 +318,10 @@ impl<'a> DirectiveProcessor<'a> {
         }
         if !self.is_live() {
             self.lexer.pass_word(&word);
-            return Err(StepExit::Continue);
+            return Err(PlacedExit::Continue);
         }
         let Ok(token) = self.lexer.take_word(self.alloc, word) else {
-            return Err(StepExit::Error(out_of_memory()));
+            return Err(PlacedExit::Error(no_memory()));
         };
         self.has_text = true;
         Ok(token)

@@ -12,7 +12,7 @@ use crate::limit::expansion_limit;
 use crate::line_words::line_words;
 use crate::token_list::LineReads;
 use pp_lexer::token::Location;
-use pp_macros::halt::Halt;
+use pp_macros::halt::PlacedHalt;
 use pp_macros::list_lexer::Scope;
 use pp_macros::macro_processor::SpareCounts;
 use pp_model::line_value::unwanted_word;
@@ -70,7 +70,7 @@ impl IfParser {
     /// Takes the longest expression at the front of the words, and gives its value.
     ///
     /// The error is its first fault, and then nothing is taken, or `OutOfMemory` if an allocation failed.
-    pub fn evaluate_expression(&mut self) -> Result<i64, Halt>
+    pub fn evaluate_expression(&mut self) -> Result<i64, PlacedHalt>
         ensures takes { Satisfies result (λ taken. TakesExpression self.old taken self.new) }
         ensures keeps { Satisfies result (λ taken. OnErr taken (self.new ≡ self.old)) }
     {
@@ -80,12 +80,12 @@ impl IfParser {
     /// Takes the expression that all words are together, and gives its value.
     ///
     /// The error is the first fault, a word after the expression among them, or `OutOfMemory` if an allocation failed.
-    pub fn evaluate_line(&mut self) -> Result<i64, Halt>
+    pub fn evaluate_line(&mut self) -> Result<i64, PlacedHalt>
         ensures { Satisfies result (IsAlone self.old.directive self.old.words (λ value. value)) }
     {
         let value = self.evaluate_expression()?;
         match self.peek() {
-            Some(word) => Err(Halt::Fault(unwanted_word(self.alloc, word)?)),
+            Some(word) => Err(PlacedHalt::Fault(unwanted_word(self.alloc, word)?)),
             None => Ok(value),
         }
     }

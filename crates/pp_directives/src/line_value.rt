@@ -11,7 +11,7 @@ ghost use Rattle.pp_directives.specs.inner.LineHalts.{without_number};
 use crate::if_parser::IfParser;
 use crate::token_list::LineReads;
 use pp_lexer::token::{Location, PreprocessorError};
-use pp_macros::halt::Halt;
+use pp_macros::halt::PlacedHalt;
 use pp_macros::list_lexer::Scope;
 use pp_macros::macro_processor::SpareCounts;
 use pp_model::numbering::as_line_number;
@@ -28,7 +28,7 @@ pub fn condition(
     tokens: LineReads,
     scope: &Scope<'_>,
     counts: &mut SpareCounts,
-) -> Result<bool, Halt>
+) -> Result<bool, PlacedHalt>
     requires { AllHoldOrdinary tokens }
     ensures { Satisfies result (IsCondition (answers_at expansion_limit) directive tokens
         scope.now.numbering (meaning_of scope.now.definitions.now)) }
@@ -42,31 +42,31 @@ pub fn condition(
 #[derive(Drop)]
 pub struct LineHalt {
     /// Its first fault, or that an allocation failed.
-    pub halt: Halt,
+    pub halt: PlacedHalt,
     /// The line number of its first expression, if the fault comes after that expression.
     pub number: Option<u32>,
 }
 
 impl From<AllocError> for LineHalt {
     ghost use Rattle.std.specs.Prelude.{◌≡◌};
-    ghost use Rattle.pp_macros.specs.declared.halt.Halt.TheVariants.{OutOfMemory};
+    ghost use Rattle.pp_macros.specs.declared.halt.PlacedHalt.TheVariants.{OutOfMemory};
 
     ghost from_gives = { λ error refused. refused.halt ≡ OutOfMemory };
 
     fn from(_error: AllocError) -> Self {
         LineHalt {
-            halt: Halt::OutOfMemory,
+            halt: PlacedHalt::OutOfMemory,
             number: None,
         }
     }
 }
 
-impl From<Halt> for LineHalt {
+impl From<PlacedHalt> for LineHalt {
     ghost use Rattle.std.specs.Prelude.{◌≡◌};
 
     ghost from_gives = { λ halt refused. refused.halt ≡ halt };
 
-    fn from(halt: Halt) -> Self {
+    fn from(halt: PlacedHalt) -> Self {
         LineHalt { halt, number: None }
     }
 }
@@ -96,7 +96,10 @@ pub fn line_number(
     )?;
     let value = parser.evaluate_expression()?;
     let Some(number) = as_line_number(value) else {
-        return Err(LineHalt::from(Halt::Fault((PreprocessorError::LineOverflow, directive))));
+        return Err(LineHalt::from(PlacedHalt::of_source(
+            PreprocessorError::LineOverflow,
+            directive,
+        )));
     };
     if parser.peek().is_none() {
         return Ok(number);

@@ -11,16 +11,17 @@ ghost use Rattle.pp_directives.specs.inner.ReadingWords.{AreWordsOfLine};
 ghost use Rattle.pp_directives.specs.inner.LineItems.{taken_of_read};
 
 use crate::token_list::LineReads;
-use pp_lexer::token::{Location, PreprocessorError, Text, Token, TokenValue};
+use pp_lexer::token::{Location, PreprocessorError, Text, TokenValue};
 use pp_macros::arguments::finish_call;
 use pp_macros::calls::Taken;
-use pp_macros::halt::{Halt, halt_of};
+use pp_macros::halt::{PlacedHalt, halt_of};
 use pp_macros::list_lexer::{ListLexer, Scope};
 use pp_macros::list_step::{step_list, take_list};
 use pp_macros::macro_processor::{MacroProcessor, SpareCounts};
-use pp_macros::step::StepExit;
-use pp_model::outcome::Fault;
+use pp_macros::step::PlacedExit;
+use pp_model::line_value::ended_early;
 use pp_model::parentheses::{is_left_paren, is_right_paren};
+use pp_model::place::PlacedFault;
 use pp_model::read::Read;
 use pp_model::word::{LineKind, Word, WordReading, Words, reading_of, unwanted_reading};
 use std::alloc::{AllocError, Global};
@@ -71,7 +72,7 @@ fn close_line(mut line: LineExpander<'_>) -> SpareCounts {
 impl<'a> WordReader<'a> {
     // The next item of the line, or `None` at its end.
     #[inline(always)]
-    fn next_item(&self, line: &mut LineExpander<'_>) -> Result<Option<Read>, Halt>
+    fn next_item(&self, line: &mut LineExpander<'_>) -> Result<Option<Read>, PlacedHalt>
         requires { IsReading self.now line.old }
         ensures reads { GivesItem self.now line.old result line.new }
         ensures less { TakesOff self.now line.old result line.new }
@@ -86,24 +87,24 @@ impl<'a> WordReader<'a> {
                     &self.scope,
                     self.levels,
                 )?,
-                Err(StepExit::Continue) => {}
-                Err(StepExit::Finished) => return Ok(None),
-                Err(StepExit::Error(fault)) => return Err(halt_of(fault)),
+                Err(PlacedExit::Continue) => {}
+                Err(PlacedExit::Finished) => return Ok(None),
+                Err(PlacedExit::Error(fault)) => return Err(halt_of(fault)),
             }
         }
     }
 
     // Takes the next token without looking it up, or `None` at the end of the line.
     #[inline(always)]
-    fn take(&self, line: &mut LineExpander<'_>) -> Result<Option<Read>, Halt>
+    fn take(&self, line: &mut LineExpander<'_>) -> Result<Option<Read>, PlacedHalt>
         requires { IsReading self.now line.old }
         ensures { GivesTaken self.now line.old result line.new }
     {
         match take_list(&mut line.expander, &mut line.lexer) {
             Ok(read) => Ok(Some(read)),
-            Err(StepExit::Finished) => Ok(None),
-            Err(StepExit::Continue) => Ok(None),
-            Err(StepExit::Error(fault)) => Err(halt_of(fault)),
+            Err(PlacedExit::Finished) => Ok(None),
+            Err(PlacedExit::Continue) => Ok(None),
+            Err(PlacedExit::Error(fault)) => Err(halt_of(fault)),
         }
     }
 
@@ -115,33 +116,34 @@ impl<'a> WordReader<'a> {
     }
 
     // The fault of an item where `defined` needs its operand or a parenthesis.
-    fn unwanted_word(&self, found: Option<Read>) -> Fault
+    fn unwanted_word(&self, found: Option<Read>) -> PlacedFault
         ensures { result ≡ unwanted_closing self.now.kind self.now.directive (taken_of_read found) }
     {
         match found {
-            Some(read) => unwanted_reading(reading_of(self.kind, read.token)),
-            None => (PreprocessorError::UnexpectedEndOfInput, self.directive),
+            Some(read) => unwanted_reading(reading_of(self.kind, read)),
+            None => ended_early(self.directive),
         }
     }
 
     // The name of an identifier, or the fault of anything else where `defined` needs a name.
-    fn name_or_fault(&self, found: Option<Read>) -> Result<Text, Fault>
+    fn name_or_fault(&self, found: Option<Read>) -> Result<Text, PlacedFault>
         ensures { IsNameOrFault self.now.directive found result }
     {
         match found {
             Some(read) => {
-                let Token { value, location } = read.token;
+                let place = read.place();
+                let value = read.token.value;
                 match value {
                     TokenValue::Ident(name) => Ok(name),
-                    other => Err((PreprocessorError::UnexpectedToken(other), location)),
+                    other => Err((PreprocessorError::UnexpectedToken(other), place)),
                 }
             }
-            None => Err((PreprocessorError::UnexpectedEndOfInput, self.directive)),
+            None => Err(ended_early(self.directive)),
         }
     }
 
     // The value of a `defined` after its `(` and the name.
-    fn closed_operand(&self, line: &mut LineExpander<'_>, name: &Text) -> Result<bool, Halt>
+    fn closed_operand(&self, line: &mut LineExpander<'_>, name: &Text) -> Result<bool, PlacedHalt>
         requires { IsReading self.now line.old }
         ensures { GivesClosed self.now name.now line.old result line.new }
     {
@@ -150,24 +152,24 @@ impl<'a> WordReader<'a> {
             drop(found);
             Ok(self.is_defined(name))
         } else {
-            Err(Halt::Fault(self.unwanted_word(found)))
+            Err(PlacedHalt::Fault(self.unwanted_word(found)))
         }
     }
 
     // The value of a `defined` after its `(`.
-    fn operand_in_parentheses(&self, line: &mut LineExpander<'_>) -> Result<bool, Halt>
+    fn operand_in_parentheses(&self, line: &mut LineExpander<'_>) -> Result<bool, PlacedHalt>
         requires { IsReading self.now line.old }
         ensures { GivesInParentheses self.now line.old result line.new }
     {
         let found = self.take(line)?;
         match self.name_or_fault(found) {
             Ok(name) => self.closed_operand(line, &name),
-            Err(fault) => Err(Halt::Fault(fault)),
+            Err(fault) => Err(PlacedHalt::Fault(fault)),
         }
     }
 
     // The value of a `defined`, from its operand.
-    fn operand(&self, line: &mut LineExpander<'_>) -> Result<bool, Halt>
+    fn operand(&self, line: &mut LineExpander<'_>) -> Result<bool, PlacedHalt>
         requires { IsReading self.now line.old }
         ensures { GivesOperand self.now line.old result line.new }
     {
@@ -178,7 +180,7 @@ impl<'a> WordReader<'a> {
         }
         match self.name_or_fault(found) {
             Ok(name) => Ok(self.is_defined(&name)),
-            Err(fault) => Err(Halt::Fault(fault)),
+            Err(fault) => Err(PlacedHalt::Fault(fault)),
         }
     }
 
@@ -189,25 +191,25 @@ impl<'a> WordReader<'a> {
     {
         let mut words = Vec::with_capacity(self.alloc, 16)?;
         'words: loop {
-            let token = match self.next_item(line) {
-                Ok(Some(read)) => read.token,
+            let read = match self.next_item(line) {
+                Ok(Some(read)) => read,
                 Ok(None) => return Ok(Words::new(words, None)),
-                Err(Halt::Fault(fault)) => return Ok(Words::new(words, Some(fault))),
-                Err(Halt::OutOfMemory) => return Err(AllocError),
+                Err(PlacedHalt::Fault(fault)) => return Ok(Words::new(words, Some(fault))),
+                Err(PlacedHalt::OutOfMemory) => return Err(AllocError),
             };
-            let place = token.location;
-            match reading_of(self.kind, token) {
+            let place = read.place();
+            match reading_of(self.kind, read) {
                 WordReading::Refused(fault) => return Ok(Words::new(words, Some(fault))),
                 WordReading::Word(word) => words.push(Word::Plain(word))?,
                 WordReading::Operator(operator) => {
                     drop(operator);
                     match self.operand(line) {
                         Ok(answer) => words.push(Word::Defined(place, Ok(answer)))?,
-                        Err(Halt::Fault(fault)) => {
+                        Err(PlacedHalt::Fault(fault)) => {
                             words.push(Word::Defined(place, Err(fault)))?;
                             return Ok(Words::new(words, None));
                         }
-                        Err(Halt::OutOfMemory) => return Err(AllocError),
+                        Err(PlacedHalt::OutOfMemory) => return Err(AllocError),
                     }
                 }
             }

@@ -26,6 +26,7 @@ use pp_macros::define::Define;
 use pp_macros::halt::Halt;
 use pp_model::conversion::{convert_lexer_token, refused_token};
 use pp_model::names::is_own_name;
+use pp_model::place::SOURCE_TEXT;
 use std::alloc::Global;
 
 /// The next token. The end of the source is an error at the directive's word.
@@ -349,7 +350,7 @@ fn function_after(
 {
     let names = parameters(alloc, word, lexer)?;
     let body = rest_of_line(alloc, lexer)?;
-    Ok(Define::function_like(alloc, names, body)?)
+    Ok(Define::function_like(alloc, SOURCE_TEXT, names, body)?)
 }
 
 // The definition after a macro's name.
@@ -364,7 +365,7 @@ fn definition(alloc: Global, word: Location, lexer: &mut SourceLexer<'_>) -> Res
     }
     let first = line_token(token)?;
     let body = line_tokens_from(alloc, first, lexer)?;
-    Ok(Define::object_like(alloc, body)?)
+    Ok(Define::object_like(alloc, SOURCE_TEXT, body)?)
 }
 
 /// Reads a `#define` line, after its word.

@@ -7,7 +7,7 @@ use pp_lexer::token::Integer;
 use pp_macros::define::Macro;
 use pp_macros::names::NameId;
 use pp_macros::reader::MeLexer;
-use pp_macros::step::Step;
+use pp_macros::step::PlacedStep;
 use pp_model::read::Read;
 use std::alloc::AllocError;
 use std::rc::Rc;
@@ -15,7 +15,7 @@ use std::rc::Rc;
 impl<'a> MeLexer for DirectiveProcessor<'a> {
     ghost reader = { λ source. of_source source };
 
-    fn step(&mut self) -> Step<Read> {
+    fn step(&mut self) -> PlacedStep<Read> {
         match DirectiveProcessor::step(self) {
             Ok(token) => Ok(Read::unpainted(token)),
             Err(exit) => Err(exit),

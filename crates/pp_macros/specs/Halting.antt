@@ -1,24 +1,40 @@
 -- Why reading a part of the source stopped without a value, as the exit of a step.
 use Rattle.std.specs.Prelude.{if◌then◌else◌, Option, Result, Ok, Err}
-use Rattle.pp_lexer.specs.PreprocessorError.{out_of_memory}
 use Rattle.pp_lexer.specs.declared.token.Token.{Token}
-use Rattle.pp_macros.specs.Item.{Fault, Step, is_out_of_memory}
+use Rattle.pp_model.specs.Places.{PlacedFault, placed, unplaced}
+use Rattle.pp_macros.specs.Item.{PlacedStep, is_out_of_memory, no_memory}
 use Rattle.pp_macros.specs.inner.Turns.{as_pause}
 use Rattle.pp_macros.specs.declared.halt.Halt.{Halt}
 use Rattle.pp_macros.specs.declared.halt.Halt.TheVariants as halt
-use Rattle.pp_macros.specs.declared.step.StepExit.{StepExit}
-use Rattle.pp_macros.specs.declared.step.StepExit.TheVariants.{Error}
+use Rattle.pp_macros.specs.declared.halt.PlacedHalt.{PlacedHalt}
+use Rattle.pp_macros.specs.declared.halt.PlacedHalt.TheVariants as placed_halt
+use Rattle.pp_macros.specs.declared.step.PlacedExit.{PlacedExit}
+use Rattle.pp_macros.specs.declared.step.PlacedExit.TheVariants.{Error}
+
+-- the same with the text of the fault, which is the source
+abbrev pub placed_halt_of : Halt → PlacedHalt
+placed_halt_of (halt.Fault fault) = placed_halt.Fault (placed fault)
+placed_halt_of halt.OutOfMemory = placed_halt.OutOfMemory
+
+-- the same without the text of the fault
+abbrev pub unplaced_halt : PlacedHalt → Halt
+unplaced_halt (placed_halt.Fault fault) = halt.Fault (unplaced fault)
+unplaced_halt placed_halt.OutOfMemory = halt.OutOfMemory
+
+abbrev pub unplaced_result : {A : Type 0} → Result A PlacedHalt → Result A Halt
+unplaced_result (Ok value) = Ok value
+unplaced_result (Err halt) = Err (unplaced_halt halt)
 
 -- the exit of a step that stops so
-abbrev pub exit_of : Halt → StepExit
-exit_of (halt.Fault fault) = Error fault
-exit_of halt.OutOfMemory = Error out_of_memory
+abbrev pub exit_of : PlacedHalt → PlacedExit
+exit_of (placed_halt.Fault fault) = Error fault
+exit_of placed_halt.OutOfMemory = Error no_memory
 
 -- a token is given, and no token is a pause
-abbrev pub step_of : Result (Option Token) Halt → Step Token
+abbrev pub step_of : Result (Option Token) PlacedHalt → PlacedStep Token
 step_of (Ok given) = as_pause given
 step_of (Err halt) = Err (exit_of halt)
 
 -- `OutOfMemory` as such, any other error as a fault
-abbrev pub halt_of : Fault → Halt
-halt_of fault = if is_out_of_memory fault.0 then halt.OutOfMemory else halt.Fault fault
+abbrev pub halt_of : PlacedFault → PlacedHalt
+halt_of fault = if is_out_of_memory fault.0 then placed_halt.OutOfMemory else placed_halt.Fault fault

@@ -2,11 +2,13 @@
 use Rattle.std.specs.Prelude.{Bool, true, false, Result, Ok, Err}
 use Rattle.pp_lexer.specs.declared.lexer.item.Token.{Token as LexerToken}
 use Rattle.pp_lexer.specs.declared.token.Location.{Location}
+use Rattle.pp_lexer.specs.PreprocessorError.{out_of_memory}
+use Rattle.pp_model.specs.Places.{PlacedFault, placed}
 use Rattle.pp_lexer.specs.declared.token.PreprocessorError.{PreprocessorError}
 use Rattle.pp_lexer.specs.declared.token.Token.{Token}
 use Rattle.pp_lexer.specs.declared.token.PreprocessorError.TheVariants.{OutOfMemory}
-use Rattle.pp_macros.specs.declared.step.StepExit.{StepExit}
-use Rattle.pp_macros.specs.declared.step.StepExit.TheVariants.{Error}
+use Rattle.pp_macros.specs.declared.step.PlacedExit.{PlacedExit}
+use Rattle.pp_macros.specs.declared.step.PlacedExit.TheVariants.{Error}
 
 -- an error with its place
 abbrev pub Fault : Type 0
@@ -18,19 +20,23 @@ LexerItem = Result LexerToken Fault
 abbrev pub Item : Type 0
 Item = Result Token Fault
 
-abbrev pub Step : Type 0 → Type 0
-Step T = Result T StepExit
+abbrev pub PlacedStep : Type 0 → Type 0
+PlacedStep T = Result T PlacedExit
 
--- a result as a step
-abbrev pub as_step : {T : Type 0} → Result T Fault → Step T
-as_step (Ok value) = Ok value
-as_step (Err fault) = Err (Error fault)
+-- a result over the source as a step
+abbrev pub as_placed_step : {T : Type 0} → Result T Fault → PlacedStep T
+as_placed_step (Ok value) = Ok value
+as_placed_step (Err fault) = Err (Error (placed fault))
+
+-- the fault of a step for which memory ran out
+abbrev pub no_memory : PlacedFault
+no_memory = placed out_of_memory
 
 abbrev pub is_out_of_memory : PreprocessorError → Bool
 is_out_of_memory OutOfMemory = true
 is_out_of_memory _ = false
 
 -- the step is an error that says that memory ran out
-abbrev pub wants_memory : {T : Type 0} → Step T → Bool
+abbrev pub wants_memory : {T : Type 0} → PlacedStep T → Bool
 wants_memory (Err (Error fault)) = is_out_of_memory fault.0
 wants_memory _ = false

@@ -12,16 +12,16 @@ ghost use Rattle.pp_macros.specs.inner.Parts.{lists_of, AreInOrder};
 ghost use Rattle.pp_macros.specs.inner.Reading.{AllReadOrdinary};
 ghost use Rattle.pp_macros.specs.inner.Expander.{Satisfies};
 ghost use Rattle.pp_macros.specs.inner.Plain.{is_plain};
-ghost use Rattle.pp_macros.specs.declared.step.StepExit.TheVariants.{Error};
+ghost use Rattle.pp_macros.specs.declared.step.PlacedExit.TheVariants.{Error};
 
 use crate::argument_lists::{ArgumentLists, Part};
 use crate::calls::{MacroCall, Taken};
-use crate::halt::{Halt, halt_of};
+use crate::halt::{PlacedHalt, halt_of};
 use crate::list_lexer::{ListLexer, Scope, take_out};
 use crate::list_step::{is_plain, step_list};
 use crate::macro_processor::MacroProcessor;
 use crate::names::Definitions;
-use crate::step::StepExit;
+use crate::step::PlacedExit;
 use pp_lexer::token::{PreprocessorError, Text};
 use pp_model::parentheses::{ends_argument, nesting_after};
 use pp_model::read::Read;
@@ -89,7 +89,7 @@ pub fn finish_call(
     mut call: MacroCall,
     scope: &Scope<'_>,
     levels: u32,
-) -> Result<(), Halt>
+) -> Result<(), PlacedHalt>
     requires free { processor.old.here.held ≡ None }
     requires known { AreKnown (names_in scope.now.definitions.now) processor.old }
     ensures finishes { Finishes levels scope.now.numbering scope.now.definitions.now (names_of processor.old.below) call
@@ -109,7 +109,7 @@ fn expand_call(
     call: &mut MacroCall,
     scope: &Scope<'_>,
     levels: u32,
-) -> Result<ArgumentLists, Halt>
+) -> Result<ArgumentLists, PlacedHalt>
     requires free { processor.old.here.held ≡ None }
     requires known { AreKnown (names_in scope.now.definitions.now) processor.old }
     ensures same { processor.new ≡ processor.old }
@@ -120,11 +120,11 @@ fn expand_call(
 {
     let arguments = arguments_of(&mut *processor, call.take_tokens(alloc))?;
     match misfit(call.parameters(), &arguments) {
-        Some(error) => return Err(Halt::Fault((error, call.paren()))),
+        Some(error) => return Err(PlacedHalt::Fault((error, call.paren()))),
         None => {}
     }
     if levels == 0 {
-        return Err(Halt::Fault((PreprocessorError::RecursionLimitReached, call.paren())));
+        return Err(PlacedHalt::Fault((PreprocessorError::RecursionLimitReached, call.paren())));
     }
     expand_arguments(alloc, processor, arguments, scope, levels - 1)
 }
@@ -137,7 +137,7 @@ fn expand_arguments(
     arguments: ArgumentLists,
     scope: &Scope<'_>,
     levels: u32,
-) -> Result<ArgumentLists, Halt>
+) -> Result<ArgumentLists, PlacedHalt>
     requires free { processor.old.here.held ≡ None }
     requires known { AreKnown (names_in scope.now.definitions.now) processor.old }
     ensures same { processor.new ≡ processor.old }
@@ -163,7 +163,7 @@ fn expand_parts(
     parts: &[Part],
     scope: &Scope<'_>,
     levels: u32,
-) -> Result<ArgumentLists, Halt>
+) -> Result<ArgumentLists, PlacedHalt>
     requires holds { AllReadOrdinary tokens.old }
     requires order { AreInOrder 0 parts.now (length tokens.old) }
     requires free { processor.old.here.held ≡ None }
@@ -215,7 +215,7 @@ fn expand_argument(
     items: &mut Vec<Read>,
     scope: &Scope<'_>,
     levels: u32,
-) -> Result<(), Halt>
+) -> Result<(), PlacedHalt>
     requires ordinary { AllReadOrdinary tokens.old }
     requires before { AllReadOrdinary items.old.items }
     requires free { processor.old.here.held ≡ None }
@@ -245,7 +245,7 @@ fn expand_list(
     items: &mut Vec<Read>,
     scope: &Scope<'_>,
     levels: u32,
-) -> Result<(), Halt>
+) -> Result<(), PlacedHalt>
     requires start { IsAtStart scope.now.numbering scope.now.definitions.now (names_of processor.old.below)
         processor.old.here (listed_in processor.old.below lexer.old) }
     requires before { AllReadOrdinary items.old.items }
@@ -260,9 +260,9 @@ fn expand_list(
         match step_list(&mut *processor, &mut *lexer) {
             Ok(Taken::Token(read)) => items.push(read)?,
             Ok(Taken::Call(call)) => { finish_call(alloc, &mut *processor, call, scope, levels)? }
-            Err(StepExit::Continue) => {}
-            Err(StepExit::Finished) => return Ok(()),
-            Err(StepExit::Error(fault)) => return Err(halt_of(fault)),
+            Err(PlacedExit::Continue) => {}
+            Err(PlacedExit::Finished) => return Ok(()),
+            Err(PlacedExit::Error(fault)) => return Err(halt_of(fault)),
         }
     }
 }

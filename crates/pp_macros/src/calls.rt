@@ -2,7 +2,7 @@
 
 ghost use Rattle.std.specs.Prelude.{◌≡◌, ◌⊎◌, if◌then◌else◌, [], OnOk, true, IfOk, IfSome};
 ghost use Rattle.std.specs.Prelude.{Err, None, option_map};
-ghost use Rattle.pp_lexer.specs.PreprocessorError.{out_of_memory};
+ghost use Rattle.pp_macros.specs.Item.{no_memory};
 ghost use Rattle.pp_macros.specs.inner.Seeking.{Enters, FollowsToken};
 ghost use Rattle.pp_macros.specs.Held.{HoldsOrdinary};
 ghost use Rattle.pp_macros.specs.inner.Reading.{AllReadOrdinary};
@@ -13,19 +13,20 @@ ghost use Rattle.pp_macros.specs.inner.Defined.{AreNumbered, names_in, numbered_
 ghost use Rattle.pp_macros.specs.inner.Nesting.{AreKnown, MayWait, seen_by};
 ghost use Rattle.pp_macros.specs.inner.Reader.{definitions_of};
 ghost use Rattle.pp_macros.specs.inner.Turns.{macro_of, macro_of_value, Opens};
-ghost use Rattle.pp_macros.specs.declared.step.StepExit.TheVariants.{Error, Finished};
-ghost use Rattle.pp_macros.specs.declared.halt.Halt.TheVariants as halt;
+ghost use Rattle.pp_macros.specs.declared.step.PlacedExit.TheVariants.{Error, Finished};
+ghost use Rattle.pp_macros.specs.declared.halt.PlacedHalt.TheVariants as halt;
 ghost use Rattle.pp_lexer.specs.declared.token.PreprocessorError.TheVariants.{UnexpectedEndOfInput};
 
 mod giving;
 
 use crate::define::Macro;
-use crate::halt::{Halt, halt_of};
+use crate::halt::{PlacedHalt, halt_of};
 use crate::macro_processor::MacroProcessor;
 use crate::reader::MeLexer;
-use crate::step::{Step, StepExit, is_out_of_memory};
+use crate::step::{PlacedExit, PlacedStep, is_out_of_memory, no_memory};
 use pp_lexer::token::{Location, PreprocessorError, Text, Token, TokenValue, out_of_memory};
 use pp_model::parentheses::{Nesting, is_left_paren, nesting_of};
+use pp_model::place::Place;
 use pp_model::read::Read;
 use pp_model::splice::CallPlace;
 use std::alloc::{AllocError, Global};
@@ -38,7 +39,7 @@ use std::rc::Rc;
 pub struct MacroCall {
     opened: Rc<Macro>,
     call: CallPlace,
-    paren: Location,
+    paren: Place,
     tokens: Vec<Read>,
 }
 
@@ -76,7 +77,7 @@ impl MacroCall {
     }
 
     /// The place of its `(`.
-    pub fn paren(&self) -> Location
+    pub fn paren(&self) -> Place
         ensures { result ≡ self.now.paren }
     {
         self.paren
@@ -101,25 +102,25 @@ pub enum Taken {
 }
 
 // Whether an allocation failed.
-fn is_out_of_memory_step(step: &Step<Read>) -> bool
+fn is_out_of_memory_step(step: &PlacedStep<Read>) -> bool
     ensures { result ≡ is_out_of_memory_step step.now }
 {
     match step {
-        Err(StepExit::Error(fault)) => is_out_of_memory(&fault.0),
-        Err(StepExit::Continue) => false,
-        Err(StepExit::Finished) => false,
+        Err(PlacedExit::Error(fault)) => is_out_of_memory(&fault.0),
+        Err(PlacedExit::Continue) => false,
+        Err(PlacedExit::Finished) => false,
         Ok(_) => false,
     }
 }
 
 // The place of the `(`, if the step is one.
-fn paren_of(step: &Step<Read>) -> Option<Location>
+fn paren_of(step: &PlacedStep<Read>) -> Option<Place>
     ensures { result ≡ paren_of step.now }
 {
     match step {
         Ok(read) => {
             if is_left_paren(&read.token.value) {
-                Some(read.token.location)
+                Some(read.place())
             } else {
                 None
             }
@@ -129,13 +130,13 @@ fn paren_of(step: &Step<Read>) -> Option<Location>
 }
 
 // Whether the step is a pause.
-fn is_pause(step: &Step<Read>) -> bool
+fn is_pause(step: &PlacedStep<Read>) -> bool
     ensures { result ≡ is_pause step.now }
 {
     match step {
-        Err(StepExit::Continue) => true,
-        Err(StepExit::Error(_)) => false,
-        Err(StepExit::Finished) => false,
+        Err(PlacedExit::Continue) => true,
+        Err(PlacedExit::Error(_)) => false,
+        Err(PlacedExit::Finished) => false,
         Ok(_) => false,
     }
 }
@@ -168,12 +169,12 @@ fn find_macro(
 
 // The fault of a call that doesn't end, after its `(` and these tokens.
 #[inline(never)]
-fn ended_after(paren: Location, tokens: &[Read]) -> Halt
+fn ended_after(paren: Place, tokens: &[Read]) -> PlacedHalt
     ensures { result ≡ halt.Fault (UnexpectedEndOfInput, place_after paren tokens.now) }
 {
     match tokens.last() {
-        Some(read) => Halt::Fault((PreprocessorError::UnexpectedEndOfInput, read.token.location)),
-        None => Halt::Fault((PreprocessorError::UnexpectedEndOfInput, paren)),
+        Some(read) => PlacedHalt::Fault((PreprocessorError::UnexpectedEndOfInput, read.place())),
+        None => PlacedHalt::Fault((PreprocessorError::UnexpectedEndOfInput, paren)),
     }
 }
 
@@ -184,7 +185,7 @@ fn room_for(opened: &Macro) -> usize {
 
 impl MacroProcessor {
     // One step of taking. An identifier is painted if its name is open, here or around.
-    fn take(&mut self, lexer: &mut dyn MeLexer) -> Step<Read>
+    fn take(&mut self, lexer: &mut dyn MeLexer) -> PlacedStep<Read>
         requires waits { MayWait self.old.below (reader lexer.old) }
         requires known { AreKnown (names_in (definitions_of (reader lexer.old))) self.old }
         ensures steps { StepsTaking self.old.here (seen_by self.old.below (reader lexer.old)) result
@@ -199,7 +200,7 @@ impl MacroProcessor {
     }
 
     // The step that is held or, if none is, the next one of the frames or the reader.
-    fn fetch(&mut self, lexer: &mut dyn MeLexer) -> Step<Read>
+    fn fetch(&mut self, lexer: &mut dyn MeLexer) -> PlacedStep<Read>
         requires waits { MayWait self.old.below (reader lexer.old) }
         ensures steps { StepsFetching self.old.here (seen_by self.old.below (reader lexer.old)) result
             self.new.here (seen_by self.new.below (reader lexer.new)) }
@@ -215,7 +216,7 @@ impl MacroProcessor {
     }
 
     /// Takes the next step that isn't a pause.
-    pub fn take_next(&mut self, lexer: &mut dyn MeLexer) -> Step<Read>
+    pub fn take_next(&mut self, lexer: &mut dyn MeLexer) -> PlacedStep<Read>
         requires waits { MayWait self.old.below (reader lexer.old) }
         requires known { AreKnown (names_in (definitions_of (reader lexer.old))) self.old }
         ensures takes { TakesNext self.old.here (seen_by self.old.below (reader lexer.old)) result
@@ -234,7 +235,7 @@ impl MacroProcessor {
     }
 
     // Takes the next step that isn't a pause, and puts its token after the tokens.
-    fn push_next(&mut self, lexer: &mut dyn MeLexer, tokens: &mut Vec<Read>) -> Step<()>
+    fn push_next(&mut self, lexer: &mut dyn MeLexer, tokens: &mut Vec<Read>) -> PlacedStep<()>
         requires waits { MayWait self.old.below (reader lexer.old) }
         requires known { AreKnown (names_in (definitions_of (reader lexer.old))) self.old }
         ensures takes { TakesOnto self.old.here (seen_by self.old.below (reader lexer.old)) tokens.old.items result
@@ -250,7 +251,7 @@ impl MacroProcessor {
 
     // Takes tokens that are no parentheses, and then one more, and puts them after the tokens. If no macro is open and
     // nothing is held, the reader puts them there at once.
-    fn push_run(&mut self, lexer: &mut dyn MeLexer, tokens: &mut Vec<Read>) -> Step<()>
+    fn push_run(&mut self, lexer: &mut dyn MeLexer, tokens: &mut Vec<Read>) -> PlacedStep<()>
         requires waits { MayWait self.old.below (reader lexer.old) }
         requires known { AreKnown (names_in (definitions_of (reader lexer.old))) self.old }
         ensures takes { TakesRun self.old.here (seen_by self.old.below (reader lexer.old)) tokens.old.items result
@@ -277,9 +278,9 @@ impl MacroProcessor {
     fn gather(
         &mut self,
         lexer: &mut dyn MeLexer,
-        paren: Location,
+        paren: Place,
         tokens: &mut Vec<Read>,
-    ) -> Result<Location, Halt>
+    ) -> Result<Location, PlacedHalt>
         requires empty { tokens.old.items ≡ [] }
         requires waits { MayWait self.old.below (reader lexer.old) }
         requires known { AreKnown (names_in (definitions_of (reader lexer.old))) self.old }
@@ -293,21 +294,21 @@ impl MacroProcessor {
         'tokens: loop {
             match self.push_run(lexer, tokens) {
                 Ok(()) => {}
-                Err(StepExit::Error(fault)) => return Err(halt_of(fault)),
-                Err(StepExit::Finished) => return Err(ended_after(paren, tokens)),
-                Err(StepExit::Continue) => return Err(ended_after(paren, tokens)),
+                Err(PlacedExit::Error(fault)) => return Err(halt_of(fault)),
+                Err(PlacedExit::Finished) => return Err(ended_after(paren, tokens)),
+                Err(PlacedExit::Continue) => return Err(ended_after(paren, tokens)),
             }
             let Some(read) = tokens.last() else {
                 unreachable!();
             };
-            let place = read.token.location;
+            let place = read.place();
             match nesting_of(depth, &read.token.value) {
                 Nesting::Closes => {
                     drop(tokens.pop());
-                    return Ok(place);
+                    return Ok(place.location);
                 }
                 Nesting::TooMany => {
-                    return Err(Halt::Fault((PreprocessorError::IntegerOverflow, place)));
+                    return Err(PlacedHalt::Fault((PreprocessorError::IntegerOverflow, place)));
                 }
                 Nesting::Within(deeper) => depth = deeper,
             }
@@ -315,7 +316,12 @@ impl MacroProcessor {
     }
 
     // Looks for the call of a function-like macro after its name. Anything else is held, and the name is given.
-    fn enter_call(&mut self, lexer: &mut dyn MeLexer, read: Read, opened: Rc<Macro>) -> Step<Taken>
+    fn enter_call(
+        &mut self,
+        lexer: &mut dyn MeLexer,
+        read: Read,
+        opened: Rc<Macro>,
+    ) -> PlacedStep<Taken>
         requires function { opened.value.definition.function_like ≡ true }
         requires waits { MayWait self.old.below (reader lexer.old) }
         requires known { AreKnown (names_in (definitions_of (reader lexer.old))) self.old }
@@ -323,21 +329,21 @@ impl MacroProcessor {
         ensures enters { Enters read opened.value
             self.old.here (seen_by self.old.below (reader lexer.old)) result
             self.new.here (seen_by self.new.below (reader lexer.new))
-            ⊎ (result ≡ Err (Error out_of_memory)) }
+            ⊎ (result ≡ Err (Error no_memory)) }
         ensures below { self.new.below ≡ self.old.below }
         ensures holds { IfOk result TakenHoldsOrdinary }
     {
         let next = self.take_next(lexer);
         if is_out_of_memory_step(&next) {
             drop(next);
-            return Err(StepExit::Error(out_of_memory()));
+            return Err(PlacedExit::Error(no_memory()));
         }
         let Some(paren) = paren_of(&next) else {
             self.put_back(next);
             return Ok(Taken::Token(read));
         };
         drop(next);
-        let name = read.token.location;
+        let (text, name) = (read.text, read.token.location);
         drop(read);
         let mut tokens = self.take_tokens(room_for(&opened))?;
         let closing = self.gather(lexer, paren, &mut tokens)?;
@@ -345,6 +351,7 @@ impl MacroProcessor {
             opened,
             call: CallPlace {
                 name,
+                text,
                 line: closing.line,
             },
             paren,
@@ -354,7 +361,7 @@ impl MacroProcessor {
 
     // Opens the macro of a name that is taken, or begins its call.
     #[inline(never)]
-    fn enter(&mut self, lexer: &mut dyn MeLexer, read: Read, opened: Rc<Macro>) -> Step<Taken>
+    fn enter(&mut self, lexer: &mut dyn MeLexer, read: Read, opened: Rc<Macro>) -> PlacedStep<Taken>
         requires opens { Opens (seen_by self.old.below (reader lexer.old)) read opened.value }
         requires waits { MayWait self.old.below (reader lexer.old) }
         requires known { AreKnown (names_in (definitions_of (reader lexer.old))) self.old }
@@ -362,29 +369,29 @@ impl MacroProcessor {
         ensures follows { FollowsToken (macro_of (seen_by self.old.below (reader lexer.old)) read) read
             self.old.here (seen_by self.old.below (reader lexer.old)) result
             self.new.here (seen_by self.new.below (reader lexer.new))
-            ⊎ (result ≡ Err (Error out_of_memory)) }
+            ⊎ (result ≡ Err (Error no_memory)) }
         ensures below { self.new.below ≡ self.old.below }
         ensures holds { IfOk result TakenHoldsOrdinary }
     {
         if opened.is_function_like() {
             return self.enter_call(lexer, read, opened);
         }
-        let name = read.token.location;
+        let (text, name) = (read.text, read.token.location);
         drop(read);
-        self.open_bare(opened, name)?;
-        Err(StepExit::Continue)
+        self.open_bare(opened, text, name)?;
+        Err(PlacedExit::Continue)
     }
 
     // Follows a token that is taken: it opens its macro, begins its call, or is given.
     #[inline(always)]
-    fn follow(&mut self, lexer: &mut dyn MeLexer, read: Read) -> Step<Taken>
+    fn follow(&mut self, lexer: &mut dyn MeLexer, read: Read) -> PlacedStep<Taken>
         requires holds { HoldsOrdinary read.token.value }
         requires waits { MayWait self.old.below (reader lexer.old) }
         requires known { AreKnown (names_in (definitions_of (reader lexer.old))) self.old }
         ensures follows { FollowsToken (macro_of (seen_by self.old.below (reader lexer.old)) read) read
             self.old.here (seen_by self.old.below (reader lexer.old)) result
             self.new.here (seen_by self.new.below (reader lexer.new))
-            ⊎ (result ≡ Err (Error out_of_memory)) }
+            ⊎ (result ≡ Err (Error no_memory)) }
         ensures below { self.new.below ≡ self.old.below }
         ensures holds { IfOk result TakenHoldsOrdinary }
     {
@@ -395,7 +402,7 @@ impl MacroProcessor {
     }
 
     /// One step: takes a token, which is given, opens its macro, or begins a call that is gathered.
-    pub fn step(&mut self, lexer: &mut dyn MeLexer) -> Step<Taken>
+    pub fn step(&mut self, lexer: &mut dyn MeLexer) -> PlacedStep<Taken>
         requires waits { MayWait self.old.below (reader lexer.old) }
         requires known { AreKnown (names_in (definitions_of (reader lexer.old))) self.old }
         ensures turns { TurnsOrRefuses self.old.here (seen_by self.old.below (reader lexer.old)) result

@@ -40,6 +40,7 @@ pub struct Define {
     function_like: bool,
     parameters: Vec<Text>,
     body: Vec<BodyEntry>,
+    text: u32,
 }
 
 impl Model for Define {
@@ -53,6 +54,7 @@ impl Model for Define {
       function_like = d.function_like;
       parameters = d.parameters.items;
       body = body_of d.parameters.items d.body.items;
+      text = d.text;
     } };
 
     ghost invariant = { λ d. AreEntries d.parameters.items d.body.items × (noted_in d.body.items ≡ []) };
@@ -67,6 +69,7 @@ pub struct Macro {
     function_like: bool,
     parameters: Vec<Text>,
     body: Vec<BodyEntry>,
+    text: u32,
 }
 
 impl Model for Macro {
@@ -83,6 +86,7 @@ impl Model for Macro {
         function_like = m.function_like;
         parameters = m.parameters.items;
         body = body_of m.parameters.items m.body.items;
+        text = m.text;
       };
       noted = noted_in m.body.items;
     } };
@@ -203,6 +207,7 @@ impl Macro {
             function_like,
             parameters,
             mut body,
+            text,
         } = define;
         note_numbers(&mut body, definitions);
         Macro {
@@ -211,6 +216,7 @@ impl Macro {
             function_like,
             parameters,
             body,
+            text,
         }
     }
 
@@ -244,6 +250,14 @@ impl Macro {
         &self.parameters
     }
 
+    /// The number of the text in which its body is.
+    #[inline(always)]
+    pub fn text(&self) -> u32
+        ensures { result ≡ self.now.definition.text }
+    {
+        self.text
+    }
+
     /// The number of entries of its body.
     #[inline(always)]
     pub fn len(&self) -> usize
@@ -275,22 +289,24 @@ impl Macro {
 }
 
 impl Define {
-    /// A macro without parameters.
-    pub fn object_like(alloc: Global, body: Vec<Token>) -> Result<Define, AllocError>
+    /// A macro without parameters, whose body is of this text.
+    pub fn object_like(alloc: Global, text: u32, body: Vec<Token>) -> Result<Define, AllocError>
         requires { All (λ token. IsTrue (is_ordinary token.value)) body.items }
-        ensures { IfOk result (λ define. define ≡ object_like body.items) }
+        ensures { IfOk result (λ define. define ≡ object_like text body.items) }
     {
         let parameters = ParameterNames::new(alloc);
         Ok(Define {
             function_like: false,
             body: entries_of(alloc, &parameters, body)?,
             parameters: parameters.into_names(),
+            text,
         })
     }
 
-    /// A macro with these parameters.
+    /// A macro with these parameters, whose body is of this text.
     pub fn function_like(
         alloc: Global,
+        text: u32,
         parameters: ParameterNames,
         body: Vec<Token>,
     ) -> Result<Define, AllocError>
@@ -299,12 +315,14 @@ impl Define {
           function_like = true;
           parameters = parameters;
           body = body.items;
+          text = text;
         }) }
     {
         Ok(Define {
             function_like: true,
             body: entries_of(alloc, &parameters, body)?,
             parameters: parameters.into_names(),
+            text,
         })
     }
 }

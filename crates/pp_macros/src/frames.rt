@@ -9,7 +9,7 @@ ghost use Rattle.pp_macros.specs.inner.Defined.{AreNumbered};
 ghost use Rattle.pp_macros.specs.inner.Frames.{new_frame, advance};
 ghost use Rattle.pp_macros.specs.inner.Parts.{lists_of};
 ghost use Rattle.pp_macros.specs.Held.{HoldsOrdinary};
-ghost use Rattle.pp_macros.specs.inner.Ahead.{read_of, token_given, given_by, frame_after};
+ghost use Rattle.pp_macros.specs.inner.Ahead.{read_of, painted_as, given_by, frame_after};
 
 use crate::argument_lists::{ArgumentLists, OpenArguments, Part};
 use crate::define::{BodyEntry, Macro};
@@ -21,11 +21,13 @@ use std::alloc::{AllocError, Global};
 use std::marker::Model;
 use std::rc::Rc;
 
-/// The token that a frame has next in its list, and whether it is painted there.
+/// The token that a frame has next in its list, its text, and whether it is painted there.
 #[derive(Drop)]
 pub struct Ahead<'a> {
     /// The token.
     pub token: &'a Token,
+    /// The number of the text in which its place is.
+    pub text: u32,
     /// Whether it is painted.
     pub painted: bool,
     /// The number that was noted for it, if it is of a body.
@@ -54,6 +56,7 @@ impl Model for Frame {
       call = f.call;
       parameters = f.opened.value.definition.parameters;
       body = drop f.position f.opened.value.definition.body;
+      text = f.opened.value.definition.text;
       arguments = f.arguments.lists;
       reading = f.arguments.reading;
     } };
@@ -152,6 +155,7 @@ impl Frame {
             let read = self.arguments.token()?;
             return Some(Ahead {
                 token: &read.token,
+                text: read.text,
                 painted: read.painted,
                 number: None,
             });
@@ -159,6 +163,7 @@ impl Frame {
         match self.opened.entry_at(self.position) {
             Some(BodyEntry::Token(token, number)) => Some(Ahead {
                 token,
+                text: self.opened.text(),
                 painted: false,
                 number: *number,
             }),
@@ -166,30 +171,36 @@ impl Frame {
         }
     }
 
-    /// Makes the token that its next step gives, and advances by that step. The token is moved out if its list gives it
-    /// for the last time, and copied otherwise.
+    /// Makes the token that its next step gives, painted so, and advances by that step. The token is moved out if its
+    /// list gives it for the last time, and copied otherwise.
     #[inline(always)]
-    pub fn make_token(&mut self, alloc: Global) -> Result<Token, AllocError>
-        requires { IsSome (token_given (given_by (advance self.old))) }
+    pub fn make_read(&mut self, alloc: Global, painted: bool) -> Result<Read, AllocError>
+        requires { IsSome (given_by (advance self.old)) }
         ensures makes { MatchResult result
-            (λ token. (token_given (given_by (advance self.old)) ≡ Some token)
+            (λ read. (painted_as painted (given_by (advance self.old)) ≡ Some read)
             × (self.new ≡ frame_after self.old (advance self.old)))
             (λ _. self.new ≡ self.old) }
         ensures name { self.new.name ≡ self.old.name }
         ensures number { self.new.number ≡ self.old.number }
-        ensures holds { IfOk result (λ token. HoldsOrdinary token.value) }
+        ensures holds { IfOk result (λ read. HoldsOrdinary read.token.value) }
     {
         if self.arguments.is_last() {
-            if let Some(read) = self.arguments.take() {
-                return Ok(read.token);
+            if let Some(mut read) = self.arguments.take() {
+                read.painted = painted;
+                return Ok(read);
             }
         }
         let Some(ahead) = self.token() else {
             unreachable!();
         };
+        let text = ahead.text;
         let token = copy_of(alloc, ahead.token)?;
         self.pass_token();
-        Ok(token)
+        Ok(Read {
+            token,
+            text,
+            painted,
+        })
     }
 
     /// Advances by a step that gives a token.

@@ -1,13 +1,16 @@
-//! Why a part of the source has no value.
+//! Why a line, a directive or a call has no value.
 
 ghost use Rattle.std.specs.Prelude.{◌≡◌};
+ghost use Rattle.pp_model.specs.Places.{placed};
 ghost use Rattle.pp_macros.specs.Halting.{halt_of};
+ghost use Rattle.pp_macros.specs.declared.halt.PlacedHalt.TheVariants as placed_halt;
 
-use crate::step::{StepExit, is_out_of_memory};
-use pp_lexer::token::{Location, PreprocessorError, out_of_memory};
+use crate::step::{PlacedExit, is_out_of_memory, no_memory};
+use pp_lexer::token::{Location, PreprocessorError};
+use pp_model::place::{PlacedFault, placed};
 use std::alloc::{AllocError, AllocFailed};
 
-/// Why a part of the source has no value.
+/// Why a part of a line has no value.
 #[derive(Drop)]
 pub enum Halt {
     /// Its first fault.
@@ -49,27 +52,103 @@ impl From<(PreprocessorError, Location)> for Halt {
     }
 }
 
-impl From<Halt> for StepExit {
+/// Why a directive or a call has no value. A fault has the text of its place, which may be that of a macro's body.
+#[derive(Drop)]
+pub enum PlacedHalt {
+    /// Its first fault.
+    Fault(PlacedFault),
+    /// An allocation failed.
+    OutOfMemory,
+}
+
+impl From<AllocError> for PlacedHalt {
+    ghost use Rattle.std.specs.Prelude.{◌≡◌};
+    ghost use Rattle.pp_macros.specs.declared.halt.PlacedHalt.TheVariants.{OutOfMemory};
+
+    ghost from_gives = { λ error halt. halt ≡ OutOfMemory };
+
+    fn from(_error: AllocError) -> Self {
+        PlacedHalt::OutOfMemory
+    }
+}
+
+impl<T: Drop> From<AllocFailed<T>> for PlacedHalt {
+    ghost use Rattle.std.specs.Prelude.{◌≡◌};
+    ghost use Rattle.pp_macros.specs.declared.halt.PlacedHalt.TheVariants.{OutOfMemory};
+
+    ghost from_gives = { λ error halt. halt ≡ OutOfMemory };
+
+    fn from(_error: AllocFailed<T>) -> Self {
+        PlacedHalt::OutOfMemory
+    }
+}
+
+impl From<Halt> for PlacedHalt {
+    ghost use Rattle.std.specs.Prelude.{◌≡◌};
+    ghost use Rattle.pp_macros.specs.Halting.{placed_halt_of};
+
+    ghost from_gives = { λ halt above. above ≡ placed_halt_of halt };
+
+    fn from(halt: Halt) -> Self {
+        match halt {
+            Halt::Fault(fault) => PlacedHalt::Fault(placed(fault)),
+            Halt::OutOfMemory => PlacedHalt::OutOfMemory,
+        }
+    }
+}
+
+impl From<PlacedFault> for PlacedHalt {
+    ghost use Rattle.std.specs.Prelude.{◌≡◌};
+    ghost use Rattle.pp_macros.specs.declared.halt.PlacedHalt.TheVariants.{Fault};
+
+    ghost from_gives = { λ fault halt. halt ≡ Fault fault };
+
+    fn from(fault: PlacedFault) -> Self {
+        PlacedHalt::Fault(fault)
+    }
+}
+
+impl PlacedHalt {
+    /// An error at this place of the source.
+    pub fn of_source(error: PreprocessorError, location: Location) -> PlacedHalt
+        ensures { result ≡ placed_halt.Fault (placed (error, location)) }
+    {
+        PlacedHalt::Fault(placed((error, location)))
+    }
+}
+
+impl From<Halt> for PlacedExit {
+    ghost use Rattle.std.specs.Prelude.{◌≡◌};
+    ghost use Rattle.pp_macros.specs.Halting.{exit_of, placed_halt_of};
+
+    ghost from_gives = { λ halt exit. exit ≡ exit_of (placed_halt_of halt) };
+
+    fn from(halt: Halt) -> Self {
+        PlacedExit::from(PlacedHalt::from(halt))
+    }
+}
+
+impl From<PlacedHalt> for PlacedExit {
     ghost use Rattle.std.specs.Prelude.{◌≡◌};
     ghost use Rattle.pp_macros.specs.Halting.{exit_of};
 
     ghost from_gives = { λ halt exit. exit ≡ exit_of halt };
 
-    fn from(halt: Halt) -> Self {
+    fn from(halt: PlacedHalt) -> Self {
         match halt {
-            Halt::Fault(fault) => StepExit::Error(fault),
-            Halt::OutOfMemory => StepExit::Error(out_of_memory()),
+            PlacedHalt::Fault(fault) => PlacedExit::Error(fault),
+            PlacedHalt::OutOfMemory => PlacedExit::Error(no_memory()),
         }
     }
 }
 
-/// The fault of a step, or `Halt::OutOfMemory` if an allocation failed.
-pub fn halt_of(fault: (PreprocessorError, Location)) -> Halt
+/// The fault of a step, or `PlacedHalt::OutOfMemory` if an allocation failed.
+pub fn halt_of(fault: PlacedFault) -> PlacedHalt
     ensures { result ≡ halt_of fault }
 {
     if is_out_of_memory(&fault.0) {
         drop(fault);
-        return Halt::OutOfMemory;
+        return PlacedHalt::OutOfMemory;
     }
-    Halt::Fault(fault)
+    PlacedHalt::Fault(fault)
 }

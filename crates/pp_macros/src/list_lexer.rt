@@ -8,7 +8,7 @@ ghost use Rattle.pp_macros.specs.inner.Reader.{of_list};
 use crate::define::Macro;
 use crate::names::{Definitions, NameId};
 use crate::reader::{MeLexer, ends_at_parenthesis};
-use crate::step::{Step, StepExit};
+use crate::step::{PlacedExit, PlacedStep};
 use pp_lexer::token::{Integer, NOWHERE, Punct, Token, TokenValue};
 use pp_model::names::{is_defined_name, is_line_name};
 use pp_model::numbering::Numbering;
@@ -139,9 +139,9 @@ impl<'a> ListLexer<'a> {
 impl<'a> MeLexer for ListLexer<'a> {
     ghost reader = { λ list. of_list list };
 
-    fn step(&mut self) -> Step<Read> {
+    fn step(&mut self) -> PlacedStep<Read> {
         if self.peek().is_none() {
-            return Err(StepExit::Finished);
+            return Err(PlacedExit::Finished);
         }
         Ok(self.take())
     }

@@ -14,7 +14,7 @@ use crate::calls::Taken;
 use crate::list_lexer::ListLexer;
 use crate::macro_processor::MacroProcessor;
 use crate::names::Definitions;
-use crate::step::{Step, StepExit};
+use crate::step::{PlacedExit, PlacedStep};
 use pp_lexer::token::{Text, TokenValue};
 use pp_model::names::is_line_name;
 use pp_model::read::Read;
@@ -53,7 +53,7 @@ pub fn is_plain(read: &Read, definitions: &Definitions, processor: &MacroProcess
 
 /// One step of the processor, with a list as what follows the frames.
 #[inline(always)]
-pub fn step_list(processor: &mut MacroProcessor, list: &mut ListLexer<'_>) -> Step<Taken>
+pub fn step_list(processor: &mut MacroProcessor, list: &mut ListLexer<'_>) -> PlacedStep<Taken>
     requires { AreKnown (names_in list.old.definitions) processor.old }
     ensures turns { TurnsOrRefuses processor.old.here (seen_by processor.old.below (of_list list.old)) result
         processor.new.here (seen_by processor.new.below (of_list list.new)) }
@@ -62,7 +62,7 @@ pub fn step_list(processor: &mut MacroProcessor, list: &mut ListLexer<'_>) -> St
 {
     if processor.is_idle() {
         match list.peek() {
-            None => return Err(StepExit::Finished),
+            None => return Err(PlacedExit::Finished),
             Some(read) if is_plain(read, list.definitions(), &*processor) => {
                 return Ok(Taken::Token(list.take()));
             }
@@ -73,7 +73,7 @@ pub fn step_list(processor: &mut MacroProcessor, list: &mut ListLexer<'_>) -> St
 }
 
 // Does the same with any token.
-fn step_any(processor: &mut MacroProcessor, list: &mut ListLexer<'_>) -> Step<Taken>
+fn step_any(processor: &mut MacroProcessor, list: &mut ListLexer<'_>) -> PlacedStep<Taken>
     requires { AreKnown (names_in list.old.definitions) processor.old }
     ensures turns { TurnsOrRefuses processor.old.here (seen_by processor.old.below (of_list list.old)) result
         processor.new.here (seen_by processor.new.below (of_list list.new)) }
@@ -85,7 +85,7 @@ fn step_any(processor: &mut MacroProcessor, list: &mut ListLexer<'_>) -> Step<Ta
 
 /// Takes the next token without looking it up, with a list as what follows the frames.
 #[inline(always)]
-pub fn take_list(processor: &mut MacroProcessor, list: &mut ListLexer<'_>) -> Step<Read>
+pub fn take_list(processor: &mut MacroProcessor, list: &mut ListLexer<'_>) -> PlacedStep<Read>
     requires { AreKnown (names_in list.old.definitions) processor.old }
     ensures takes { TakesNext processor.old.here (seen_by processor.old.below (of_list list.old)) result
         processor.new.here (seen_by processor.new.below (of_list list.new)) }
@@ -102,7 +102,7 @@ pub fn take_list(processor: &mut MacroProcessor, list: &mut ListLexer<'_>) -> St
 }
 
 // Does the same with any token.
-fn take_any(processor: &mut MacroProcessor, list: &mut ListLexer<'_>) -> Step<Read>
+fn take_any(processor: &mut MacroProcessor, list: &mut ListLexer<'_>) -> PlacedStep<Read>
     requires { AreKnown (names_in list.old.definitions) processor.old }
     ensures takes { TakesNext processor.old.here (seen_by processor.old.below (of_list list.old)) result
         processor.new.here (seen_by processor.new.below (of_list list.new)) }

@@ -15,7 +15,7 @@ ghost use Rattle.pp_macros.specs.inner.Ahead.{read_of, given_next};
 ghost use Rattle.pp_macros.specs.inner.Bodies.{noted_by};
 ghost use Rattle.pp_macros.specs.inner.Defined.{AreNumbered, names_in, number_in};
 ghost use Rattle.pp_macros.specs.inner.Left.{HaveNumbers};
-ghost use Rattle.pp_macros.specs.inner.Giving.{token_ahead};
+ghost use Rattle.pp_macros.specs.inner.Giving.{read_ahead};
 ghost use Rattle.pp_macros.specs.inner.Idle.{is_idle};
 ghost use Rattle.pp_macros.specs.inner.Nesting.{AreKnown, nothing_open, open_names, stepped, with_frames};
 ghost use Rattle.pp_macros.specs.inner.Reader.{definitions_of, shown_line};
@@ -31,9 +31,10 @@ use crate::frames::{Ahead, Frame};
 use crate::names::NameId;
 use crate::reader::{MeLexer, number_of};
 use crate::spares::Spares;
-use crate::step::{Step, StepExit};
+use crate::step::{PlacedExit, PlacedStep};
 use pp_lexer::token::{Integer, Location, PreprocessorError, Token, TokenValue};
 use pp_model::names::is_line_name;
+use pp_model::place::Place;
 use pp_model::read::Read;
 use pp_model::splice::CallPlace;
 use std::alloc::{AllocError, Global};
@@ -84,7 +85,7 @@ pub struct MacroProcessor {
     alloc: Global,
     frames: Vec<Frame>,
     base: usize,
-    held: Option<Step<Read>>,
+    held: Option<PlacedStep<Read>>,
     // by number, how many of the frames have it; past the end none has
     counts: Vec<usize>,
     spares: Spares,
@@ -145,16 +146,19 @@ fn keep_lists(spares: &mut Spares, frame: Frame) {
 }
 
 /// The number of a line as a token at this place, or `LineOverflow` there if it is out of range.
-pub fn line_number(location: Location, number: Option<Integer>) -> Step<Read>
-    ensures shows { result ≡ step_of_outcome (line_number location number) }
+pub fn line_number(place: Place, number: Option<Integer>) -> PlacedStep<Read>
+    ensures shows { result ≡ step_of_outcome (line_number place number) }
     ensures holds { IfOk result (λ read. HoldsOrdinary read.token.value) }
 {
     match number {
-        Some(number) => Ok(Read::unpainted(Token {
-            value: TokenValue::Integer(number),
-            location,
-        })),
-        None => Err(StepExit::Error((PreprocessorError::LineOverflow, location))),
+        Some(number) => {
+            let token = Token {
+                value: TokenValue::Integer(number),
+                location: place.location,
+            };
+            Ok(Read::of_text(token, place.text))
+        }
+        None => Err(PlacedExit::Error((PreprocessorError::LineOverflow, place))),
     }
 }
 
@@ -300,7 +304,7 @@ impl MacroProcessor {
 
     /// Holds a step.
     #[inline(always)]
-    pub fn put_back(&mut self, step: Step<Read>)
+    pub fn put_back(&mut self, step: PlacedStep<Read>)
         requires { IfOk step (λ read. HoldsOrdinary read.token.value) }
         ensures { self.new ≡ record self.old { here = record self.old.here { held = Some step } } }
     {
@@ -309,7 +313,7 @@ impl MacroProcessor {
 
     /// Takes the step that is held. It is a function of its own, so that other tokens are moved less.
     #[inline(never)]
-    pub fn take_held(&mut self) -> Step<Read>
+    pub fn take_held(&mut self) -> PlacedStep<Read>
         requires { IsSome self.old.here.held }
         ensures held { self.old.here.held ≡ Some result }
         ensures left { self.new ≡ record self.old { here = record self.old.here { held = None } } }
@@ -417,18 +421,18 @@ impl MacroProcessor {
         }
     }
 
-    /// Makes the token that the innermost frame gives next, and passes it.
+    /// Makes the token that the innermost frame gives next, painted so, and passes it.
     #[inline(always)]
-    pub fn make_token(&mut self) -> Result<Token, AllocError>
-        requires { IsSome (token_ahead self.old.here) }
+    pub fn make_read(&mut self, painted: bool) -> Result<Read, AllocError>
+        requires { IsSome (given_next self.old.here.frames) }
         ensures makes { MatchResult result
-            (λ token. (token_ahead self.old.here ≡ Some token) × (self.new ≡ stepped self.old))
+            (λ read. (read_ahead painted self.old.here ≡ Some read) × (self.new ≡ stepped self.old))
             (λ _. self.new ≡ self.old) }
-        ensures holds { IfOk result (λ token. HoldsOrdinary token.value) }
+        ensures holds { IfOk result (λ read. HoldsOrdinary read.token.value) }
     {
         self.pay(1)?;
         match self.frames.last_mut() {
-            Some(frame) => frame.make_token(self.alloc),
+            Some(frame) => frame.make_read(self.alloc, painted),
             None => unreachable!(),
         }
     }
@@ -447,7 +451,7 @@ impl MacroProcessor {
 
     /// One step of the innermost frame, or of the reader if no macro is open. A frame at its end is
     /// closed.
-    pub fn step_frames(&mut self, lexer: &mut dyn MeLexer) -> Step<Read>
+    pub fn step_frames(&mut self, lexer: &mut dyn MeLexer) -> PlacedStep<Read>
         ensures moves { Moves self.old.here.frames (reader lexer.old) result self.new.here.frames (reader lexer.new) }
         ensures others { self.new ≡ with_frames self.old self.new.here.frames }
         ensures holds { IfOk result (λ read. HoldsOrdinary read.token.value) }
@@ -457,16 +461,15 @@ impl MacroProcessor {
         }
         let Some(ahead) = self.ahead() else {
             self.pass_pause();
-            return Err(StepExit::Continue);
+            return Err(PlacedExit::Continue);
         };
         let painted = ahead.painted;
-        let token = self.make_token()?;
-        Ok(Read { token, painted })
+        Ok(self.make_read(painted)?)
     }
 
     /// Takes a token: `__LINE__` becomes a number at once.
     #[inline(always)]
-    pub fn take_in(&self, lexer: &dyn MeLexer, read: Read) -> Step<Read>
+    pub fn take_in(&self, lexer: &dyn MeLexer, read: Read) -> PlacedStep<Read>
         requires { HoldsOrdinary read.token.value }
         ensures taken { result ≡ taken_as (Ok read) self.now.here.frames (reader lexer.now) }
         ensures holds { IfOk result (λ read. HoldsOrdinary read.token.value) }
@@ -474,24 +477,24 @@ impl MacroProcessor {
         if !is_line_name(&read.token.value) {
             return Ok(read);
         }
-        let location = read.token.location;
+        let place = read.place();
         drop(read);
-        self.show_line(lexer, location)
+        self.show_line(lexer, place)
     }
 
     // The number that `__LINE__` at this place becomes. It is a function of its own, so that other tokens are moved
     // without it.
     #[inline(never)]
-    fn show_line(&self, lexer: &dyn MeLexer, location: Location) -> Step<Read>
-        ensures shows { result ≡ step_of_outcome (line_number location (shown_line (reader lexer.now)
-            (unwrap_or (outermost_frame_line self.now.here.frames) location.line))) }
+    fn show_line(&self, lexer: &dyn MeLexer, place: Place) -> PlacedStep<Read>
+        ensures shows { result ≡ step_of_outcome (line_number place (shown_line (reader lexer.now)
+            (unwrap_or (outermost_frame_line self.now.here.frames) place.location.line))) }
         ensures holds { IfOk result (λ read. HoldsOrdinary read.token.value) }
     {
         let line = match self.outermost_call() {
             Some(call) => call.line,
-            None => location.line,
+            None => place.location.line,
         };
-        line_number(location, lexer.shown_line(line))
+        line_number(place, lexer.shown_line(line))
     }
 
     /// Paints a token that is taken, if it is the name of a macro that is open, here or around.
@@ -540,11 +543,16 @@ impl MacroProcessor {
         self.push(Frame::new(opened, call, arguments))
     }
 
-    /// Opens the frame of a macro without parentheses, whose name is at this place.
+    /// Opens the frame of a macro without parentheses, whose name is at this place of this text.
     #[inline(always)]
-    pub fn open_bare(&mut self, opened: Rc<Macro>, name: Location) -> Result<(), AllocError>
+    pub fn open_bare(
+        &mut self,
+        opened: Rc<Macro>,
+        text: u32,
+        name: Location,
+    ) -> Result<(), AllocError>
         ensures ok { OnOk result (self.new ≡ with_frames self.old
-            (new_frame opened.value (bare_call name) [] ∷ self.old.here.frames)) }
+            (new_frame opened.value (bare_call text name) [] ∷ self.old.here.frames)) }
         ensures err { OnErr result (self.new ≡ self.old) }
     {
         self.pay_for_body(&opened)?;
@@ -553,6 +561,7 @@ impl MacroProcessor {
         make_room(&mut self.counts, number)?;
         let call = CallPlace {
             name,
+            text,
             line: name.line,
         };
         self.frames

@@ -10,7 +10,7 @@ ghost use Rattle.pp_macros.specs.inner.Reader.{Reader, Reads, ReadsRun, nests, v
 
 use crate::define::Macro;
 use crate::names::NameId;
-use crate::step::Step;
+use crate::step::PlacedStep;
 use pp_lexer::token::{Integer, TokenValue};
 use pp_model::parentheses::{is_left_paren, is_right_paren};
 use pp_model::read::Read;
@@ -22,7 +22,7 @@ pub trait MeLexer {
     ghost reader: { Self → Reader };
 
     /// Reads one token or line.
-    fn step(&mut self) -> Step<Read>
+    fn step(&mut self) -> PlacedStep<Read>
         ensures reads { Reads (reader self.old) result (reader self.new) }
         ensures holds { IfOk result (λ read. HoldsOrdinary read.token.value) };
 

@@ -1,20 +1,20 @@
 //! One step of a reader.
 
-ghost use Rattle.std.specs.Prelude.{◌≡◌, MatchResult};
-ghost use Rattle.pp_lexer.specs.PreprocessorError.{out_of_memory};
-ghost use Rattle.pp_macros.specs.Item.{is_out_of_memory};
+ghost use Rattle.std.specs.Prelude.{◌≡◌};
+ghost use Rattle.pp_macros.specs.Item.{is_out_of_memory, no_memory};
 
-use pp_lexer::token::{Location, PreprocessorError, out_of_memory};
+use pp_lexer::token::{PreprocessorError, out_of_memory};
+use pp_model::place::{PlacedFault, placed};
 use std::alloc::{AllocError, AllocFailed, Global};
 
 /// A value, or the reason why a step gives none.
-pub type Step<T> = Result<T, StepExit>;
+pub type PlacedStep<T> = Result<T, PlacedExit>;
 
 /// Why a step gives no value.
-#[derive(PartialEq, Eq, Debug, Drop)]
-pub enum StepExit {
-    /// A fault with its place.
-    Error((PreprocessorError, Location)),
+#[derive(Drop)]
+pub enum PlacedExit {
+    /// A fault with its place in one of the texts.
+    Error(PlacedFault),
     /// A pause: nothing yet, and another step goes on.
     Continue,
     /// The end: nothing is left to give.
@@ -28,46 +28,36 @@ pub fn is_out_of_memory(error: &PreprocessorError) -> bool
     matches!(error, PreprocessorError::OutOfMemory)
 }
 
-impl From<AllocError> for StepExit {
-    ghost use Rattle.std.specs.Prelude.{◌≡◌};
-    ghost use Rattle.pp_lexer.specs.PreprocessorError.{out_of_memory};
-    ghost use Rattle.pp_macros.specs.declared.step.StepExit.TheVariants.{Error};
+/// The fault of a step for which memory ran out.
+pub fn no_memory() -> PlacedFault
+    ensures { result ≡ no_memory }
+{
+    placed(out_of_memory())
+}
 
-    ghost from_gives = { λ error exit. exit ≡ Error out_of_memory };
+impl From<AllocError> for PlacedExit {
+    ghost use Rattle.std.specs.Prelude.{◌≡◌};
+    ghost use Rattle.pp_macros.specs.Item.{no_memory};
+    ghost use Rattle.pp_macros.specs.declared.step.PlacedExit.TheVariants.{Error};
+
+    ghost from_gives = { λ error exit. exit ≡ Error no_memory };
 
     // It is a function of its own, so that a token is moved without it.
     #[inline(never)]
     fn from(_error: AllocError) -> Self {
-        StepExit::Error(out_of_memory())
+        PlacedExit::Error(no_memory())
     }
 }
 
-impl<T: Drop> From<AllocFailed<T>> for StepExit {
+impl<T: Drop> From<AllocFailed<T>> for PlacedExit {
     ghost use Rattle.std.specs.Prelude.{◌≡◌};
-    ghost use Rattle.pp_lexer.specs.PreprocessorError.{out_of_memory};
-    ghost use Rattle.pp_macros.specs.declared.step.StepExit.TheVariants.{Error};
+    ghost use Rattle.pp_macros.specs.Item.{no_memory};
+    ghost use Rattle.pp_macros.specs.declared.step.PlacedExit.TheVariants.{Error};
 
-    ghost from_gives = { λ error exit. exit ≡ Error out_of_memory };
+    ghost from_gives = { λ error exit. exit ≡ Error no_memory };
 
     #[inline(never)]
     fn from(_error: AllocFailed<T>) -> Self {
-        StepExit::Error(out_of_memory())
-    }
-}
-
-impl StepExit {
-    /// A copy of the exit.
-    ///
-    /// The only error is `OutOfMemory`, with the place (0, 0, line 1).
-    pub fn clone(&self, alloc: Global) -> Result<Self, (PreprocessorError, Location)>
-        ensures { MatchResult result (λ exit. exit ≡ self.now) (λ e. e ≡ out_of_memory) }
-    {
-        match self {
-            StepExit::Error((error, location)) => {
-                Ok(StepExit::Error((error.clone(alloc)?, *location)))
-            }
-            StepExit::Continue => Ok(StepExit::Continue),
-            StepExit::Finished => Ok(StepExit::Finished),
-        }
+        PlacedExit::Error(no_memory())
     }
 }

@@ -2,7 +2,7 @@
 use Rattle.std.specs.Prelude.{◌≡◌, ℤ, List, Result}
 use Rattle.pp_lexer.specs.declared.token.Location.{Location}
 use Rattle.pp_lexer.specs.declared.token.Token.{Token}
-use Rattle.pp_model.specs.Calls.{Fault}
+use Rattle.pp_model.specs.Places.{PlacedFault}
 use Rattle.pp_model.specs.Emitting.{expansion_limit}
 use Rattle.pp_model.specs.LineWords.{Words}
 use Rattle.pp_model.specs.LineValues as line
@@ -24,6 +24,6 @@ pub record IsAtFront (kind : LineKind) (directive : Location) (tokens : List Tok
   pub words : AreWordsOfLine kind directive expansion_limit tokens numbering definitions parser.words
 
 -- an expression is taken: its value, or its first fault
-pub record TakesExpression (old : IfParser) (taken : Result ℤ Fault) (new : IfParser) : Type 0 where
+pub record TakesExpression (old : IfParser) (taken : Result ℤ PlacedFault) (new : IfParser) : Type 0 where
   pub place : new.directive ≡ old.directive
   pub takes : line.TakesExpression old.directive old.words taken new.words

@@ -6,7 +6,7 @@ use Rattle.pp_lexer.specs.Lexed.{Seen}
 use Rattle.pp_lexer.specs.Preorder.{preorder}
 use Rattle.pp_lexer.specs.declared.token.Location.{Location}
 use Rattle.pp_lexer.specs.declared.token.TokenValue.{TokenValue}
-use Rattle.pp_model.specs.Calls.{Fault}
+use Rattle.pp_model.specs.Places.{Fault}
 use Rattle.pp_model.specs.Lines.{line_tokens}
 use Rattle.pp_model.specs.Moves.{gives_item, Move, line_move}
 

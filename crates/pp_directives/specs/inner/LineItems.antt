@@ -3,11 +3,11 @@
 use Rattle.std.specs.Prelude.{◌≡◌, ℕ, ◌≤◌, ◌<◌, true, List, [], Bool, Option, Some, None, option_map, Result, Ok, Err}
 use Rattle.std.specs.Prelude.{⊤}
 use Rattle.pp_lexer.specs.declared.token.Location.{Location}
+use Rattle.pp_model.specs.Places.{PlacedFault}
 use Rattle.pp_model.specs.declared.read.Read.{Read}
 use Rattle.pp_model.specs.Names.{Name}
 use Rattle.pp_model.specs.Reading.{Expander, Listed, line_reading}
 use Rattle.pp_model.specs.Taking.{Takes}
-use Rattle.pp_model.specs.Calls.{Fault}
 use Rattle.pp_model.specs.Emitting.{Emits, answers_at}
 use Rattle.pp_model.specs.LineWords.{InParentheses, Operand}
 use Rattle.pp_model.specs.inner.WordsRead.{Closes}
@@ -16,14 +16,14 @@ use Rattle.pp_model.specs.declared.read.Taken.TheVariants as given
 use Rattle.pp_model.specs.declared.word.LineKind.{LineKind}
 use Rattle.pp_macros.specs.inner.Defined.{Defined, meaning_of}
 use Rattle.pp_macros.specs.inner.Frames.{flat}
-use Rattle.pp_macros.specs.Item.{Step}
+use Rattle.pp_macros.specs.Item.{PlacedStep}
 use Rattle.pp_macros.specs.inner.Left.{work_of, IsSound}
 use Rattle.pp_macros.specs.inner.Expander as kept
 use Rattle.pp_macros.specs.inner.Expander.{outcome_of_step}
 use Rattle.pp_macros.specs.inner.Reader.{of_list, Listing}
-use Rattle.pp_macros.specs.declared.halt.Halt.{Halt}
-use Rattle.pp_macros.specs.declared.halt.Halt.TheVariants as halt
-use Rattle.pp_macros.specs.declared.step.StepExit.TheVariants.{Error, Continue, Finished}
+use Rattle.pp_macros.specs.declared.halt.PlacedHalt.{PlacedHalt}
+use Rattle.pp_macros.specs.declared.halt.PlacedHalt.TheVariants as halt
+use Rattle.pp_macros.specs.declared.step.PlacedExit.TheVariants.{Error, Continue, Finished}
 use Rattle.pp_model.specs.declared.numbering.Numbering.{Numbering}
 
 -- the expander of the definitions for a line that is being read
@@ -37,7 +37,7 @@ expander_of m l = record {
 }
 
 -- what is held, if anything is, is a token or the end
-abbrev pub IsHeld : Option (Step Read) → Type 0
+abbrev pub IsHeld : Option (PlacedStep Read) → Type 0
 IsHeld None = ⊤
 IsHeld (Some (Ok read)) = ⊤
 IsHeld (Some (Err Finished)) = ⊤
@@ -67,8 +67,8 @@ IsWorkLess levels m l n k = work_of levels n (of_list k) < work_of levels m (of_
 -- What is read of a line: a value, after which the line is still being read, or a fault, after which nothing is known
 -- of it. If memory runs out, this says nothing.
 abbrev pub ReadsOfLine : {T : Type 0} → ℕ → Numbering → List Defined → kept.Expander → Listing
-    → (Result T Fault → Expander Listed → Type 0)
-    → Result T Halt → kept.Expander → Listing → Type 0
+    → (Result T PlacedFault → Expander Listed → Type 0)
+    → Result T PlacedHalt → kept.Expander → Listing → Type 0
 ReadsOfLine levels numbering definitions m l P (Ok value) n k =
     P (Ok value) (expander_of n k) × ReadsOn levels numbering definitions m l n k
 ReadsOfLine levels numbering definitions m l P (Err (halt.Fault fault)) n k = (f : Expander Listed) × P (Err fault) f
@@ -79,18 +79,18 @@ abbrev pub taken_of_read : Option Read → Taken
 taken_of_read (Some read) = given.Token read
 taken_of_read None = given.End
 
-abbrev pub taken_of_item : Result (Option Read) Fault → Taken
+abbrev pub taken_of_item : Result (Option Read) PlacedFault → Taken
 taken_of_item (Ok found) = taken_of_read found
 taken_of_item (Err fault) = given.Fault fault
 
 -- the next item
-abbrev pub ReadsItem : ℕ → Numbering → List Defined → kept.Expander → Listing → Result (Option Read) Halt
+abbrev pub ReadsItem : ℕ → Numbering → List Defined → kept.Expander → Listing → Result (Option Read) PlacedHalt
     → kept.Expander → Listing → Type 0
 ReadsItem levels numbering definitions m l = ReadsOfLine levels numbering definitions m l (λ item f.
     Emits line_reading (answers_at levels) (expander_of m l) (taken_of_item item) f)
 
 -- what is taken next
-abbrev pub ReadsTaken : ℕ → Numbering → List Defined → kept.Expander → Listing → Result (Option Read) Halt
+abbrev pub ReadsTaken : ℕ → Numbering → List Defined → kept.Expander → Listing → Result (Option Read) PlacedHalt
     → kept.Expander → Listing → Type 0
 ReadsTaken levels numbering definitions m l =
     ReadsOfLine levels numbering definitions m l
@@ -98,19 +98,19 @@ ReadsTaken levels numbering definitions m l =
 
 -- what the operand of a `defined` gives; the same after its `(`; and after the `(` and the name
 abbrev pub ReadsOperand : LineKind → Location → ℕ → Numbering → List Defined → kept.Expander → Listing
-    → Result Bool Halt → kept.Expander → Listing → Type 0
+    → Result Bool PlacedHalt → kept.Expander → Listing → Type 0
 ReadsOperand kind directive levels numbering definitions m l =
     ReadsOfLine levels numbering definitions m l
     (λ answer f. Operand kind directive (answers_at levels) (expander_of m l) answer f)
 
 abbrev pub ReadsInParentheses : LineKind → Location → ℕ → Numbering → List Defined → kept.Expander
-    → Listing → Result Bool Halt → kept.Expander → Listing → Type 0
+    → Listing → Result Bool PlacedHalt → kept.Expander → Listing → Type 0
 ReadsInParentheses kind directive levels numbering definitions m l =
     ReadsOfLine levels numbering definitions m l
     (λ answer f. InParentheses kind directive (answers_at levels) (expander_of m l) answer f)
 
 abbrev pub ReadsClosed : LineKind → Location → ℕ → Numbering → List Defined → Name → kept.Expander
-    → Listing → Result Bool Halt → kept.Expander → Listing → Type 0
+    → Listing → Result Bool PlacedHalt → kept.Expander → Listing → Type 0
 ReadsClosed kind directive levels numbering definitions name m l =
     ReadsOfLine levels numbering definitions m l
     (λ answer f. Closes kind directive (answers_at levels) name (expander_of m l) answer f)

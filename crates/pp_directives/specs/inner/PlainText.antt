@@ -15,12 +15,12 @@ use Rattle.pp_model.specs.Names.{Name, is_same_name, line_name}
 use Rattle.pp_model.specs.Definitions.{Definition}
 use Rattle.pp_macros.specs.inner.Defined.{Defined, meaning_of, names_in}
 use Rattle.pp_macros.specs.inner.Plain.{gives_itself}
-use Rattle.pp_macros.specs.declared.step.StepExit.TheVariants.{Continue}
+use Rattle.pp_macros.specs.declared.step.PlacedExit.TheVariants.{Continue}
 use Rattle.pp_macros.specs.inner.OpenBlocks.{is_live_among}
 use Rattle.pp_macros.specs.inner.Source.{Source, StepsSource, unreported_of}
 use Rattle.pp_macros.specs.inner.Unreported.{StepReports}
 use Rattle.pp_macros.specs.Held.{HoldsOrdinary}
-use Rattle.pp_macros.specs.Item.{Step}
+use Rattle.pp_macros.specs.Item.{PlacedStep}
 use Rattle.pp_lexer.specs.Lexed.{Lexed, comments_before}
 use Rattle.pp_lexer.specs.declared.token.Token.{Token}
 
@@ -72,7 +72,7 @@ abbrev pub PassesNewline : SourceLexed → Bool → SourceLexed → Type 0
 PassesNewline old answer new = MatchBool answer (TakesNewline old new) (new ≡ old)
 
 -- one step of a source that reports the errors of its lexer
-pub record IsStep (old : Source) (step : Step Token) (new : Source) : Type 0 where
+pub record IsStep (old : Source) (step : PlacedStep Token) (new : Source) : Type 0 where
   pub reads : StepsSource old step new
   pub errors : StepReports old.rules.passes_dead_errors step (unreported_of old) (unreported_of new)
 

@@ -3,8 +3,8 @@ use Rattle.std.specs.Prelude.{◌≡◌, ℕ, Bool, false, List, Option, Result,
 use Rattle.pp_lexer.specs.Lexed.{Seen}
 use Rattle.pp_lexer.specs.TokenValue.{is_ordinary}
 use Rattle.pp_lexer.specs.declared.token.Token.{Token}
-use Rattle.pp_model.specs.Calls.{Fault}
 use Rattle.pp_expression.specs.Answers.{◌>>=◌}
+use Rattle.pp_model.specs.Places.{Fault}
 use Rattle.pp_model.specs.DefineLines.{free_name}
 use Rattle.pp_model.specs.Lines.{line_length, first_name}
 use Rattle.pp_model.specs.declared.definition.Placed.{Placed}

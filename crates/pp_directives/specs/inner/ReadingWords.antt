@@ -2,10 +2,10 @@
 use Rattle.std.specs.Prelude.{◌≡◌, ℕ, List, [], map, Bool, Option, Some, None, Result, MatchResult, IfOk, IfSome}
 use Rattle.pp_lexer.specs.declared.token.Location.{Location}
 use Rattle.pp_lexer.specs.declared.token.Token.{Token}
+use Rattle.pp_model.specs.Places.{PlacedFault}
 use Rattle.pp_model.specs.declared.read.Read.{Read}
 use Rattle.pp_model.specs.Painting.{unpainted}
 use Rattle.pp_model.specs.Names.{Name}
-use Rattle.pp_model.specs.Calls.{Fault}
 use Rattle.pp_model.specs.Emitting.{answers_at}
 use Rattle.pp_model.specs.LineWords.{Words, LineWords, name_in, unwanted_part}
 use Rattle.pp_model.specs.Reading.{reading_of}
@@ -15,7 +15,7 @@ use Rattle.pp_directives.specs.inner.LineItems.{IsOnLine, IsWorkLess, ReadsItem,
 use Rattle.pp_directives.specs.inner.LineItems.{ReadsInParentheses, ReadsClosed, expander_of, taken_of_read}
 use Rattle.pp_macros.specs.inner.Nesting.{listed_in}
 use Rattle.pp_macros.specs.inner.Reader.{Listing}
-use Rattle.pp_macros.specs.declared.halt.Halt.{Halt}
+use Rattle.pp_macros.specs.declared.halt.PlacedHalt.{PlacedHalt}
 use Rattle.pp_directives.specs.declared.line_words.WordReader.{WordReader}
 use Rattle.pp_directives.specs.declared.line_words.LineExpander.{LineExpander}
 use Rattle.pp_model.specs.declared.numbering.Numbering.{Numbering}
@@ -30,41 +30,41 @@ IsReading reader line =
     IsOnLine reader.scope.numbering reader.scope.definitions.now line.expander.here (rest_of line)
 
 -- the next item
-abbrev pub GivesItem : WordReader → LineExpander → Result (Option Read) Halt → LineExpander → Type 0
+abbrev pub GivesItem : WordReader → LineExpander → Result (Option Read) PlacedHalt → LineExpander → Type 0
 GivesItem reader old result new =
     ReadsItem reader.levels reader.scope.numbering reader.scope.definitions.now old.expander.here (rest_of old)
     result new.expander.here (rest_of new)
 
 -- if a token is given, less of the line is left after it
-abbrev pub TakesOff : WordReader → LineExpander → Result (Option Read) Halt → LineExpander → Type 0
+abbrev pub TakesOff : WordReader → LineExpander → Result (Option Read) PlacedHalt → LineExpander → Type 0
 TakesOff reader old result new =
     IfOk result (λ found. IfSome found (λ read.
     IsWorkLess reader.levels old.expander.here (rest_of old) new.expander.here (rest_of new)))
 
 -- what is taken next
-abbrev pub GivesTaken : WordReader → LineExpander → Result (Option Read) Halt → LineExpander → Type 0
+abbrev pub GivesTaken : WordReader → LineExpander → Result (Option Read) PlacedHalt → LineExpander → Type 0
 GivesTaken reader old result new =
     ReadsTaken reader.levels reader.scope.numbering reader.scope.definitions.now old.expander.here (rest_of old)
     result new.expander.here (rest_of new)
 
 -- the name of an identifier, or the fault of anything else, if a part of `defined` is needed here
-abbrev pub IsNameOrFault : Location → Option Read → Result Name Fault → Type 0
+abbrev pub IsNameOrFault : Location → Option Read → Result Name PlacedFault → Type 0
 IsNameOrFault directive found result =
     MatchResult result (λ name. name_in (taken_of_read found) ≡ Some name)
     (λ fault. (name_in (taken_of_read found) ≡ None) × (fault ≡ unwanted_part directive (taken_of_read found)))
 
 -- what the operand of a `defined` gives; the same after its `(`; and after the `(` and the name
-abbrev pub GivesOperand : WordReader → LineExpander → Result Bool Halt → LineExpander → Type 0
+abbrev pub GivesOperand : WordReader → LineExpander → Result Bool PlacedHalt → LineExpander → Type 0
 GivesOperand reader old result new =
     ReadsOperand reader.kind reader.directive reader.levels reader.scope.numbering reader.scope.definitions.now
     old.expander.here (rest_of old) result new.expander.here (rest_of new)
 
-abbrev pub GivesInParentheses : WordReader → LineExpander → Result Bool Halt → LineExpander → Type 0
+abbrev pub GivesInParentheses : WordReader → LineExpander → Result Bool PlacedHalt → LineExpander → Type 0
 GivesInParentheses reader old result new =
     ReadsInParentheses reader.kind reader.directive reader.levels reader.scope.numbering reader.scope.definitions.now
     old.expander.here (rest_of old) result new.expander.here (rest_of new)
 
-abbrev pub GivesClosed : WordReader → Name → LineExpander → Result Bool Halt → LineExpander → Type 0
+abbrev pub GivesClosed : WordReader → Name → LineExpander → Result Bool PlacedHalt → LineExpander → Type 0
 GivesClosed reader name old result new =
     ReadsClosed reader.kind reader.directive reader.levels reader.scope.numbering reader.scope.definitions.now name
     old.expander.here (rest_of old) result new.expander.here (rest_of new)

@@ -20,4 +20,5 @@ source_start rules input =
       has_text = false;
       has_directive = false;
       dead_for_good = false;
+      contents = 0;
     }

@@ -21,10 +21,11 @@ use crate::lines::{
 };
 use pp_lexer::lexer;
 use pp_lexer::token::{Extension, Location, Pragma, PreprocessorError, Token, TokenValue, Version};
-use pp_macros::halt::Halt;
+use pp_macros::halt::{Halt, PlacedHalt};
 use pp_macros::list_lexer::Scope;
 use pp_model::conversion::refused_token;
 use pp_model::directive::{Directive, directive_of};
+use pp_model::place::placed;
 
 // Whether the directive is an item in live text.
 fn is_item(directive: Directive) -> bool {
@@ -35,7 +36,7 @@ fn is_item(directive: Directive) -> bool {
 }
 
 // The result of a directive that gives nothing, as that of one that may give an item.
-fn without_item(acted: Result<(), Halt>) -> Result<Option<Token>, Halt>
+fn without_item(acted: Result<(), PlacedHalt>) -> Result<Option<Token>, PlacedHalt>
     ensures { result ≡ without_item acted }
 {
     acted?;
@@ -44,7 +45,7 @@ fn without_item(acted: Result<(), Halt>) -> Result<Option<Token>, Halt>
 
 impl<'a> DirectiveProcessor<'a> {
     // Defines a name as its line says. If the name has the same definition already, the old one stays.
-    fn add(&mut self, line: DefineLine) -> Result<(), Halt>
+    fn add(&mut self, line: DefineLine) -> Result<(), PlacedHalt>
         requires { self.old.spent ≡ false }
         ensures { Acts unchanged (define_move (as_named line)) self.old result self.new }
     {
@@ -55,14 +56,14 @@ impl<'a> DirectiveProcessor<'a> {
             if is_same {
                 return Ok(());
             }
-            return Err(Halt::Fault((PreprocessorError::DefineRedefined, location)));
+            return Err(PlacedHalt::of_source(PreprocessorError::DefineRedefined, location));
         }
         self.definitions.set(line.name, line.define)?;
         Ok(())
     }
 
     // Acts on a `#define` line, after its word.
-    fn define(&mut self, word: Location) -> Result<(), Halt>
+    fn define(&mut self, word: Location) -> Result<(), PlacedHalt>
         requires { self.old.spent ≡ false }
         ensures { Acts unchanged (moves.directive_move self.old.rules true
             (facts_among self.old.blocks) d.Define word self.old.rest) self.old result self.new }
@@ -72,7 +73,7 @@ impl<'a> DirectiveProcessor<'a> {
     }
 
     // Acts on an `#undef` line, after its word. A name that is followed by more tokens is undefined too.
-    fn undef(&mut self, word: Location) -> Result<(), Halt>
+    fn undef(&mut self, word: Location) -> Result<(), PlacedHalt>
         requires { self.old.spent ≡ false }
         ensures { Acts unchanged (moves.line_move (undefined_on self.old.rules word self.old.rest)
             moves.undefines self.old.rest) self.old result self.new }
@@ -80,7 +81,8 @@ impl<'a> DirectiveProcessor<'a> {
         let first = free_name(self.rules, word, &mut self.lexer)?;
         self.definitions.remove(first.name.as_str());
         drop(first);
-        ended_line(word, &mut self.lexer)
+        ended_line(word, &mut self.lexer)?;
+        Ok(())
     }
 
     // Shows the line that a `#line` here numbers as this number from now on, and the lines after it accordingly.
@@ -94,7 +96,7 @@ impl<'a> DirectiveProcessor<'a> {
 
     // Acts on a `#line` line, after its word: the next lines are numbered from its first number, also if only what
     // follows that number has a fault.
-    fn number_lines(&mut self, word: Location) -> Result<(), Halt>
+    fn number_lines(&mut self, word: Location) -> Result<(), PlacedHalt>
         requires { self.old.spent ≡ false }
         ensures { Acts unchanged (moves.line_move (line_tokens self.old.rest)
             (moves.renumbers word) self.old.rest) self.old result self.new }
@@ -120,15 +122,16 @@ impl<'a> DirectiveProcessor<'a> {
     }
 
     // Skips the line.
-    fn skip(&mut self) -> Result<(), Halt>
+    fn skip(&mut self) -> Result<(), PlacedHalt>
         requires { self.old.spent ≡ false }
         ensures { Acts unchanged (moves.skip_move self.old.rules self.old.rest) self.old result self.new }
     {
-        skip_line(self.rules.passes_dead_errors, &mut self.lexer)
+        skip_line(self.rules.passes_dead_errors, &mut self.lexer)?;
+        Ok(())
     }
 
     // A `#version` line as an item.
-    fn version(&mut self, word: Location) -> Result<Token, Halt>
+    fn version(&mut self, word: Location) -> Result<Token, PlacedHalt>
         requires unspent { self.old.spent ≡ false }
         requires left { self.old.rest ≢ [] }
         ensures { ActsAsItem
@@ -148,7 +151,7 @@ impl<'a> DirectiveProcessor<'a> {
     }
 
     // An `#extension` line as an item.
-    fn extension(&mut self, word: Location) -> Result<Token, Halt>
+    fn extension(&mut self, word: Location) -> Result<Token, PlacedHalt>
         requires unspent { self.old.spent ≡ false }
         requires left { self.old.rest ≢ [] }
         ensures { ActsAsItem
@@ -166,7 +169,7 @@ impl<'a> DirectiveProcessor<'a> {
     }
 
     // A `#pragma` line as an item.
-    fn pragma(&mut self, word: Location) -> Result<Token, Halt>
+    fn pragma(&mut self, word: Location) -> Result<Token, PlacedHalt>
         requires unspent { self.old.spent ≡ false }
         requires left { self.old.rest ≢ [] }
         ensures { ActsAsItem
@@ -180,7 +183,11 @@ impl<'a> DirectiveProcessor<'a> {
     }
 
     // Acts on a directive in live text, after its word, and gives its item, if it is one.
-    fn act_live(&mut self, directive: Directive, word: Location) -> Result<Option<Token>, Halt>
+    fn act_live(
+        &mut self,
+        directive: Directive,
+        word: Location,
+    ) -> Result<Option<Token>, PlacedHalt>
         requires unspent { self.old.spent ≡ false }
         requires left { self.old.rest ≢ [] }
         ensures { Gives (block_change (part_of directive) word) (moves.directive_move self.old.rules true
@@ -196,16 +203,19 @@ impl<'a> DirectiveProcessor<'a> {
             Directive::Else => without_item(self.else_line(word)),
             Directive::Endif => without_item(self.endif_line(word)),
             Directive::Line => without_item(self.number_lines(word)),
-            Directive::Error => Err(Halt::Fault((PreprocessorError::ErrorDirective, word))),
+            Directive::Error => Err(PlacedHalt::of_source(PreprocessorError::ErrorDirective, word)),
             Directive::Version => Ok(Some(self.version(word)?)),
             Directive::Extension => Ok(Some(self.extension(word)?)),
             Directive::Pragma => Ok(Some(self.pragma(word)?)),
-            Directive::Unknown => Err(Halt::Fault((PreprocessorError::UnknownDirective, word))),
+            Directive::Unknown => Err(PlacedHalt::of_source(
+                PreprocessorError::UnknownDirective,
+                word,
+            )),
         }
     }
 
     // Acts on a directive in dead text, after its word.
-    fn act_dead(&mut self, directive: Directive, word: Location) -> Result<(), Halt>
+    fn act_dead(&mut self, directive: Directive, word: Location) -> Result<(), PlacedHalt>
         requires { self.old.spent ≡ false }
         ensures { Acts (block_change (part_of directive) word) (moves.directive_move self.old.rules false
             (facts_among self.old.blocks) directive word self.old.rest) self.old result self.new }
@@ -228,7 +238,7 @@ impl<'a> DirectiveProcessor<'a> {
 
     // The item that a directive gives in live text, if it gives one, after its number sign. A number sign alone on its
     // line gives nothing. A line that would be an item counts as a directive even if it has a fault.
-    fn read_live(&mut self, hash: Location) -> Result<Option<Token>, Halt>
+    fn read_live(&mut self, hash: Location) -> Result<Option<Token>, PlacedHalt>
         requires { self.old.spent ≡ false }
         ensures { GivesNoted (word_note true (first_token hash self.old.rest))
             (word_change (first_token hash self.old.rest))
@@ -256,13 +266,13 @@ impl<'a> DirectiveProcessor<'a> {
                 self.has_directive = true;
                 Ok(None)
             }
-            _ => Err(Halt::Fault(refused_token(token))),
+            _ => Err(PlacedHalt::Fault(placed(refused_token(token)))),
         }
     }
 
     // Acts on a directive in dead text, after its number sign. Without a word after the number sign it does nothing,
     // and an error of the lexer there is passed if the rules say so.
-    fn read_dead(&mut self, hash: Location) -> Result<(), Halt>
+    fn read_dead(&mut self, hash: Location) -> Result<(), PlacedHalt>
         requires { self.old.spent ≡ false }
         ensures { ActsNoted (word_note false (first_token hash self.old.rest))
             (word_change (first_token hash self.old.rest))
@@ -276,7 +286,7 @@ impl<'a> DirectiveProcessor<'a> {
                 self.lexer.take_error_place();
                 return Ok(());
             }
-            Err(halt) => return Err(halt),
+            Err(halt) => return Err(PlacedHalt::from(halt)),
         };
         let word = token.location;
         match token.value {
@@ -296,7 +306,7 @@ impl<'a> DirectiveProcessor<'a> {
     }
 
     // The item that a directive gives, if it gives one, after its number sign.
-    pub(crate) fn read_directive(&mut self, hash: Location) -> Result<Option<Token>, Halt>
+    pub(crate) fn read_directive(&mut self, hash: Location) -> Result<Option<Token>, PlacedHalt>
         requires { self.old.spent ≡ false }
         ensures { GivesDirective hash self.old result self.new }
     {

@@ -12,12 +12,12 @@ use crate::line_value::condition;
 use crate::lines::{ended_line, endif_end, line_reads, line_tokens, only_name, skip_line};
 use pp_lexer::token::{Location, PreprocessorError};
 use pp_macros::blocks::OpenBlock;
-use pp_macros::halt::Halt;
+use pp_macros::halt::PlacedHalt;
 use pp_macros::list_lexer::Scope;
 
 impl<'a> DirectiveProcessor<'a> {
     // Opens a block whose condition is that the name on the line is defined, or (if not `wanted`) that it isn't.
-    pub(crate) fn open_where(&mut self, wanted: bool, word: Location) -> Result<(), Halt>
+    pub(crate) fn open_where(&mut self, wanted: bool, word: Location) -> Result<(), PlacedHalt>
         requires { self.old.spent ≡ false }
         ensures { Acts (block_change (Some part.Opens) word)
             (moves.line_move (only_name word self.old.rest) (moves.tests (is_as wanted))
@@ -32,7 +32,7 @@ impl<'a> DirectiveProcessor<'a> {
     }
 
     // Opens a block with the condition on the line.
-    pub(crate) fn open_if(&mut self, word: Location) -> Result<(), Halt>
+    pub(crate) fn open_if(&mut self, word: Location) -> Result<(), PlacedHalt>
         requires { self.old.spent ≡ false }
         ensures { Acts (block_change (Some part.Opens) word)
             (moves.line_move (line_tokens self.old.rest) (moves.decides word) self.old.rest)
@@ -49,27 +49,29 @@ impl<'a> DirectiveProcessor<'a> {
     }
 
     // Opens a block in dead text, without reading its line.
-    pub(crate) fn open_unread(&mut self, word: Location) -> Result<(), Halt>
+    pub(crate) fn open_unread(&mut self, word: Location) -> Result<(), PlacedHalt>
         requires { self.old.spent ≡ false }
         ensures { Acts (block_change (Some part.Opens) word)
             (moves.skip_move self.old.rules self.old.rest) self.old result self.new }
     {
         self.blocks.push(OpenBlock::unread(word))?;
-        skip_line(self.rules.passes_dead_errors, &mut self.lexer)
+        skip_line(self.rules.passes_dead_errors, &mut self.lexer)?;
+        Ok(())
     }
 
     // Skips the branch after an `#elif` of the innermost block, also if its line has a fault.
-    fn skip_branch(&mut self, block: OpenBlock) -> Result<(), Halt>
+    fn skip_branch(&mut self, block: OpenBlock) -> Result<(), PlacedHalt>
         requires unspent { self.old.spent ≡ false }
         requires innermost { last_block self.old.blocks ≡ Some block }
         ensures { Acts elif_change (moves.skip_move self.old.rules self.old.rest) self.old result self.new }
     {
         self.blocks.replace_last(block.skipped());
-        skip_line(self.rules.passes_dead_errors, &mut self.lexer)
+        skip_line(self.rules.passes_dead_errors, &mut self.lexer)?;
+        Ok(())
     }
 
     // Begins a new branch of the innermost block by the condition on the line. After a fault the branch is dead.
-    fn part_if(&mut self, block: OpenBlock, word: Location) -> Result<(), Halt>
+    fn part_if(&mut self, block: OpenBlock, word: Location) -> Result<(), PlacedHalt>
         requires unspent { self.old.spent ≡ false }
         requires innermost { last_block self.old.blocks ≡ Some block }
         ensures { Acts elif_change
@@ -88,7 +90,7 @@ impl<'a> DirectiveProcessor<'a> {
     }
 
     // Acts on an `#elif` line, after its word. After a fault the text that follows is dead.
-    pub(crate) fn elif_line(&mut self, word: Location) -> Result<(), Halt>
+    pub(crate) fn elif_line(&mut self, word: Location) -> Result<(), PlacedHalt>
         requires { self.old.spent ≡ false }
         ensures { Acts elif_change
             (moves.elif_move self.old.rules (facts_among self.old.blocks) word self.old.rest)
@@ -96,11 +98,11 @@ impl<'a> DirectiveProcessor<'a> {
     {
         let Some(block) = self.blocks.last() else {
             self.dead_for_good = true;
-            return Err(Halt::Fault((PreprocessorError::ElifOutsideOfBlock, word)));
+            return Err(PlacedHalt::of_source(PreprocessorError::ElifOutsideOfBlock, word));
         };
         if block.with_else {
             self.blocks.replace_last(block.skipped());
-            return Err(Halt::Fault((PreprocessorError::ElifAfterElse, word)));
+            return Err(PlacedHalt::of_source(PreprocessorError::ElifAfterElse, word));
         }
         if block.skips_branches() {
             return self.skip_branch(block);
@@ -109,7 +111,7 @@ impl<'a> DirectiveProcessor<'a> {
     }
 
     // Acts on an `#else` line, after its word.
-    pub(crate) fn else_line(&mut self, word: Location) -> Result<(), Halt>
+    pub(crate) fn else_line(&mut self, word: Location) -> Result<(), PlacedHalt>
         requires { self.old.spent ≡ false }
         ensures { Acts (block_change (Some part.Else) word)
             (moves.else_move (facts_among self.old.blocks) word self.old.rest)
@@ -117,30 +119,31 @@ impl<'a> DirectiveProcessor<'a> {
     {
         ended_line(word, &mut self.lexer)?;
         let Some(block) = self.blocks.last() else {
-            return Err(Halt::Fault((PreprocessorError::ElseOutsideOfBlock, word)));
+            return Err(PlacedHalt::of_source(PreprocessorError::ElseOutsideOfBlock, word));
         };
         if block.with_else {
-            return Err(Halt::Fault((PreprocessorError::MoreThanOneElse, word)));
+            return Err(PlacedHalt::of_source(PreprocessorError::MoreThanOneElse, word));
         }
         self.blocks.replace_last(block.parted());
         Ok(())
     }
 
     // Acts on an `#endif` line, after its word: the block closes, also if more tokens follow on the line.
-    pub(crate) fn endif_line(&mut self, word: Location) -> Result<(), Halt>
+    pub(crate) fn endif_line(&mut self, word: Location) -> Result<(), PlacedHalt>
         requires { self.old.spent ≡ false }
         ensures { Acts (block_change (Some part.Closes) word)
             (moves.endif_move self.old.rules (facts_among self.old.blocks) word self.old.rest)
             self.old result self.new }
     {
         let Some(block) = self.blocks.pop() else {
-            return Err(Halt::Fault((PreprocessorError::EndifOutsideOfBlock, word)));
+            return Err(PlacedHalt::of_source(PreprocessorError::EndifOutsideOfBlock, word));
         };
         endif_end(
             block.live_around,
             self.rules.passes_dead_errors,
             word,
             &mut self.lexer,
-        )
+        )?;
+        Ok(())
     }
 }

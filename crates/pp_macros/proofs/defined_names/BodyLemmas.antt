@@ -46,18 +46,19 @@ are_dropped parameters [] (suc k) all = all
 are_dropped parameters (e ∷ rest) (suc k) all = are_dropped parameters rest k all.1
 
 -- what stands at a position
-pub entry_found : (function_like : Bool) (parameters : List Name) (entries : List BodyEntry) (k : ℕ) (found : Option (Bor BodyEntry))
+pub entry_found : (function_like : Bool) (parameters : List Name) (entries : List BodyEntry) (text k : ℕ) (found : Option (Bor BodyEntry))
     → AreEntries parameters entries → IsItemAt entries k found
     → let definition : Definition = record {
       function_like = function_like;
       parameters = parameters;
       body = body_of parameters entries;
+      text = text;
     } in
     MatchOption found (drop k definition.body ≡ []) (λ r. IsEntryAt definition k r.now)
-entry_found function_like parameters entries k None all is =
+entry_found function_like parameters entries text k None all is =
     let past : length entries ≤ k = grind (arith, tests, is.0) in
     drop-map (token_of parameters) k entries ∙ ap (body_of parameters) (drop_all k entries past)
-entry_found function_like parameters entries k (Some r) all is =
+entry_found function_like parameters entries text k (Some r) all is =
     let within : k < length entries = grind (arith, tests, is.0) in
     let here : drop k entries ≡ r.now ∷ drop (k + 1) entries
     = drop_more entries k r.now within ∙ ap (λ (e : BodyEntry). e ∷ drop (k + 1) entries) (sym is.1) in
@@ -102,12 +103,12 @@ entries_decide parameters (x ∷ xs) (y ∷ ys) n p q =
     (entries_decide parameters xs ys (omega arith) p.1 q.1))
 
 -- two definitions of one kind with the same parameters say the same if their bodies have the same values
-pub same_definition : (f g : Bool) (ps qs : List Name) (xs ys : List BodyEntry) (r : Bool) → f ≡ g → ps ≡ qs → AreEntries ps xs → AreEntries qs ys
+pub same_definition : (f g : Bool) (ps qs : List Name) (xs ys : List BodyEntry) (s t : ℕ) (r : Bool) → f ≡ g → ps ≡ qs → AreEntries ps xs → AreEntries qs ys
     → ((parameters : List Name) → AreEntries parameters xs → AreEntries parameters ys
     → IsTrue r ↔ (values_of (body_of parameters xs) ≡ values_of (body_of parameters ys)))
-    → IsTrue r ↔ IsSameDefinition (record { function_like = f; parameters = ps; body = body_of ps xs })
-    (record { function_like = g; parameters = qs; body = body_of qs ys })
-same_definition f g ps qs xs ys r kind names p q tells =
+    → IsTrue r ↔ IsSameDefinition (record { function_like = f; parameters = ps; body = body_of ps xs; text = s })
+    (record { function_like = g; parameters = qs; body = body_of qs ys; text = t })
+same_definition f g ps qs xs ys s t r kind names p q tells =
     let decided = tells qs (rw names at p) q in (
       λ yes. record { kind = kind; parameters = names; body = rw names (decided.0 yes) },
       λ same. decided.1 (rw names at same.body),

@@ -9,7 +9,7 @@ use Rattle.pp_model.specs.Moves.{Effect, gives, gives_item, fails, ends, passes,
 use Rattle.pp_model.specs.Names.{Name}
 use Rattle.pp_model.specs.Sights.{sight_of}
 use Rattle.pp_model.specs.declared.read.Read.{Read}
-use Rattle.pp_macros.specs.Item.{Step, wants_memory}
+use Rattle.pp_macros.specs.Item.{PlacedStep, wants_memory}
 use Rattle.pp_macros.specs.inner.Defined.{GrowAtEnd, meaning_of, names_in}
 use Rattle.pp_macros.specs.inner.OpenBlocks.{last_block, BlockChange, block_change_at}
 use Rattle.pp_macros.specs.inner.Reader.{Reader, of_source, of_list, Reads, ReadsFlat, none_read, read_more, ReadsOnto, ReadsRun, definitions_of}
@@ -17,7 +17,7 @@ use Rattle.pp_macros.specs.inner.Reading.{unpainted_step}
 use Rattle.pp_macros.specs.inner.Source.{Source, IsAfterFault, DefinesOver, Ends, Decides, holds, faulty, Renumbers, numbers, unnumbered, HasEffect, MakesMove, IsRefusedStep, StepsSource}
 use Rattle.pp_macros.specs.inner.SourceMoves.{Note, move_of, note_of}
 use Rattle.pp_macros.specs.declared.blocks.OpenBlock.{OpenBlock}
-use Rattle.pp_macros.specs.declared.step.StepExit.TheVariants.{Finished}
+use Rattle.pp_macros.specs.declared.step.PlacedExit.TheVariants.{Finished}
 
 pub grow_not : (names : List Name) → GrowAtEnd names names
 grow_not names = ([], sym (append-nil names))
@@ -39,26 +39,26 @@ module _ (old new : Source) where
   fault_grows : IsAfterFault old new → Grows
   fault_grows after = same_grow (names_in old.definitions) (names_in new.definitions) after.names
 
-  define_grows : (named : Named) (o : Option Definition) (taken : ℕ) (note : Note) (step : Step Token) → DefinesOver named o taken note old step new → Grows
+  define_grows : (named : Named) (o : Option Definition) (taken : ℕ) (note : Note) (step : PlacedStep Token) → DefinesOver named o taken note old step new → Grows
   define_grows named None taken note step h = h.2.kept
   define_grows named (Some before) taken note step (inl h) = stays h.3
   define_grows named (Some before) taken note step (inr h) = fault_grows h.2
 
-  end_grows : (last : Option OpenBlock) (step : Step Token) → Ends last old step new → Grows
+  end_grows : (last : Option OpenBlock) (step : PlacedStep Token) → Ends last old step new → Grows
   end_grows None step h = stays (ap (λ (s : Source). s.definitions) h.1)
   end_grows (Some block) step h = stays h.1.definitions
 
-  decide_grows : (word : Location) (tokens : List Token) (blocks : Bool → List OpenBlock) (taken : ℕ) (note : Note) (step : Step Token)
+  decide_grows : (word : Location) (tokens : List Token) (blocks : Bool → List OpenBlock) (taken : ℕ) (note : Note) (step : PlacedStep Token)
       → Decides word tokens blocks taken note old step new → Grows
   decide_grows word tokens blocks taken note step (holds value condition h) = stays h.2
   decide_grows word tokens blocks taken note step (faulty fault condition failed left) = fault_grows left
 
-  renumber_grows : (word : Location) (tokens : List Token) (taken : ℕ) (note : Note) (step : Step Token)
+  renumber_grows : (word : Location) (tokens : List Token) (taken : ℕ) (note : Note) (step : PlacedStep Token)
       → Renumbers word tokens taken note old step new → Grows
   renumber_grows word tokens taken note step (numbers n number h) = stays h.2
   renumber_grows word tokens taken note step (unnumbered fault number failed left) = fault_grows left
 
-  effect_grows : (effect : Effect) (taken : ℕ) (note : Note) (change : BlockChange) (step : Step Token)
+  effect_grows : (effect : Effect) (taken : ℕ) (note : Note) (change : BlockChange) (step : PlacedStep Token)
       → HasEffect effect taken note change old step new → Grows
   effect_grows (gives token) taken note change step h = stays h.2
   effect_grows (gives_item item word) taken note change step h = stays h.2
@@ -72,7 +72,7 @@ module _ (old new : Source) where
       decide_grows word tokens (λ value. change (Some value) old.blocks) taken note step h
   effect_grows (renumbers word tokens) taken note change step h = renumber_grows word tokens taken note step h
 
-  source_grows : (step : Step Token) → StepsSource old step new → wants_memory step ≡ false → Grows
+  source_grows : (step : PlacedStep Token) → StepsSource old step new → wants_memory step ≡ false → Grows
   source_grows step h reported = go old.spent h
     where
       go : (b : Bool) → MatchBool b ((step ≡ Err Finished) × (new ≡ old)) (IsRefusedStep old step ⊎ MakesMove old step new) → Grows
@@ -82,11 +82,11 @@ module _ (old new : Source) where
           let move = move_of old.rules old.dead_for_good old.blocks old.rest in
           effect_grows move.effect move.taken (note_of old.dead_for_good old.blocks old.rest) (block_change_at (sight_of old.rest)) step h
 
-given_wants : (given : Step Token) → wants_memory (unpainted_step given) ≡ wants_memory given
+given_wants : (given : PlacedStep Token) → wants_memory (unpainted_step given) ≡ wants_memory given
 given_wants (Ok token) = refl
 given_wants (Err exit) = refl
 
-pub reads_grow : (step : Step Read) (r s : Reader) → Reads r step s → wants_memory step ≡ false
+pub reads_grow : (step : PlacedStep Read) (r s : Reader) → Reads r step s → wants_memory step ≡ false
     → GrowAtEnd (names_in (definitions_of r)) (names_in (definitions_of s))
 reads_grow step (of_source old) (of_source new) h reported =
     source_grows old new h.given h.steps (sym (given_wants h.given) ∙ ap wants_memory (sym h.is) ∙ reported)

@@ -6,6 +6,7 @@ use Rattle.std.specs.declared.string.String.{String}
 use Rattle.std.proofs.lemmas.Bool.{cases_lt}
 use Rattle.std.proofs.lemmas.List.{get_or_read, length-set, get_or-set_same, get_or-set_other}
 use Rattle.std.proofs.lemmas.List.Quantifiers.{position-Some}
+use Rattle.pp_model.specs.Places.{placed}
 use Rattle.pp_model.specs.Names.{Name, is_same_name, is_in}
 use Rattle.pp_macros.specs.declared.names.table.Place.{Place}
 use Rattle.pp_macros.specs.inner.NamePlaces.{hash_of, no_place, place_index, place_after, AreTaken, IsCrowded, IsPlaced, IsFree, IsFound, FindsNames}

@@ -1,33 +1,32 @@
 -- The frames of a processor: those from a base on are the innermost expander's, and those before it are around.
-use Rattle.std.proofs.Common.{◌≡◌, ◌∙◌, ◌⊎◌, inl, inr, ℕ, zero, suc, ◌+◌, ◌-◌, ◌<◌, ◌≤◌, true, false, List, [], ◌∷◌, ◌++◌, length, get_or, take, drop, reverse, set, refl, ap, sym, subst, arith, Option, Some, None, Ok, Err, slice_get, length-drop, length-append}
+use Rattle.std.proofs.Common.{◌≡◌, ◌∙◌, ◌⊎◌, inl, inr, ℕ, zero, suc, ◌+◌, ◌-◌, ◌<◌, ◌≤◌, true, false, List, [], ◌∷◌, ◌++◌, length, get_or, take, drop, reverse, set, refl, ap, sym, subst, arith, Option, Some, None, Ok, Err, slice_get, length-drop, length-append, Bool}
 use Rattle.std.specs.Prelude.{is_none, is_some, IfSome, MatchResult, Result}
 use Rattle.std.proofs.Math.ListN.{drop_of_length-le}
 use Rattle.std.proofs.Math.Seq.{take-append_seam, drop-append_seam}
 use Rattle.std.proofs.lemmas.List.{reverse-append, reverse-reverse, length-reverse, length-set, take-append-drop, take-append-le, drop-append-le, take-set-le, drop-set-add, get_or-drop, drop-take, take-take, take_all, length-take-le}
 use Rattle.std.proofs.lemmas.Bool.{cases_lt}
-use Rattle.pp_lexer.specs.declared.token.Token.{Token}
 use Rattle.pp_model.specs.Names.{Name}
 use Rattle.pp_model.specs.declared.read.Read.{Read}
-use Rattle.pp_macros.specs.Item.{Step}
+use Rattle.pp_macros.specs.Item.{PlacedStep}
 use Rattle.pp_macros.specs.declared.frames.Ahead.{Ahead}
-use Rattle.pp_macros.specs.inner.Ahead.{token_given, given_by, given_next, frame_after}
+use Rattle.pp_macros.specs.inner.Ahead.{painted_as, given_by, given_next, frame_after}
 use Rattle.pp_macros.specs.inner.Bodies.{noted_by}
 use Rattle.pp_macros.specs.inner.Defined.{AreNumbered}
 use Rattle.pp_macros.specs.inner.Frames.{Frame, AreCounted, advance, names_of, outermost_frame_call}
-use Rattle.pp_macros.specs.inner.Giving.{token_ahead}
+use Rattle.pp_macros.specs.inner.Giving.{read_ahead}
 use Rattle.pp_macros.specs.inner.Left.{HaveNumbers}
 use Rattle.pp_macros.specs.inner.Nesting.{MacroProcessor, open_names, stepped, with_frames}
 use Rattle.pp_macros.proofs.open_frames.OpenMacroLemmas.{names_of-append, outermost_first, reverse_last, reverse_set_last, last_gives, last_passes, last_closes, last_stays, has_token, ahead_numbered}
 use Rattle.pp_macros.proofs.open_frames.CountLemmas.{counted_kept}
 
 -- a processor with these frames
-abbrev pub processor_of : Option (Step Read) → ℕ → List Frame → MacroProcessor
+abbrev pub processor_of : Option (PlacedStep Read) → ℕ → List Frame → MacroProcessor
 processor_of held base fs = record {
   here = record { held = held; frames = reverse (drop base fs) };
   below = reverse (take base fs);
 }
 
-alike : (held : Option (Step Read)) (here here' below below' : List Frame) → here ≡ here' → below ≡ below'
+alike : (held : Option (PlacedStep Read)) (here here' below below' : List Frame) → here ≡ here' → below ≡ below'
     → ◌≡◌ {A = MacroProcessor} (record { here = record { held = held; frames = here }; below = below })
     (record { here = record { held = held; frames = here' }; below = below' })
 alike held here here' below below' same around =
@@ -38,12 +37,12 @@ alike held here here' below below' same around =
 all_frames : (base : ℕ) (fs : List Frame) → reverse fs ≡ reverse (drop base fs) ++ reverse (take base fs)
 all_frames base fs = ap reverse (sym (take-append-drop base fs)) ∙ reverse-append (take base fs) (drop base fs)
 
-pub shown_frames : (held : Option (Step Read)) (base : ℕ) (fs : List Frame) (m : MacroProcessor) → processor_of held base fs ≡ m
+pub shown_frames : (held : Option (PlacedStep Read)) (base : ℕ) (fs : List Frame) (m : MacroProcessor) → processor_of held base fs ≡ m
     → reverse fs ≡ m.here.frames ++ m.below
 shown_frames held base fs m view = all_frames base fs ∙ ap (λ (k : MacroProcessor). k.here.frames ++ k.below) view
 
 -- the names of all frames
-pub all_names : (held : Option (Step Read)) (base : ℕ) (fs : List Frame) → names_of (reverse fs) ≡ open_names (processor_of held base fs)
+pub all_names : (held : Option (PlacedStep Read)) (base : ℕ) (fs : List Frame) → names_of (reverse fs) ≡ open_names (processor_of held base fs)
 all_names held base fs = ap names_of (all_frames base fs) ∙ names_of-append (reverse (drop base fs)) (reverse (take base fs))
 
 -- if a macro is open here, there are frames from the base on
@@ -84,7 +83,7 @@ pub no_call_here : (base : ℕ) (fs : List Frame) → length fs ≤ base → out
 no_call_here base fs past = ap (λ (gs : List Frame). outermost_frame_call (reverse gs)) (drop_of_length-le fs past)
 
 -- a macro is open here
-module _ (held : Option (Step Read)) (base : ℕ) (fs : List Frame) (m : MacroProcessor) (view : processor_of held base fs ≡ m)
+module _ (held : Option (PlacedStep Read)) (base : ℕ) (fs : List Frame) (m : MacroProcessor) (view : processor_of held base fs ≡ m)
     (some : is_some (outermost_frame_call m.here.frames) ≡ true) where
   there_here : base < length fs
   there_here = above_base base fs (ap (λ (k : MacroProcessor). is_some (outermost_frame_call k.here.frames)) view ∙ some)
@@ -153,12 +152,13 @@ module _ (held : Option (Step Read)) (base : ℕ) (fs : List Frame) (m : MacroPr
         rw (← view) (changed_here v _ (last_passes (drop base fs) f some_here last_here v goes is))
 
     -- it gives a token, or stays as it is
-    pub makes_here : {E : Type 0} (v : Frame) (made : Result Token E)
-        → MatchResult made (λ token. (token_given (given_by (advance f)) ≡ Some token) × (v ≡ frame_after f (advance f))) (λ _. v ≡ f)
-        → MatchResult made (λ token. (token_ahead m.here ≡ Some token) × (processor_of held base (set fs (n - 1) v) ≡ stepped m))
+    pub makes_here : {E : Type 0} (painted : Bool) (v : Frame) (made : Result Read E)
+        → MatchResult made (λ read. (painted_as painted (given_by (advance f)) ≡ Some read) × (v ≡ frame_after f (advance f))) (λ _. v ≡ f)
+        → MatchResult made (λ read. (read_ahead painted m.here ≡ Some read) × (processor_of held base (set fs (n - 1) v) ≡ stepped m))
         (λ _. processor_of held base (set fs (n - 1) v) ≡ m)
-    makes_here v (Ok token) makes = (ap token_given gives_here ∙ makes.0, passes_here v (has_token (advance f) token makes.0) makes.1)
-    makes_here v (Err refused) same =
+    makes_here painted v (Ok read) makes =
+        (ap (painted_as painted) gives_here ∙ makes.0, passes_here v (has_token painted (advance f) read makes.0) makes.1)
+    makes_here painted v (Err refused) same =
         rw (← view) (changed_here v _ (last_stays (drop base fs) f some_here last_here v same))
 
     -- it is at its end, and closes
@@ -183,7 +183,7 @@ module _ (held : Option (Step Read)) (base : ℕ) (fs : List Frame) (m : MacroPr
         )
 
 -- one more frame opens
-pub pushed_here : (held : Option (Step Read)) (base : ℕ) (fs gs : List Frame) (m : MacroProcessor) (f : Frame) → processor_of held base fs ≡ m → base ≤ length fs
+pub pushed_here : (held : Option (PlacedStep Read)) (base : ℕ) (fs gs : List Frame) (m : MacroProcessor) (f : Frame) → processor_of held base fs ≡ m → base ≤ length fs
     → gs ≡ fs ++ f ∷ [] → processor_of held base gs ≡ with_frames m (f ∷ m.here.frames)
 pushed_here held base fs gs m f view within is =
     rw (is, ← view) (alike held _ _ _ _
@@ -194,28 +194,28 @@ pub pushed_within : (base : ℕ) (fs gs : List Frame) (f : Frame) → base ≤ l
 pushed_within base fs gs f within is = rw is (omega (arith, within, length-append fs (f ∷ [])))
 
 -- an argument begins: all frames are around it
-pub nested : (held : Option (Step Read)) (base n : ℕ) (fs : List Frame) (m : MacroProcessor) → n ≡ length fs → processor_of held base fs ≡ m
+pub nested : (held : Option (PlacedStep Read)) (base n : ℕ) (fs : List Frame) (m : MacroProcessor) → n ≡ length fs → processor_of held base fs ≡ m
     → m.here.held ≡ None → processor_of held n fs ≡ record { here = record { held = None; frames = [] }; below = m.here.frames ++ m.below }
 nested held base n fs m number view free =
     let none : held ≡ None = ap (λ (k : MacroProcessor). k.here.held) view ∙ free in
     rw (none, ← view) (alike None _ _ _ _ (ap reverse (drop_of_length-le fs (omega (arith, number)))) (ap reverse (take_all n fs (omega (arith, number))) ∙ all_frames base fs))
 
-pub around_number : (held : Option (Step Read)) (base : ℕ) (fs : List Frame) (m : MacroProcessor) → processor_of held base fs ≡ m → base ≤ length fs
+pub around_number : (held : Option (PlacedStep Read)) (base : ℕ) (fs : List Frame) (m : MacroProcessor) → processor_of held base fs ≡ m → base ≤ length fs
     → base ≡ length m.below
 around_number held base fs m view within = rw (← view) (sym (length-reverse (take base fs) ∙ length-take-le base fs within))
 
 -- it has ended: these frames are around it
-around_all : (held : Option (Step Read)) (base : ℕ) (fs : List Frame) (m : MacroProcessor) → processor_of held base fs ≡ m → m.here.frames ≡ [] → reverse fs ≡ m.below
+around_all : (held : Option (PlacedStep Read)) (base : ℕ) (fs : List Frame) (m : MacroProcessor) → processor_of held base fs ≡ m → m.here.frames ≡ [] → reverse fs ≡ m.below
 around_all held base fs m view none =
     all_frames base fs ∙ ap (λ (gs : List Frame). gs ++ reverse (take base fs)) (ap (λ (k : MacroProcessor). k.here.frames) view ∙ none)
     ∙ ap (λ (k : MacroProcessor). k.below) view
 
-pub around_within : (held : Option (Step Read)) (base n : ℕ) (fs : List Frame) (m : MacroProcessor) → processor_of held base fs ≡ m → m.here.frames ≡ []
+pub around_within : (held : Option (PlacedStep Read)) (base n : ℕ) (fs : List Frame) (m : MacroProcessor) → processor_of held base fs ≡ m → m.here.frames ≡ []
     → n ≤ length m.below → n ≤ length fs
 around_within held base n fs m view none within =
     omega (arith, within, ap (λ (gs : List Frame). length gs) (around_all held base fs m view none), length-reverse fs)
 
-pub ended : (held : Option (Step Read)) (base n : ℕ) (fs frames outer : List Frame) (m : MacroProcessor) → processor_of held base fs ≡ m → m.here.frames ≡ []
+pub ended : (held : Option (PlacedStep Read)) (base n : ℕ) (fs frames outer : List Frame) (m : MacroProcessor) → processor_of held base fs ≡ m → m.here.frames ≡ []
     → m.below ≡ frames ++ outer → n ≡ length outer
     → processor_of None n fs ≡ record { here = record { held = None; frames = frames }; below = outer }
 ended held base n fs frames outer m view none parted number =
@@ -238,4 +238,4 @@ pub unnested : (m n p q : MacroProcessor) (around : ℕ) → m.here.held ≡ Non
     → q ≡ record { here = record { held = None; frames = frames }; below = outer }) → q ≡ m
 unnested m n p q around free is same number ends =
     ends m.here.frames m.below (same ∙ ap (λ (k : MacroProcessor). k.below) is) number
-    ∙ ap (λ (o : Option (Step Read)). record m { here = record m.here { held = o } }) (sym free)
+    ∙ ap (λ (o : Option (PlacedStep Read)). record m { here = record m.here { held = o } }) (sym free)

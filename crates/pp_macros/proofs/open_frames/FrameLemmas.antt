@@ -6,7 +6,7 @@ use Rattle.std.proofs.lemmas.List.{drop_more, drop_all, drop-drop}
 use Rattle.pp_lexer.specs.declared.token.Token.{Token}
 use Rattle.pp_model.specs.declared.read.Read.{Read}
 use Rattle.pp_model.specs.Definitions.{Definition}
-use Rattle.pp_model.specs.Painting.{unpainted}
+use Rattle.pp_model.specs.Painting.{read_in}
 use Rattle.pp_model.specs.SpliceList.{parameter_of}
 use Rattle.pp_macros.specs.inner.Ahead.{given_by, frame_after}
 use Rattle.pp_macros.specs.inner.Bodies.{IsEntryAt}
@@ -32,7 +32,7 @@ none_read (Some x) e = cc
 
 -- what a frame does at an entry of its body
 abbrev pub entry_step : Frame → BodyEntry → List Token → Advance
-entry_step f (entry.Token token number) rest = record { gives = Some (unpainted token); after = record f { body = rest } }
+entry_step f (entry.Token token number) rest = record { gives = Some (read_in f.text token); after = record f { body = rest } }
 entry_step f (entry.Parameter k location is_last) rest = record {
   gives = None;
   after = record f {

@@ -6,14 +6,15 @@ use Rattle.std.proofs.lemmas.Bool.{eq-eqb}
 use Rattle.std.proofs.lemmas.Bool.Decides.{Decides-eqb}
 use Rattle.std.proofs.lemmas.List.Folds.{list_any-append}
 use Rattle.std.proofs.lemmas.Option.{same_Some}
-use Rattle.pp_lexer.specs.declared.token.Location.{Location}
 use Rattle.pp_lexer.specs.declared.token.TokenValue.{TokenValue}
 use Rattle.pp_lexer.specs.declared.token.TokenValue.TheVariants.{Ident}
-use Rattle.pp_model.specs.Calls.{Fault, Gathered}
+use Rattle.pp_model.specs.declared.place.Place.{Place}
+use Rattle.pp_model.specs.Places.{PlacedFault, place_of}
+use Rattle.pp_model.specs.Calls.{Gathered}
 use Rattle.pp_model.specs.declared.read.Read.{Read}
 use Rattle.pp_model.specs.Names.{Name, is_in, is_same_name}
 use Rattle.pp_model.specs.Painting.{is_one_of}
-use Rattle.pp_macros.specs.Item.{Step, wants_memory}
+use Rattle.pp_macros.specs.Item.{PlacedStep, wants_memory}
 use Rattle.pp_macros.specs.inner.Defined.{Defined, Macro, Numbered, AreNumbered, GrowAtEnd, names_in, number_in}
 use Rattle.pp_macros.specs.inner.Expander.{Expander, StepsFetching, StepsTaking, held, moved, TakesNext, now, later, GathersNext, closed, inside, overfull, ended, failed, IsTakenOnto, TakesFlat, none_taken, taken_more, is_pause}
 use Rattle.pp_macros.specs.inner.Frames.{Frame, Advance, advance, names_of}
@@ -25,7 +26,7 @@ use Rattle.pp_macros.specs.inner.Left.{HaveNumbers, IsSound, numbers_in}
 use Rattle.pp_macros.specs.inner.Nesting.{AreKnown, MacroProcessor, open_names, seen_by}
 use Rattle.pp_macros.specs.inner.Reader.{Reader, definitions_of}
 use Rattle.pp_macros.specs.inner.Turns.{frame_move, Moves, masks}
-use Rattle.pp_macros.specs.declared.step.StepExit.TheVariants.{Continue, Finished, Error}
+use Rattle.pp_macros.specs.declared.step.PlacedExit.TheVariants.{Continue, Finished, Error}
 use Rattle.pp_macros.proofs.defined_names.FoundNamesLemmas.{IsFoundAt, found_at}
 use Rattle.pp_macros.proofs.defined_names.GrowLemmas.{reads_grow}
 use Rattle.pp_macros.proofs.defined_names.NameKeysLemmas.{names_same}
@@ -108,7 +109,7 @@ frame_right names f fs (Some a) h right =
     let same : numbers_in a.after ≡ numbers_in f = rw (h.name, h.number, h.noted) refl in
     (subst (λ (noted : List Numbered). AreNumbered names noted) (sym same) right.0, right.1)
 
-moves_right : (move : Step Read) (fs gs below : List Frame) (r s : Reader) → Moves fs r move gs s → wants_memory move ≡ false → AreRight r fs below
+moves_right : (move : PlacedStep Read) (fs gs below : List Frame) (r s : Reader) → Moves fs r move gs s → wants_memory move ≡ false → AreRight r fs below
     → AreRight s gs below
 moves_right move [] gs below r s h reported right =
     rw h.0 (tt, numbers_more (names_in (definitions_of r)) (names_in (definitions_of s)) below (reads_grow move r s h.1 reported) right.1)
@@ -116,35 +117,35 @@ moves_right move (f ∷ fs) gs below r s (same, inl h) reported right =
     rw (same, h.1) (frame_right (names_in (definitions_of r)) f fs (advance f) (advance_lowers f) right.0, right.1)
 moves_right move (f ∷ fs) gs below r s (same, inr h) reported right = absurd (let bad : true ≡ false = rw h at reported in cc)
 
-fetch_right : (step : Step Read) (m n : Expander) (r s : Reader) (below : List Frame) → StepsFetching m r step n s → wants_memory step ≡ false
+fetch_right : (step : PlacedStep Read) (m n : Expander) (r s : Reader) (below : List Frame) → StepsFetching m r step n s → wants_memory step ≡ false
     → AreRight r m.frames below → AreRight s n.frames below
 fetch_right step m n r s below (held step1 m1 n1 r1 s1 is at same) reported right = rw (at, same) right
 fetch_right step m n r s below (moved move step1 m1 n1 r1 s1 free moves is none) reported right =
     moves_right move m.frames n.frames below r s moves (taken_reported move n.frames s (rw is at reported)) right
 
-step_right : (step : Step Read) (m n : Expander) (r s : Reader) (below : List Frame) → StepsTaking m r step n s → wants_memory step ≡ false
+step_right : (step : PlacedStep Read) (m n : Expander) (r s : Reader) (below : List Frame) → StepsTaking m r step n s → wants_memory step ≡ false
     → AreRight r m.frames below → AreRight s n.frames below
 step_right step m n r s below steps reported right =
     fetch_right steps.first m n r s below steps.fetches (painted_reported (masks n.frames s) steps.first (rw steps.paints at reported)) right
 
-pub next_right : (step : Step Read) (m n : Expander) (r s : Reader) (below : List Frame) → TakesNext m r step n s → wants_memory step ≡ false
+pub next_right : (step : PlacedStep Read) (m n : Expander) (r s : Reader) (below : List Frame) → TakesNext m r step n s → wants_memory step ≡ false
     → AreRight r m.frames below → AreRight s n.frames below
 next_right step m n r s below (now step1 m1 n1 r1 s1 steps goes) reported right = step_right step m n r s below steps reported right
 next_right step m n r s below (later step1 m1 between n1 r1 s1 t1 steps next) reported right =
     next_right step between n s1 s below next reported (step_right (Err Continue) m between r s1 below steps refl right)
 
-gather_right : (k : ℕ) (last : Location) (m n : Expander) (r s : Reader) (g : Result Gathered Fault) (below : List Frame) → GathersNext k last m r g n s
+gather_right : (k : ℕ) (last : Place) (m n : Expander) (r s : Reader) (g : Result Gathered PlacedFault) (below : List Frame) → GathersNext k last m r g n s
     → AreRight r m.frames below → AreRight s n.frames below
 gather_right k last m n r s g below (closed k1 last1 read m1 n1 r1 s1 g1 next out is) right = next_right (Ok read) m n r s below next refl right
 gather_right k last m n r s g below (inside k1 l last1 read m1 between n1 r1 s1 t1 rest g1 next in_call more is) right =
-    gather_right l read.token.location between n s1 s rest below more (next_right (Ok read) m between r s1 below next refl right)
+    gather_right l (place_of read) between n s1 s rest below more (next_right (Ok read) m between r s1 below next refl right)
 gather_right k last m n r s g below (overfull k1 last1 read m1 n1 r1 s1 g1 next out is) right = next_right (Ok read) m n r s below next refl right
 gather_right k last m n r s g below (ended k1 last1 m1 n1 r1 s1 g1 next is) right = next_right (Err Finished) m n r s below next refl right
 gather_right k last m n r s g below (failed k1 last1 fault m1 n1 r1 s1 g1 next reported is) right =
     next_right (Err (Error fault)) m n r s below next reported right
 
 -- a call that is gathered
-sought_right : (read : Read) (opened : Macro) (c : Sought) (call : MacroCall) (step : Step Taken) (n p q : Expander) (r s : Reader) (below : List Frame)
+sought_right : (read : Read) (opened : Macro) (c : Sought) (call : MacroCall) (step : PlacedStep Taken) (n p q : Expander) (r s : Reader) (below : List Frame)
     → step ≡ Ok (taken.Call call) → Seeks n r c p s → Finds read opened c step p q → AreRight r n.frames below → AreRight s q.frames below
 sought_right read opened (no_call next) call step n p q r s below is sought found right = absurd (let other = found.0 in cc)
 sought_right read opened (refused fault) call step n p q r s below is sought found right = absurd (let other = found.0 in cc)
@@ -152,11 +153,11 @@ sought_right read opened (gathered paren g) call step n p q r s below is (alone 
 sought_right read opened (gathered paren g) call step n p q r t below is (called next paren1 m1 between p1 r1 s t1 g1 c1 takes opens gathers other) found right =
     rw found.1 (gather_right 0 paren1 between p s t g1 below gathers (next_right next n between r s below takes (reported next opens) right))
   where
-    reported : (step : Step Read) → paren_of step ≡ Some paren1 → wants_memory step ≡ false
+    reported : (step : PlacedStep Read) → paren_of step ≡ Some paren1 → wants_memory step ≡ false
     reported (Ok read) opens = refl
     reported (Err exit) opens = cc
 
-call_right : (call : MacroCall) (step : Step Taken) (m n : Expander) (r s : Reader) (below : List Frame) → step ≡ Ok (taken.Call call) → TurnsTo m r step n s
+call_right : (call : MacroCall) (step : PlacedStep Taken) (m n : Expander) (r s : Reader) (below : List Frame) → step ≡ Ok (taken.Call call) → TurnsTo m r step n s
     → AreRight r m.frames below → AreRight s n.frames below
 call_right call step m n r s below is (passes exit step1 m1 n1 r1 s1 steps other) right = cc
 call_right call step m n r s below is (gives read step1 m1 n1 r1 s1 steps none other) right = cc
@@ -176,38 +177,38 @@ right_known m n s same right =
     let all = subst (λ (ds : List Defined). HaveNumbers (names_in ds) n.here.frames × HaveNumbers (names_in ds) m.below) (definitions_seen n.below s) right in
     record { here = all.0; around = rw same all.1 }
 
-pub step_known : (step : Step Read) (m n : MacroProcessor) (r s : Reader) → StepsTaking m.here (seen_by m.below r) step n.here (seen_by n.below s)
+pub step_known : (step : PlacedStep Read) (m n : MacroProcessor) (r s : Reader) → StepsTaking m.here (seen_by m.below r) step n.here (seen_by n.below s)
     → wants_memory step ≡ false → n.below ≡ m.below → AreKnown (names_in (definitions_of r)) m → AreKnown (names_in (definitions_of s)) n
 step_known step m n r s steps reported same known =
     right_known m n s same (step_right step m.here n.here (seen_by m.below r) (seen_by n.below s) m.below steps reported (known_right m r known))
 
-pub fetch_known : (step : Step Read) (m n : MacroProcessor) (r s : Reader) → StepsFetching m.here (seen_by m.below r) step n.here (seen_by n.below s)
+pub fetch_known : (step : PlacedStep Read) (m n : MacroProcessor) (r s : Reader) → StepsFetching m.here (seen_by m.below r) step n.here (seen_by n.below s)
     → wants_memory step ≡ false → n.below ≡ m.below → AreKnown (names_in (definitions_of r)) m → AreKnown (names_in (definitions_of s)) n
 fetch_known step m n r s steps reported same known =
     right_known m n s same (fetch_right step m.here n.here (seen_by m.below r) (seen_by n.below s) m.below steps reported (known_right m r known))
 
-pub next_known : (step : Step Read) (m n : MacroProcessor) (r s : Reader) → TakesNext m.here (seen_by m.below r) step n.here (seen_by n.below s)
+pub next_known : (step : PlacedStep Read) (m n : MacroProcessor) (r s : Reader) → TakesNext m.here (seen_by m.below r) step n.here (seen_by n.below s)
     → wants_memory step ≡ false → n.below ≡ m.below → AreKnown (names_in (definitions_of r)) m → AreKnown (names_in (definitions_of s)) n
 next_known step m n r s next reported same known =
     right_known m n s same (next_right step m.here n.here (seen_by m.below r) (seen_by n.below s) m.below next reported (known_right m r known))
 
 -- a pause, and what may be followed by a call
-pub pause_known : (step : Step Read) (m n : MacroProcessor) (r s : Reader) → StepsTaking m.here (seen_by m.below r) step n.here (seen_by n.below s)
+pub pause_known : (step : PlacedStep Read) (m n : MacroProcessor) (r s : Reader) → StepsTaking m.here (seen_by m.below r) step n.here (seen_by n.below s)
     → is_pause step ≡ true → n.below ≡ m.below → AreKnown (names_in (definitions_of r)) m → AreKnown (names_in (definitions_of s)) n
 pause_known step m n r s steps paused same known = step_known step m n r s steps (reported step paused) same known
   where
-    reported : (step : Step Read) → is_pause step ≡ true → wants_memory step ≡ false
+    reported : (step : PlacedStep Read) → is_pause step ≡ true → wants_memory step ≡ false
     reported (Ok read) paused = refl
     reported (Err Continue) paused = refl
     reported (Err Finished) paused = refl
     reported (Err (Error fault)) paused = cc
 
-pub paren_known : (step : Step Read) (paren : Location) (m n : MacroProcessor) (r s : Reader)
+pub paren_known : (step : PlacedStep Read) (paren : Place) (m n : MacroProcessor) (r s : Reader)
     → TakesNext m.here (seen_by m.below r) step n.here (seen_by n.below s) → paren_of step ≡ Some paren → n.below ≡ m.below
     → AreKnown (names_in (definitions_of r)) m → AreKnown (names_in (definitions_of s)) n
 paren_known step paren m n r s next opens same known = next_known step m n r s next (reported step opens) same known
   where
-    reported : (step : Step Read) → paren_of step ≡ Some paren → wants_memory step ≡ false
+    reported : (step : PlacedStep Read) → paren_of step ≡ Some paren → wants_memory step ≡ false
     reported (Ok read) opens = refl
     reported (Err exit) opens = cc
 

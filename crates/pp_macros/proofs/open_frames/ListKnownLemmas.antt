@@ -1,14 +1,15 @@
 -- Turns over a list keep its definitions, so the numbers of open macros stay right.
 use Rattle.std.proofs.Common.{◌≡◌, ◌∙◌, inl, inr, ℕ, true, false, List, [], ◌∷◌, ◌++◌, refl, sym, ap, subst, Some, None, Ok, Err}
 use Rattle.std.specs.Prelude.{Result}
-use Rattle.pp_lexer.specs.declared.token.Location.{Location}
-use Rattle.pp_model.specs.Calls.{Fault, Gathered}
+use Rattle.pp_model.specs.declared.place.Place.{Place}
+use Rattle.pp_model.specs.Places.{PlacedFault, place_of}
+use Rattle.pp_model.specs.Calls.{Gathered}
 use Rattle.pp_model.specs.Names.{Name}
 use Rattle.pp_model.specs.declared.read.Read.{Read}
-use Rattle.pp_macros.specs.Item.{Step, wants_memory}
+use Rattle.pp_macros.specs.Item.{PlacedStep, wants_memory}
 use Rattle.pp_macros.specs.declared.calls.Taken.{Taken}
 use Rattle.pp_macros.specs.declared.calls.Taken.TheVariants as taken
-use Rattle.pp_macros.specs.declared.step.StepExit.TheVariants.{Continue, Error, Finished}
+use Rattle.pp_macros.specs.declared.step.PlacedExit.TheVariants.{Continue, Error, Finished}
 use Rattle.pp_macros.specs.inner.Calling.{MacroCall}
 use Rattle.pp_macros.specs.inner.CallTurns.{TurnsTo, passes, gives, object, seeks, Seeks, Sought, alone, called, is_out_of_memory_step, paren_of}
 use Rattle.pp_macros.specs.inner.Defined.{Defined, names_in}
@@ -27,50 +28,50 @@ IsListOf definitions (of_source source) = ⊥
 IsListOf definitions (of_list list) = list.definitions ≡ definitions
 
 module _ (definitions : List Defined) where
-  reads_list : (step : Step Read) (r s : Reader) → Reads r step s → wants_memory step ≡ false → IsListOf definitions r → IsListOf definitions s
+  reads_list : (step : PlacedStep Read) (r s : Reader) → Reads r step s → wants_memory step ≡ false → IsListOf definitions r → IsListOf definitions s
   reads_list step (of_list old) (of_list new) (inl h) reported same = ap (λ (l : Listing). l.definitions) h.1 ∙ same
   reads_list step (of_list old) (of_list new) (inr h) reported same = absurd (let bad : true ≡ false = rw h at reported in cc)
   reads_list step (of_list old) (of_source new) h reported same = absurd h
   reads_list step (of_source old) s h reported same = absurd same
 
-  moves_list : (move : Step Read) (fs gs : List Frame) (r s : Reader) → Moves fs r move gs s → wants_memory move ≡ false → IsListOf definitions r
+  moves_list : (move : PlacedStep Read) (fs gs : List Frame) (r s : Reader) → Moves fs r move gs s → wants_memory move ≡ false → IsListOf definitions r
       → IsListOf definitions s
   moves_list move [] gs r s h reported same = reads_list move r s h.1 reported same
   moves_list move (f ∷ fs) gs r s h reported same = subst (IsListOf definitions) (sym h.0) same
 
-  fetch_list : (step : Step Read) (m n : Expander) (r s : Reader) → StepsFetching m r step n s → wants_memory step ≡ false → IsListOf definitions r
+  fetch_list : (step : PlacedStep Read) (m n : Expander) (r s : Reader) → StepsFetching m r step n s → wants_memory step ≡ false → IsListOf definitions r
       → IsListOf definitions s
   fetch_list step m n r s (held step1 m1 n1 r1 s1 is at stays) reported same = subst (IsListOf definitions) (sym stays) same
   fetch_list step m n r s (moved move step1 m1 n1 r1 s1 free moves is none) reported same =
       moves_list move m.frames n.frames r s moves (taken_reported move n.frames s (rw is at reported)) same
 
-  step_list : (step : Step Read) (m n : Expander) (r s : Reader) → StepsTaking m r step n s → wants_memory step ≡ false → IsListOf definitions r
+  step_list : (step : PlacedStep Read) (m n : Expander) (r s : Reader) → StepsTaking m r step n s → wants_memory step ≡ false → IsListOf definitions r
       → IsListOf definitions s
   step_list step m n r s steps reported same =
       fetch_list steps.first m n r s steps.fetches (painted_reported (masks n.frames s) steps.first (rw steps.paints at reported)) same
 
-  next_list : (step : Step Read) (m n : Expander) (r s : Reader) → TakesNext m r step n s → wants_memory step ≡ false → IsListOf definitions r
+  next_list : (step : PlacedStep Read) (m n : Expander) (r s : Reader) → TakesNext m r step n s → wants_memory step ≡ false → IsListOf definitions r
       → IsListOf definitions s
   next_list step m n r s (now step1 m1 n1 r1 s1 steps goes) reported same = step_list step m n r s steps reported same
   next_list step m n r s (later step1 m1 between n1 r1 s1 t1 steps next) reported same =
       next_list step between n s1 s next reported (step_list (Err Continue) m between r s1 steps refl same)
 
-  gather_list : (k : ℕ) (last : Location) (m n : Expander) (r s : Reader) (g : Result Gathered Fault) → GathersNext k last m r g n s → IsListOf definitions r
+  gather_list : (k : ℕ) (last : Place) (m n : Expander) (r s : Reader) (g : Result Gathered PlacedFault) → GathersNext k last m r g n s → IsListOf definitions r
       → IsListOf definitions s
   gather_list k last m n r s g (closed k1 last1 read m1 n1 r1 s1 g1 next out is) same = next_list (Ok read) m n r s next refl same
   gather_list k last m n r s g (inside k1 l last1 read m1 between n1 r1 s1 t1 rest g1 next in_call more is) same =
-      gather_list l read.token.location between n s1 s rest more (next_list (Ok read) m between r s1 next refl same)
+      gather_list l (place_of read) between n s1 s rest more (next_list (Ok read) m between r s1 next refl same)
   gather_list k last m n r s g (overfull k1 last1 read m1 n1 r1 s1 g1 next out is) same = next_list (Ok read) m n r s next refl same
   gather_list k last m n r s g (ended k1 last1 m1 n1 r1 s1 g1 next is) same = next_list (Err Finished) m n r s next refl same
   gather_list k last m n r s g (failed k1 last1 fault m1 n1 r1 s1 g1 next reported is) same = next_list (Err (Error fault)) m n r s next reported same
 
-  next_wants : (step : Step Read) → is_out_of_memory_step step ≡ false → wants_memory step ≡ false
+  next_wants : (step : PlacedStep Read) → is_out_of_memory_step step ≡ false → wants_memory step ≡ false
   next_wants (Ok read) reported = refl
   next_wants (Err Continue) reported = refl
   next_wants (Err Finished) reported = refl
   next_wants (Err (Error fault)) reported = reported
 
-  paren_wants : (step : Step Read) (paren : Location) → paren_of step ≡ Some paren → wants_memory step ≡ false
+  paren_wants : (step : PlacedStep Read) (paren : Place) → paren_of step ≡ Some paren → wants_memory step ≡ false
   paren_wants (Ok read) paren opens = refl
   paren_wants (Err exit) paren opens = cc
 
@@ -79,7 +80,7 @@ module _ (definitions : List Defined) where
   seek_list c m p r t (called next paren m1 n p1 r1 s t1 g c1 takes opens gathers is) same =
       gather_list 0 paren n p s t g gathers (next_list next m n r s takes (paren_wants next paren opens) same)
 
-  turn_list : (step : Step Taken) (m n : Expander) (r s : Reader) → TurnsTo m r step n s → wants_taken step ≡ false → IsListOf definitions r
+  turn_list : (step : PlacedStep Taken) (m n : Expander) (r s : Reader) → TurnsTo m r step n s → wants_taken step ≡ false → IsListOf definitions r
       → IsListOf definitions s
   turn_list step m n r s (passes exit step1 m1 n1 r1 s1 steps is) reported same =
       step_list (Err exit) m n r s steps (exit_reported exit (rw is at reported)) same
@@ -89,7 +90,7 @@ module _ (definitions : List Defined) where
       seek_list c n p s t sought (step_list (Ok read) m n r s steps refl same)
 
   -- a turn over a list
-  pub list_kept : (step : Step Taken) (m n : Expander) (below around : List Frame) (l k : Listing)
+  pub list_kept : (step : PlacedStep Taken) (m n : Expander) (below around : List Frame) (l k : Listing)
       → TurnsTo m (of_list (listed_in below l)) step n (of_list (listed_in around k)) → wants_taken step ≡ false → l.definitions ≡ definitions
       → k.definitions ≡ definitions
   list_kept step m n below around l k turns reported same =

@@ -1,14 +1,13 @@
 -- Open macros, which the expander keeps with the innermost last.
-use Rattle.std.proofs.Common.{◌≡◌, ◌∙◌, ◌+◌, ◌-◌, ◌<◌, true, false, List, [], ◌∷◌, ◌++◌, length, get_or, take, drop, reverse, set, refl, ap, sym, subst, arith, Option, Some, None, slice_get, get_or-set_same}
+use Rattle.std.proofs.Common.{◌≡◌, ◌∙◌, ◌+◌, ◌-◌, ◌<◌, true, false, List, [], ◌∷◌, ◌++◌, length, get_or, take, drop, reverse, set, refl, ap, sym, subst, arith, Option, Some, None, slice_get, get_or-set_same, Bool}
 use Rattle.std.specs.Prelude.{is_none, is_some, IfSome, IsSome}
 use Rattle.std.proofs.Math.Seq.{take-length}
 use Rattle.std.proofs.lemmas.List.{reverse-append, take_more, length-set, take-set, set-get_or}
-use Rattle.pp_lexer.specs.declared.token.Token.{Token}
 use Rattle.pp_model.specs.Names.{Name}
 use Rattle.pp_model.specs.declared.read.Read.{Read}
 use Rattle.pp_macros.specs.inner.Frames.{Frame, Advance, advance, names_of, outermost_frame_call}
 use Rattle.pp_macros.specs.declared.frames.Ahead.{Ahead}
-use Rattle.pp_macros.specs.inner.Ahead.{token_given, given_by, given_next, frame_after, frames_after}
+use Rattle.pp_macros.specs.inner.Ahead.{painted_as, given_by, given_next, frame_after, frames_after}
 use Rattle.pp_macros.specs.inner.Bodies.{noted_by}
 use Rattle.pp_macros.specs.inner.Defined.{AreNumbered}
 use Rattle.pp_macros.specs.inner.Left.{HaveNumbers}
@@ -61,19 +60,14 @@ goes_on (Some a) some = refl
 goes_on None some = gives_something None refl some
 
 -- nor is what gives this token
-pub has_token : (advanced : Option Advance) (token : Token) → token_given (given_by advanced) ≡ Some token → is_none advanced ≡ false
-has_token (Some a) token gives = refl
-has_token None token gives = cc
+pub has_token : (painted : Bool) (advanced : Option Advance) (read : Read) → painted_as painted (given_by advanced) ≡ Some read → is_none advanced ≡ false
+has_token painted (Some a) read gives = refl
+has_token painted None read gives = cc
 
 -- where a token is given, a macro is open
 pub given_open : (fs : List Frame) → IsSome (given_next fs) → is_some (outermost_frame_call fs) ≡ true
 given_open [] some = gives_something None refl some
 given_open (f ∷ fs) some = refl
-
--- what gives a token gives what is read
-pub some_given : (given : Option Read) → IsSome (token_given given) → IsSome given
-some_given (Some read) some = some
-some_given None some = some
 
 -- what has a step isn't at its end
 pub has_step : (advanced : Option Advance) → is_some advanced ≡ true → is_none advanced ≡ false

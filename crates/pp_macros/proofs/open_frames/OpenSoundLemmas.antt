@@ -2,20 +2,21 @@
 use Rattle.std.proofs.Common.{◌≡◌, inl, inr, ℕ, suc, ◌+◌, ◌≤◌, Bool, true, false, List, [], ◌∷◌, length, arith, refl, sym, subst, Option, Some, None, All, IfSome, Ok, Err}
 use Rattle.std.specs.Prelude.{IsSome, ◌||◌, Result}
 use Rattle.std.proofs.lemmas.List.Elements.{All-cons, All-nil}
+use Rattle.pp_model.specs.declared.place.Place.{Place}
+use Rattle.pp_model.specs.Places.{PlacedFault, place_of}
 use Rattle.pp_model.specs.declared.read.Read.{Read}
-use Rattle.pp_lexer.specs.declared.token.Location.{Location}
-use Rattle.pp_model.specs.Calls.{Fault, Gathered}
+use Rattle.pp_model.specs.Calls.{Gathered}
 use Rattle.pp_model.specs.Names.{Name, is_in, is_same_name}
 use Rattle.pp_model.specs.ApartMarks.{AreApart}
 use Rattle.pp_lexer.specs.Location.{nowhere}
 use Rattle.pp_macros.specs.inner.Defined.{Defined, Macro, Numbered, AreNumbered, GrowAtEnd, meaning_of, names_in}
 use Rattle.pp_macros.specs.inner.Frames.{Frame, Advance, advance, names_of, new_frame}
-use Rattle.pp_macros.specs.Item.{Step, wants_memory}
+use Rattle.pp_macros.specs.Item.{PlacedStep, wants_memory}
 use Rattle.pp_macros.specs.inner.Left.{AreDefinedAbove, AreOpenSoundly, AreSound, HaveNumbers, numbers_in}
 use Rattle.pp_macros.specs.inner.Expander.{Expander, StepsFetching, StepsTaking, held, moved, TakesNext, now, later, GathersNext, closed, inside, overfull, ended, failed}
 use Rattle.pp_macros.specs.inner.Reader.{Reader, definitions_of}
 use Rattle.pp_macros.specs.inner.Turns.{frame_move, Moves, masks}
-use Rattle.pp_macros.specs.declared.step.StepExit.TheVariants.{Error, Continue, Finished}
+use Rattle.pp_macros.specs.declared.step.PlacedExit.TheVariants.{Error, Continue, Finished}
 use Rattle.pp_macros.proofs.open_frames.AdvanceLemmas.{Advances, advance_lowers}
 use Rattle.pp_macros.proofs.defined_names.GrowLemmas.{reads_grow}
 use Rattle.pp_macros.proofs.defined_names.NumberLemmas.{numbered_more}
@@ -92,7 +93,7 @@ numbers_more old new (f ∷ fs) grow right = (numbered_more old new (numbers_in 
 -- a macro that is about to open, with those that are open
 abbrev pub with_pending : Option Macro → List Frame → List Frame
 with_pending None frames = frames
-with_pending (Some opened) frames = new_frame opened (record { name = nowhere; line = 0 }) [] ∷ frames
+with_pending (Some opened) frames = new_frame opened (record { name = nowhere; text = 0; line = 0 }) [] ∷ frames
 
 lone_sound : (definitions : List Defined) (pending : Option Macro) → AreOpenSoundly definitions (names_of (with_pending pending []))
 lone_sound definitions None = record { apart = tt; defined = tt }
@@ -133,7 +134,7 @@ frame_sound pending definitions f fs (Some a) h sound =
     let same : numbers_in a.after ≡ numbers_in f = rw (h.name, h.number, h.noted) refl in
     stay_sound definitions pending f a.after fs h.name same sound
 
-moves_sound : (pending : Option Macro) (move : Step Read) (fs gs : List Frame) (r s : Reader) → Moves fs r move gs s → wants_memory move ≡ false
+moves_sound : (pending : Option Macro) (move : PlacedStep Read) (fs gs : List Frame) (r s : Reader) → Moves fs r move gs s → wants_memory move ≡ false
     → AreSound (definitions_of r) (with_pending pending fs) → AreSound (definitions_of s) (with_pending pending gs)
 moves_sound pending move [] gs r s h reported sound =
     rw h.0 (record {
@@ -145,28 +146,28 @@ moves_sound pending move (f ∷ fs) gs r s (same, inl h) reported sound =
     rw (same, h.1) (frame_sound pending (definitions_of r) f fs (advance f) (advance_lowers f) sound)
 moves_sound pending move (f ∷ fs) gs r s (same, inr h) reported sound = absurd (let bad : true ≡ false = rw h at reported in cc)
 
-fetch_sound : (pending : Option Macro) (step : Step Read) (m n : Expander) (r s : Reader) → StepsFetching m r step n s → wants_memory step ≡ false
+fetch_sound : (pending : Option Macro) (step : PlacedStep Read) (m n : Expander) (r s : Reader) → StepsFetching m r step n s → wants_memory step ≡ false
     → IsSoundWith pending m r → IsSoundWith pending n s
 fetch_sound pending step m n r s (held step1 m1 n1 r1 s1 is at same) reported sound = rw (at, same) sound
 fetch_sound pending step m n r s (moved move step1 m1 n1 r1 s1 free moves is none) reported sound =
     moves_sound pending move m.frames n.frames r s moves (taken_reported move n.frames s (rw is at reported)) sound
 
-pub step_sound : (pending : Option Macro) (step : Step Read) (m n : Expander) (r s : Reader) → StepsTaking m r step n s → wants_memory step ≡ false
+pub step_sound : (pending : Option Macro) (step : PlacedStep Read) (m n : Expander) (r s : Reader) → StepsTaking m r step n s → wants_memory step ≡ false
     → IsSoundWith pending m r → IsSoundWith pending n s
 step_sound pending step m n r s steps reported sound =
     fetch_sound pending steps.first m n r s steps.fetches (painted_reported (masks n.frames s) steps.first (rw steps.paints at reported)) sound
 
-pub next_sound : (pending : Option Macro) (step : Step Read) (m n : Expander) (r s : Reader) → TakesNext m r step n s → wants_memory step ≡ false
+pub next_sound : (pending : Option Macro) (step : PlacedStep Read) (m n : Expander) (r s : Reader) → TakesNext m r step n s → wants_memory step ≡ false
     → IsSoundWith pending m r → IsSoundWith pending n s
 next_sound pending step m n r s (now step1 m1 n1 r1 s1 steps goes) reported sound = step_sound pending step m n r s steps reported sound
 next_sound pending step m n r s (later step1 m1 between n1 r1 s1 t1 steps next) reported sound =
     next_sound pending step between n s1 s next reported (step_sound pending (Err Continue) m between r s1 steps refl sound)
 
-pub gather_sound : (pending : Option Macro) (k : ℕ) (last : Location) (m n : Expander) (r s : Reader) (g : Result Gathered Fault)
+pub gather_sound : (pending : Option Macro) (k : ℕ) (last : Place) (m n : Expander) (r s : Reader) (g : Result Gathered PlacedFault)
     → GathersNext k last m r g n s → IsSoundWith pending m r → IsSoundWith pending n s
 gather_sound pending k last m n r s g (closed k1 last1 read m1 n1 r1 s1 g1 next out is) sound = next_sound pending (Ok read) m n r s next refl sound
 gather_sound pending k last m n r s g (inside k1 l last1 read m1 between n1 r1 s1 t1 rest g1 next in_call more is) sound =
-    gather_sound pending l read.token.location between n s1 s rest more (next_sound pending (Ok read) m between r s1 next refl sound)
+    gather_sound pending l (place_of read) between n s1 s rest more (next_sound pending (Ok read) m between r s1 next refl sound)
 gather_sound pending k last m n r s g (overfull k1 last1 read m1 n1 r1 s1 g1 next out is) sound = next_sound pending (Ok read) m n r s next refl sound
 gather_sound pending k last m n r s g (ended k1 last1 m1 n1 r1 s1 g1 next is) sound = next_sound pending (Err Finished) m n r s next refl sound
 gather_sound pending k last m n r s g (failed k1 last1 fault m1 n1 r1 s1 g1 next reported is) sound =

@@ -9,7 +9,7 @@ use Rattle.pp_model.specs.Names.{Name, is_in, is_same_name}
 use Rattle.pp_model.specs.Definitions.{Definition}
 use Rattle.pp_model.specs.Painting.{is_one_of, painted_among}
 use Rattle.pp_model.specs.declared.read.Read.{Read}
-use Rattle.pp_macros.specs.Item.{Step}
+use Rattle.pp_macros.specs.Item.{PlacedStep}
 use Rattle.pp_macros.specs.inner.Frames.{names_of}
 use Rattle.pp_macros.specs.inner.Expander.{Expander, StepsTaking}
 use Rattle.pp_macros.specs.inner.Reader.{Reader, visible, hidden_of}
@@ -33,7 +33,7 @@ value_apart s names name definition false (Ident x) e = go (is_in x names) (visi
 value_apart s names name definition false _ e = cc
 
 -- nor is the name of a macro that a token opens which was painted among them
-read_apart : (s : Reader) (names : List Name) (name : Name) (definition : Definition) (read : Read) (first : Step Read)
+read_apart : (s : Reader) (names : List Name) (name : Name) (definition : Definition) (read : Read) (first : PlacedStep Read)
     → Ok read ≡ painted_step names first → macro_of s read ≡ Some (name, definition) → is_in name names ≡ false
 read_apart s names name definition read (Err exit) e is = cc
 read_apart s names name definition read (Ok before) e is =

@@ -24,22 +24,22 @@ pub neither : (a b : Bool) → (a || b) ≡ false → (a ≡ false) × (b ≡ fa
 neither true b e = cc
 neither false b e = (refl, e)
 
-replacement_without : (arguments : List (List Read)) (k : ℕ) (token : Token) (p : Option ℕ) (entries : List Entry) → is_position k p ≡ false
-    → replacement (set arguments k []) token p entries ≡ replacement arguments token p entries
-replacement_without arguments k token None entries other = refl
-replacement_without arguments k token (Some j) entries other =
-    ap (λ (argument : List Read). replacement (argument ∷ []) token (Some 0) entries) (argument_elsewhere arguments k j other)
+replacement_without : (arguments : List (List Read)) (k text : ℕ) (token : Token) (p : Option ℕ) (entries : List Entry) → is_position k p ≡ false
+    → replacement (set arguments k []) text token p entries ≡ replacement arguments text token p entries
+replacement_without arguments k text token None entries other = refl
+replacement_without arguments k text token (Some j) entries other =
+    ap (λ (argument : List Read). replacement (argument ∷ []) text token (Some 0) entries) (argument_elsewhere arguments k j other)
 
 -- what a body gives without the argument
-pub before_without : (parameters : List Name) (arguments : List (List Read)) (body : List Token) (k : ℕ) (entries : List Entry)
+pub before_without : (parameters : List Name) (arguments : List (List Read)) (text : ℕ) (body : List Token) (k : ℕ) (entries : List Entry)
     → has_parameter parameters body k ≡ false
-    → body_before parameters (set arguments k []) body entries ≡ body_before parameters arguments body entries
-before_without parameters arguments [] k entries none = refl
-before_without parameters arguments (token ∷ rest) k entries none =
+    → body_before parameters (set arguments k []) text body entries ≡ body_before parameters arguments text body entries
+before_without parameters arguments text [] k entries none = refl
+before_without parameters arguments text (token ∷ rest) k entries none =
     let p = parameter_of parameters token.value in
     let both = neither (is_position k p) (has_parameter parameters rest k) none in
-    ap (replacement (set arguments k []) token p) (before_without parameters arguments rest k entries both.1)
-    ∙ replacement_without arguments k token p (body_before parameters arguments rest entries) both.0
+    ap (replacement (set arguments k []) text token p) (before_without parameters arguments text rest k entries both.1)
+    ∙ replacement_without arguments k text token p (body_before parameters arguments text rest entries) both.0
 
 token_without : (arguments : List (List Read)) (k : ℕ) (p : Option ℕ) → is_position k p ≡ false → token_steps (set arguments k []) p ≡ token_steps arguments p
 token_without arguments k None other = refl

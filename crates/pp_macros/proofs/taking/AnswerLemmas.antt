@@ -2,9 +2,10 @@
 use Rattle.std.proofs.Common.{◌≡◌, ◌≢◌, ℕ, ◌+◌, ◌-◌, ◌≤◌, arith, All, List, [], ◌∷◌, ◌++◌, length, refl, sym, subst, None, le_trans, true, false, Bool}
 use Rattle.std.specs.Prelude.{if◌then◌else◌, Result, Ok, Err, IfOk, ◌&&◌, ◌==◌}
 use Rattle.std.proofs.lemmas.List.Elements.{All-cons, All-nil, All-append}
+use Rattle.pp_model.specs.Places.{PlacedFault}
 use Rattle.pp_model.specs.declared.read.Read.{Read}
 use Rattle.pp_model.specs.Names.{Name}
-use Rattle.pp_model.specs.Calls.{Fault, pieces, arguments_of, misfit, cut_before, Pieces, is_comma, nesting_after}
+use Rattle.pp_model.specs.Calls.{pieces, arguments_of, misfit, cut_before, Pieces, is_comma, nesting_after}
 use Rattle.pp_model.specs.Emitting.{answers_at}
 use Rattle.pp_model.proofs.LevelLemmas as level
 use Rattle.pp_macros.specs.Halting.{halt_of}
@@ -15,36 +16,36 @@ use Rattle.pp_macros.specs.inner.Finishing.{site_at, Finishes, ExpandsEach, AreO
 use Rattle.pp_macros.specs.inner.Frames.{names_of}
 use Rattle.pp_macros.specs.inner.Left.{most_alone}
 use Rattle.pp_macros.specs.inner.Expander.{Expander, Satisfies}
-use Rattle.pp_macros.specs.declared.halt.Halt.{Halt}
-use Rattle.pp_macros.specs.declared.halt.Halt.TheVariants as halt
+use Rattle.pp_macros.specs.declared.halt.PlacedHalt.{PlacedHalt}
+use Rattle.pp_macros.specs.declared.halt.PlacedHalt.TheVariants as halt
 use Rattle.pp_macros.specs.inner.Reach.{frame_steps}
 use Rattle.pp_macros.proofs.work.ReachLemmas.{most_level, frame_steps_level}
 use Rattle.pp_model.specs.declared.numbering.Numbering.{Numbering}
 
 -- a fault is passed on, where it is the fault of the whole
-pub satisfies_exit : {A : Type 0} (r : Result A Halt) (h : Halt) (P : Result A Fault → Type 0) → r ≡ Err h
-    → ((fault : Fault) → h ≡ halt.Fault fault → P (Err fault)) → Satisfies r P
-satisfies_exit {A} r (halt.Fault fault) P is passes = subst (λ (x : Result A Halt). Satisfies x P) (sym is) (passes fault refl)
-satisfies_exit {A} r halt.OutOfMemory P is passes = subst (λ (x : Result A Halt). Satisfies x P) (sym is) tt
+pub satisfies_exit : {A : Type 0} (r : Result A PlacedHalt) (h : PlacedHalt) (P : Result A PlacedFault → Type 0) → r ≡ Err h
+    → ((fault : PlacedFault) → h ≡ halt.Fault fault → P (Err fault)) → Satisfies r P
+satisfies_exit {A} r (halt.Fault fault) P is passes = subst (λ (x : Result A PlacedHalt). Satisfies x P) (sym is) (passes fault refl)
+satisfies_exit {A} r halt.OutOfMemory P is passes = subst (λ (x : Result A PlacedHalt). Satisfies x P) (sym is) tt
 
 -- the fault of a step, unless it is that memory was refused
-pub satisfies_fault : {A : Type 0} (h : Halt) (fault : Fault) (P : Result A Fault → Type 0) → h ≡ halt_of fault
+pub satisfies_fault : {A : Type 0} (h : PlacedHalt) (fault : PlacedFault) (P : Result A PlacedFault → Type 0) → h ≡ halt_of fault
     → (is_out_of_memory fault.0 ≡ false → P (Err fault)) → Satisfies {A = A} (Err h) P
-satisfies_fault {A} h fault P is passes = subst (λ (x : Halt). Satisfies {A = A} (Err x) P) (sym is) (decided (is_out_of_memory fault.0) refl)
+satisfies_fault {A} h fault P is passes = subst (λ (x : PlacedHalt). Satisfies {A = A} (Err x) P) (sym is) (decided (is_out_of_memory fault.0) refl)
   where
     decided : (refused : Bool) → is_out_of_memory fault.0 ≡ refused → Satisfies {A = A} (Err (if refused then halt.OutOfMemory else halt.Fault fault)) P
     decided true heard = tt
     decided false heard = passes heard
 
-pub fault_of : {A : Type 0} (h : Halt) (fault : Fault) (P : Result A Fault → Type 0) → h ≡ halt.Fault fault → Satisfies {A = A} (Err h) P → P (Err fault)
-fault_of {A} h fault P e s = let k : Satisfies {A = A} (Err (halt.Fault fault)) P = subst (λ (x : Halt). Satisfies {A = A} (Err x) P) e s in k
+pub fault_of : {A : Type 0} (h : PlacedHalt) (fault : PlacedFault) (P : Result A PlacedFault → Type 0) → h ≡ halt.Fault fault → Satisfies {A = A} (Err h) P → P (Err fault)
+fault_of {A} h fault P e s = let k : Satisfies {A = A} (Err (halt.Fault fault)) P = subst (λ (x : PlacedHalt). Satisfies {A = A} (Err x) P) e s in k
 
-pub finish_fault : (levels : ℕ) (numbering : Numbering) (definitions : List Defined) (hidden : List Name) (call : MacroCall) (old new : Expander) (h : Halt) (fault : Fault)
+pub finish_fault : (levels : ℕ) (numbering : Numbering) (definitions : List Defined) (hidden : List Name) (call : MacroCall) (old new : Expander) (h : PlacedHalt) (fault : PlacedFault)
     → h ≡ halt.Fault fault → Finishes levels numbering definitions hidden call old (Err h) new
     → answers_at levels call.opened.definition (site_at call numbering definitions (names_of old.frames ++ hidden)) (Err fault)
 finish_fault levels numbering definitions hidden call old new h fault e s =
     let k : Finishes levels numbering definitions hidden call old (Err (halt.Fault fault)) new =
-    subst (λ (x : Halt). Finishes levels numbering definitions hidden call old (Err x) new) e s in k.0
+    subst (λ (x : PlacedHalt). Finishes levels numbering definitions hidden call old (Err x) new) e s in k.0
 
 -- no piece is longer than the tokens
 pub pieces_short : (n : ℕ) (tokens : List Read) → (length (pieces n tokens).first ≤ length tokens)
@@ -65,14 +66,14 @@ pieces_short n (read ∷ tokens) = cut (is_comma read.token.value && (n == 0)) (
 
 -- what the arguments come to is what the call comes to, where their number fits
 pub answers_each : (levels : ℕ) (numbering : Numbering) (definitions : List Defined) (around : List Name) (call : MacroCall) → levels ≢ 0
-    → misfit call.opened.definition.parameters (arguments_of call.tokens) ≡ None → (out : Result (List (List Read)) Fault)
+    → misfit call.opened.definition.parameters (arguments_of call.tokens) ≡ None → (out : Result (List (List Read)) PlacedFault)
     → ExpandsEach (levels - 1) numbering definitions around (arguments_of call.tokens) out
     → answers_at levels call.opened.definition (site_at call numbering definitions around) out
 answers_each levels numbering definitions around call some fits out expands =
     level.answers_each levels call.opened.definition (site_at call numbering definitions around) out some fits expands.each
 
 -- no argument of a call is longer than what all of its tokens may come to
-pub of_call : (levels : ℕ) (numbering : Numbering) (definitions : List Defined) (around : List Name) (call : MacroCall) (r : Result (List (List Read)) Halt)
+pub of_call : (levels : ℕ) (numbering : Numbering) (definitions : List Defined) (around : List Name) (call : MacroCall) (r : Result (List (List Read)) PlacedHalt)
     → Satisfies r (ExpandsEach (levels - 1) numbering definitions around (arguments_of call.tokens)) → IfOk r (AreOfCall levels definitions call)
 of_call levels numbering definitions around call (Ok arguments) expands = let here = pieces_short 0 call.tokens in
     expands.least (length call.tokens) (All-cons (λ (a : List Read). length a ≤ length call.tokens) (pieces 0 call.tokens).first
@@ -80,7 +81,7 @@ of_call levels numbering definitions around call (Ok arguments) expands = let he
 of_call levels numbering definitions around call (Err h) expands = tt
 
 -- what a search gives satisfies what follows from it
-pub satisfies_more : {A : Type 0} (r : Result A Halt) (P Q : Result A Fault → Type 0) → ((out : Result A Fault) → P out → Q out)
+pub satisfies_more : {A : Type 0} (r : Result A PlacedHalt) (P Q : Result A PlacedFault → Type 0) → ((out : Result A PlacedFault) → P out → Q out)
     → Satisfies r P → Satisfies r Q
 satisfies_more (Ok value) P Q follows has = follows (Ok value) has
 satisfies_more (Err (halt.Fault fault)) P Q follows has = follows (Err fault) has
@@ -88,13 +89,13 @@ satisfies_more (Err halt.OutOfMemory) P Q follows has = tt
 
 -- a call that has no arguments ends with what they ended with
 pub finishes_without : (levels : ℕ) (numbering : Numbering) (definitions : List Defined) (hidden : List Name) (call : MacroCall) (old new : Expander)
-    (r : Result (Unit {0}) Halt) (h : Halt) → r ≡ Err h
+    (r : Result (Unit {0}) PlacedHalt) (h : PlacedHalt) → r ≡ Err h
     → Satisfies {A = List (List Read)} (Err h) (answers_at levels call.opened.definition (site_at call numbering definitions (names_of old.frames ++ hidden)))
     → new ≡ old → Finishes levels numbering definitions hidden call old r new
 finishes_without levels numbering definitions hidden call old new r (halt.Fault fault) is has same =
-    subst (λ (x : Result (Unit {0}) Halt). Finishes levels numbering definitions hidden call old x new) (sym is) (has, same)
+    subst (λ (x : Result (Unit {0}) PlacedHalt). Finishes levels numbering definitions hidden call old x new) (sym is) (has, same)
 finishes_without levels numbering definitions hidden call old new r halt.OutOfMemory is has same =
-    subst (λ (x : Result (Unit {0}) Halt). Finishes levels numbering definitions hidden call old x new) (sym is) tt
+    subst (λ (x : Result (Unit {0}) PlacedHalt). Finishes levels numbering definitions hidden call old x new) (sym is) tt
 
 -- one more list, no longer than it may be
 pub short_more : (most : ℕ) (lists more : List (List Read)) (list : List Read) → All (λ (a : List Read). length a ≤ most) lists

@@ -4,7 +4,7 @@ use Rattle.std.specs.Prelude.{unwrap_or}
 use Rattle.pp_lexer.specs.declared.token.Token.{Token}
 use Rattle.pp_model.specs.SpliceList.{parameter_of}
 use Rattle.pp_model.specs.declared.read.Read.{Read}
-use Rattle.pp_macros.specs.Item.{Step}
+use Rattle.pp_macros.specs.Item.{PlacedStep}
 use Rattle.pp_macros.specs.inner.Expander.{Expander, StepsFetching, StepsTaking, held, moved, taken_as}
 use Rattle.pp_macros.specs.inner.Frames.{Frame, Advance, advance, body_token, outermost_frame_call}
 use Rattle.pp_macros.specs.inner.Reader.{Reader}
@@ -40,12 +40,12 @@ move_call (f ∷ fs) after r s read (same, inl (gives, is)) =
     ap outermost_frame_call is ∙ gives_call fs f (advance f) read (step_call f) gives
 move_call (f ∷ fs) after r s read (same, inr refused) = cc
 
-moved_call : (m n : Expander) (r s : Reader) (move : Step Read) (read : Read) → Moves m.frames r move n.frames s
+moved_call : (m n : Expander) (r s : Reader) (move : PlacedStep Read) (read : Read) → Moves m.frames r move n.frames s
     → Ok read ≡ painted_step (masks n.frames s) (taken_as move n.frames s) → outermost_frame_call n.frames ≡ outermost_frame_call m.frames
 moved_call m n r s (Ok first) read moves is = move_call m.frames n.frames r s first moves
 moved_call m n r s (Err exit) read moves is = cc
 
-fetch_call : (m n : Expander) (r s : Reader) (first : Step Read) (read : Read) → StepsFetching m r first n s
+fetch_call : (m n : Expander) (r s : Reader) (first : PlacedStep Read) (read : Read) → StepsFetching m r first n s
     → Ok read ≡ painted_step (masks n.frames s) first → outermost_frame_call n.frames ≡ outermost_frame_call m.frames
 fetch_call m n r s first read (held first1 m1 n1 r1 s1 is at same) paints = ap (λ (k : Expander). outermost_frame_call k.frames) at
 fetch_call m n r s first read (moved move first1 m1 n1 r1 s1 free moves is freed) paints =

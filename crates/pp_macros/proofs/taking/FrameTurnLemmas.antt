@@ -3,8 +3,8 @@ use Rattle.std.proofs.Common.{◌≡◌, refl, sym, ap, subst, Bool, true, false
 use Rattle.std.specs.Prelude.{Result, OnErr, IfSome, is_some}
 use Rattle.pp_model.specs.declared.read.Read.{Read}
 use Rattle.pp_model.specs.Names.{Name, is_identifier, line_name}
-use Rattle.pp_macros.specs.Item.{Step}
-use Rattle.pp_macros.specs.inner.Ahead.{given_by, given_next, frames_after}
+use Rattle.pp_macros.specs.Item.{PlacedStep}
+use Rattle.pp_macros.specs.inner.Ahead.{painted_as, given_by, given_next, frames_after}
 use Rattle.pp_macros.specs.inner.CallTurns.{TurnsTo, passes, gives, object, TakesSomething}
 use Rattle.pp_macros.specs.inner.Frames.{Frame, Advance, advance, new_frame, outermost_frame_call, bare_call}
 use Rattle.pp_macros.specs.inner.Expander.{Expander, StepsFetching, StepsTaking, moved, taken_as}
@@ -13,10 +13,9 @@ use Rattle.pp_macros.specs.inner.Turns.{Moves, as_pause, frame_move, masks, macr
 use Rattle.pp_macros.specs.inner.Reading.{painted_step}
 use Rattle.pp_model.specs.Painting.{painted_among}
 use Rattle.pp_macros.specs.declared.calls.Taken.TheVariants as taken
-use Rattle.pp_macros.specs.declared.step.StepExit.TheVariants.{Continue}
+use Rattle.pp_macros.specs.declared.step.PlacedExit.TheVariants.{Continue}
 use Rattle.pp_macros.specs.Held.{HoldsOrdinary}
 use Rattle.pp_macros.specs.inner.Defined.{Macro}
-use Rattle.std.specs.Option.{option_map}
 use Rattle.pp_macros.specs.inner.Frames.{names_of}
 use Rattle.pp_macros.specs.inner.Giving.{GivesAhead, passed}
 use Rattle.pp_macros.proofs.open_frames.AdvanceLemmas.{Advances, advance_lowers}
@@ -48,12 +47,12 @@ names_stay (f ∷ fs) read is = given_names fs f (advance f) read (advance_lower
 
 -- nothing is held, and a macro is open
 module _ (m : Expander) (r : Reader) (free : m.held ≡ None) (some : is_some (outermost_frame_call m.frames) ≡ true) where
-  frame_fetches : (given : Option Read) (step : Step Read) → given ≡ given_next m.frames → step ≡ taken_as (as_pause given) (frames_after m.frames) r
+  frame_fetches : (given : Option Read) (step : PlacedStep Read) → given ≡ given_next m.frames → step ≡ taken_as (as_pause given) (frames_after m.frames) r
       → StepsFetching m r step (passed m) r
   frame_fetches given step is same = moved (as_pause given) step m (passed m) r r free
       (subst (λ (o : Option Read). Moves m.frames r (as_pause o) (frames_after m.frames) r) (sym is) (frames_move m.frames r some)) same free
 
-  frame_takes : (given : Option Read) (step : Step Read) → given ≡ given_next m.frames → step ≡ taken_as (as_pause given) (frames_after m.frames) r
+  frame_takes : (given : Option Read) (step : PlacedStep Read) → given ≡ given_next m.frames → step ≡ taken_as (as_pause given) (frames_after m.frames) r
       → StepsTaking m r (painted_step (masks (frames_after m.frames) r) step) (passed m) r
   frame_takes given step is same = record { first = step; fetches = frame_fetches given step is same; paints = refl }
 
@@ -64,7 +63,7 @@ module _ (m : Expander) (r : Reader) (free : m.held ≡ None) (some : is_some (o
   module _ (read : Read) (is : Some read ≡ given_next m.frames) (apart : is_identifier line_name read.token.value ≡ false)
       (paint : Bool) (same : paint ≡ (painted_among (masks m.frames r) read).painted) where
     abbrev taken_read : Read
-    taken_read = record { token = read.token; painted = paint }
+    taken_read = record read { painted = paint }
 
     -- its token is taken, with this paint
     token_taken : StepsTaking m r (Ok taken_read) (passed m) r
@@ -75,19 +74,19 @@ module _ (m : Expander) (r : Reader) (free : m.held ≡ None) (some : is_some (o
         rw whole at (frame_takes (Some read) (Ok read) is (rw apart refl))
 
     -- it is given, and opens no macro
-    pub frame_gives : HoldsOrdinary read.token.value → macro_of r taken_read ≡ None → GivesAhead r m read.token paint
+    pub frame_gives : HoldsOrdinary read.token.value → macro_of r taken_read ≡ None → GivesAhead r m paint taken_read
     frame_gives holds plain = record {
       free = free;
-      ahead = ap (option_map (λ (own : Read). own.token)) (sym is);
+      ahead = ap (painted_as paint) (sym is);
       turns = gives taken_read (Ok (taken.Token taken_read)) m (passed m) r r token_taken plain refl;
       holds = holds;
     }
 
     -- it opens a macro without parentheses
     pub frame_opens : (opened : Macro) → Opens r taken_read opened → opened.definition.function_like ≡ false
-        → TurnsTo m r (Err Continue) (record m { frames = new_frame opened (bare_call read.token.location) [] ∷ frames_after m.frames }) r
+        → TurnsTo m r (Err Continue) (record m { frames = new_frame opened (bare_call read.text read.token.location) [] ∷ frames_after m.frames }) r
     frame_opens opened some bare = object taken_read opened (Err Continue) m (passed m)
-        (record m { frames = new_frame opened (bare_call read.token.location) [] ∷ frames_after m.frames }) r r token_taken some bare refl refl
+        (record m { frames = new_frame opened (bare_call read.text read.token.location) [] ∷ frames_after m.frames }) r r token_taken some bare refl refl
 
     -- there is something to take
     pub frame_takes_some : TakesSomething m r

@@ -1,6 +1,5 @@
 -- Steps that give tokens or pause: less is left after each, and the loop over an argument may take any number of them at once.
 use Rattle.std.proofs.Common.{◌≡◌, ◌∙◌, ◌<◌, ◌≤◌, ◌++◌, ℕ, Bool, List, [], ◌∷◌, ap, arith, refl, sym, Ok, Err}
-use Rattle.pp_lexer.specs.declared.token.Token.{Token}
 use Rattle.pp_model.specs.declared.read.Read.{Read}
 use Rattle.pp_model.specs.Names.{Name}
 use Rattle.pp_macros.specs.inner.CallTurns.{TurnsTo, passes, gives, object, seeks, TakesSomething}
@@ -10,7 +9,7 @@ use Rattle.pp_macros.specs.inner.Left.{IsSound, work_of}
 use Rattle.pp_macros.specs.inner.Expander.{Expander}
 use Rattle.pp_macros.specs.inner.Reader.{Reader, of_list, Listing}
 use Rattle.pp_macros.specs.declared.calls.Taken.TheVariants as taken
-use Rattle.pp_macros.specs.declared.step.StepExit.TheVariants.{Continue}
+use Rattle.pp_macros.specs.declared.step.PlacedExit.TheVariants.{Continue}
 use Rattle.std.proofs.lemmas.List.{append_assoc}
 use Rattle.pp_macros.proofs.taking.PartLemmas.{added_is}
 use Rattle.pp_macros.specs.inner.Parts.{addition}
@@ -43,15 +42,15 @@ pub record GivenMore (r : Reader) (m : Expander) (items : List Read) (n p : Expa
   pub sound : IsSound p r
   pub less : work_of 0 p r < work_of 0 n r
 
-pub given_more : (r : Reader) (m n p q : Expander) (items some more : List Read) (given : Token) (painted : Bool) → GivesEach r m items n some
-    → IsSound n r → PausesEach r n p → GivesAhead r p given painted → q ≡ passed p → more ≡ some ++ record { token = given; painted = painted } ∷ []
+pub given_more : (r : Reader) (m n p q : Expander) (items some more : List Read) (painted : Bool) (given : Read) → GivesEach r m items n some
+    → IsSound n r → PausesEach r n p → GivesAhead r p painted given → q ≡ passed p → more ≡ some ++ given ∷ []
     → GivenMore r m items n q more
-given_more r m n p q items some more given painted each sound pauses ahead is put =
+given_more r m n p q items some more painted given each sound pauses ahead is put =
     let h = pausing_sound r n p sound pauses in
-    let less = turn_falls 0 p r h.0 (Ok (taken.Token (record { token = given; painted = painted }))) (passed p) r ahead.turns refl in
+    let less = turn_falls 0 p r h.0 (Ok (taken.Token given)) (passed p) r ahead.turns refl in
     rw is (record {
       gives = further p (passed p) some more (gives_pauses r m n p items some each pauses)
-          (token (record { token = given; painted = painted }) ahead.turns put);
+          (token given ahead.turns put);
       sound = less.sound;
       less = omega (arith, h.1, less.falls);
     })

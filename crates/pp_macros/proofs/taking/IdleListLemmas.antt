@@ -17,7 +17,7 @@ use Rattle.pp_macros.specs.inner.Frames.{Frame, names_of}
 use Rattle.pp_macros.specs.inner.Nesting.{listed_in, seen_by}
 use Rattle.pp_model.specs.Painting.{painted_among}
 use Rattle.pp_model.specs.inner.Reading.{after_listed}
-use Rattle.pp_macros.specs.declared.step.StepExit.TheVariants.{Finished}
+use Rattle.pp_macros.specs.declared.step.PlacedExit.TheVariants.{Finished}
 use Rattle.pp_macros.specs.declared.calls.Taken.TheVariants as given
 use Rattle.pp_macros.proofs.taking.ExpanderLemmas.{idle_steps}
 use Rattle.pp_macros.proofs.taking.PaintedRunLemmas.{among_none, painted_steps}

@@ -1,10 +1,11 @@
 -- The expander over an argument is the definitions' expander of it.
 use Rattle.std.proofs.Common.{◌≡◌, false, ℕ, ◌+◌, ◌<◌, ◌≤◌, arith, List, [], ◌∷◌, ◌++◌, length, length-append, refl, sym, ap, subst, None}
 use Rattle.std.specs.Prelude.{Result, Ok, Err}
+use Rattle.pp_model.specs.Places.{PlacedFault}
 use Rattle.pp_model.specs.declared.read.Read.{Read}
 use Rattle.pp_model.specs.Names.{Name}
 use Rattle.pp_model.specs.Reading.{Expander, Listed, argument_reading, reading_of}
-use Rattle.pp_model.specs.Calls.{Fault, Site}
+use Rattle.pp_model.specs.Calls.{Site}
 use Rattle.pp_model.specs.Emitting.{Emits, Alone, Collects, done, failed, item, answers_at}
 use Rattle.pp_model.specs.inner.Emitting.{read_before}
 use Rattle.pp_model.specs.SpliceList.{macro_before}
@@ -21,7 +22,7 @@ use Rattle.pp_macros.specs.inner.Left.{work_of, most_alone, IsSound}
 use Rattle.pp_macros.specs.inner.Expander as kept
 use Rattle.pp_macros.specs.inner.Reader.{of_list, Listing}
 use Rattle.pp_macros.specs.declared.calls.Taken.TheVariants as taken
-use Rattle.pp_macros.specs.declared.step.StepExit.TheVariants.{Error, Continue, Finished}
+use Rattle.pp_macros.specs.declared.step.PlacedExit.TheVariants.{Error, Continue, Finished}
 use Rattle.pp_macros.proofs.work.CallFallsLemmas.{IsLess, IsPending, turn_falls}
 use Rattle.pp_macros.proofs.taking.TurnLeadsLemmas.{LeadsTo}
 use Rattle.pp_macros.proofs.work.WorkFallsLemmas.{start_work}
@@ -34,7 +35,7 @@ pub record Reached (levels : ℕ) (numbering : Numbering) (definitions : List De
   pub state : Expander Listed
   pub stands : StandsListed false numbering definitions hidden m l state
   pub sound : IsSound m (of_list l)
-  pub goes_on : (out : Result (List Read) Fault) → Collects argument_reading (answers_at levels) state out
+  pub goes_on : (out : Result (List Read) PlacedFault) → Collects argument_reading (answers_at levels) state out
       → Alone levels tokens numbering (meaning_of definitions) hidden (after_items items out)
   pub least : length items + work_of levels m (of_list l) ≤ most_alone levels definitions (length tokens)
 
@@ -51,7 +52,7 @@ reached_start levels numbering definitions hidden tokens items m l e f g =
       least = omega (arith, start_work levels start);
     })
   where
-    no_items : (out : Result (List Read) Fault) → after_items [] out ≡ out
+    no_items : (out : Result (List Read) PlacedFault) → after_items [] out ≡ out
     no_items (Ok rest) = refl
     no_items (Err fault) = refl
 
@@ -77,7 +78,7 @@ module _ (levels : ℕ) (numbering : Numbering) (definitions : List Defined) (hi
       turn_falls levels m (of_list l) r.sound (Ok (taken.Token read)) n (of_list k) turns refl in f.falls
 
   emits_keeps : (e f : Expander Listed) → ((o : Given) (g : Expander Listed) → Emits argument_reading (answers_at levels) f o g
-      → Emits argument_reading (answers_at levels) e o g) → (out : Result (List Read) Fault) → Collects argument_reading (answers_at levels) f out
+      → Emits argument_reading (answers_at levels) e o g) → (out : Result (List Read) PlacedFault) → Collects argument_reading (answers_at levels) f out
       → Collects argument_reading (answers_at levels) e out
   emits_keeps e f on out (done f1 g out1 emits is) = done e g out (on given.End g emits) is
   emits_keeps e f on out (failed fault f1 g out1 emits is) = failed fault e g out (on (given.Fault fault) g emits) is
@@ -106,7 +107,7 @@ module _ (levels : ℕ) (numbering : Numbering) (definitions : List Defined) (hi
       rw (← after_items-end items) (r.goes_on (Ok []) (done r.state h.0 (Ok []) h.1 refl))
 
   -- a fault
-  pub reached_fault : (fault : Fault) → TurnsTo m (of_list l) (Err (Error fault)) n (of_list k) → is_out_of_memory fault.0 ≡ false
+  pub reached_fault : (fault : PlacedFault) → TurnsTo m (of_list l) (Err (Error fault)) n (of_list k) → is_out_of_memory fault.0 ≡ false
       → Alone levels tokens numbering (meaning_of definitions) hidden (Err fault)
   reached_fault fault turns reported =
       let h = listed_leads false numbering definitions hidden (answers_at levels) m n l k (Err (Error fault)) r.state r.stands turns reported in
@@ -116,7 +117,7 @@ module _ (levels : ℕ) (numbering : Numbering) (definitions : List Defined) (hi
   pending c turns = turn_falls levels m (of_list l) r.sound (Ok (taken.Call c)) n (of_list k) turns refl
 
   -- a call that has a fault
-  pub reached_call_fault : (c : MacroCall) (fault : Fault) → TurnsTo m (of_list l) (Ok (taken.Call c)) n (of_list k)
+  pub reached_call_fault : (c : MacroCall) (fault : PlacedFault) → TurnsTo m (of_list l) (Ok (taken.Call c)) n (of_list k)
       → answers_at levels c.opened.definition (site_at c numbering definitions (names_of n.frames ++ hidden)) (Err fault)
       → Alone levels tokens numbering (meaning_of definitions) hidden (Err fault)
   reached_call_fault c fault turns answers =

@@ -12,7 +12,7 @@ use Rattle.pp_macros.specs.inner.CallTurns.{TurnsTo, TurnsOrRefuses}
 use Rattle.pp_macros.specs.inner.Defined.{Defined, meaning_of}
 use Rattle.pp_macros.specs.inner.Finishing.{site_at, IsOpened}
 use Rattle.pp_macros.specs.inner.Frames.{new_frame, names_of}
-use Rattle.pp_macros.specs.Item.{Step, wants_memory}
+use Rattle.pp_macros.specs.Item.{PlacedStep, wants_memory}
 use Rattle.pp_macros.specs.inner.Left.{most_alone}
 use Rattle.pp_macros.specs.inner.Expander as kept
 use Rattle.pp_macros.specs.inner.Reader.{Reader, hidden_of, of_source, of_list, Listing, listed_step, Reads, shown_line, visible}
@@ -53,7 +53,7 @@ module _ (is_line : Bool) (numbering : Numbering) (definitions : List Defined) (
         counts,
       )
 
-  listed_simulates : (tokens : List Read) (old new : Listing) (x : Listed) (step : Step Read) → old.tokens ≡ tokens → IsListed (of_list old) x
+  listed_simulates : (tokens : List Read) (old new : Listing) (x : Listed) (step : PlacedStep Read) → old.tokens ≡ tokens → IsListed (of_list old) x
       → step ≡ listed_step tokens → new ≡ record old { tokens = after_listed tokens } → ReadsTo (listed_reading is_line) IsListed hidden step x (of_list new)
   listed_simulates [] old new x step e (is, names, plain, same, counts) gives at =
       let y : Listed = record x { tokens = after_listed x.tokens } in
@@ -64,7 +64,7 @@ module _ (is_line : Bool) (numbering : Numbering) (definitions : List Defined) (
       let tokens : x.tokens ≡ read ∷ rest = ap (λ (z : Listed). z.tokens) is ∙ e in
       rw gives (y, (sym (ap first_listed tokens), refl), after old new x (read ∷ rest) tokens is names plain same counts at)
 
-  pub list_simulates : (r s : Reader) (x : Listed) (step : Step Read) → IsListed r x → Reads r step s → wants_memory step ≡ false
+  pub list_simulates : (r s : Reader) (x : Listed) (step : PlacedStep Read) → IsListed r x → Reads r step s → wants_memory step ≡ false
       → ReadsTo (listed_reading is_line) IsListed hidden step x s
   list_simulates (of_list old) (of_list new) x step listed (inl h) reported = listed_simulates old.tokens old new x step refl listed h.0 h.1
   list_simulates (of_list old) (of_list new) x step listed (inr h) reported = absurd (let bad : true ≡ false = rw h at reported in cc)
@@ -87,14 +87,14 @@ module _ (is_line : Bool) (numbering : Numbering) (definitions : List Defined) (
   abbrev pub StandsListed : kept.Expander → Listing → Expander Listed → Type 0
   StandsListed m l e = StandsIn (listed_reading is_line) IsListed hidden m (of_list l) e
 
-  pub listed_leads : (A : Answers) (m n : kept.Expander) (l k : Listing) (step : Step Taken) (e : Expander Listed) → StandsListed m l e
+  pub listed_leads : (A : Answers) (m n : kept.Expander) (l k : Listing) (step : PlacedStep Taken) (e : Expander Listed) → StandsListed m l e
       → TurnsTo m (of_list l) step n (of_list k) → wants_taken step ≡ false
       → LeadsTo (listed_reading is_line) IsListed hidden list_simulates list_shows list_hides list_sees A step e n (of_list k)
   listed_leads A m n l k step e stands turns reported = turn_leads (listed_reading is_line) IsListed hidden list_simulates list_shows list_hides list_sees A m n
       (of_list l) (of_list k) step e stands turns reported
 
   pub stands_listed : (n : kept.Expander) (k : Listing) (f : Expander Listed) → StandsListed n k f → n.held ≡ None → IsListed (of_list k) f.reader
-  stands_listed n k f stands free = subst (λ (o : Option (Step Read)). StandsHeld (listed_reading is_line) IsListed hidden o
+  stands_listed n k f stands free = subst (λ (o : Option (PlacedStep Read)). StandsHeld (listed_reading is_line) IsListed hidden o
       (of_list k) f.reader) free stands.reader
 
   -- where a call stands
@@ -116,10 +116,10 @@ module _ (is_line : Bool) (numbering : Numbering) (definitions : List Defined) (
       let one : suc lower - 1 ≡ lower = omega arith in
       let least : All (λ (a : List Read). length a ≤ most_alone lower k.definitions (length c.tokens)) opened.arguments = rw (same, ← one) opened.least in
       let at : p ≡ record { held = None; frames = new_frame c.opened c.call opened.arguments ∷ n.frames } = opened.opens
-      ∙ ap (λ (h : Option (Step Read)). record { held = h; frames = new_frame c.opened c.call opened.arguments ∷ n.frames }) pend.free in
+      ∙ ap (λ (h : Option (PlacedStep Read)). record { held = h; frames = new_frame c.opened c.call opened.arguments ∷ n.frames }) pend.free in
       rw at (pending_opens lower m (of_list l) c n (of_list k) opened.arguments pend least)
 
 -- a turn that was not refused memory
-pub turned : (m n : kept.Expander) (r s : Reader) (step : Step Taken) → TurnsOrRefuses m r step n s → wants_taken step ≡ false → TurnsTo m r step n s
+pub turned : (m n : kept.Expander) (r s : Reader) (step : PlacedStep Taken) → TurnsOrRefuses m r step n s → wants_taken step ≡ false → TurnsTo m r step n s
 turned m n r s step (inl h) reported = h
 turned m n r s step (inr h) reported = absurd (let bad : true ≡ false = rw h.fault at reported in cc)

@@ -3,13 +3,14 @@ use Rattle.std.proofs.Common.{◌≡◌, ◌∙◌, inl, inr, ℕ, List, [], ◌
 use Rattle.std.specs.Prelude.{if◌then◌else◌, Ok, Err, true, unwrap_or}
 use Rattle.pp_lexer.specs.declared.token.TokenValue.{TokenValue}
 use Rattle.pp_lexer.specs.declared.token.TokenValue.TheVariants.{Ident}
+use Rattle.pp_model.specs.Places.{place_of}
 use Rattle.pp_model.specs.Definitions.{Definition}
 use Rattle.pp_model.specs.Names.{Name, is_identifier, line_name}
 use Rattle.pp_model.specs.Painting.{painted_among}
 use Rattle.pp_model.specs.Taking.{line_number}
 use Rattle.pp_model.specs.declared.read.Read.{Read}
 use Rattle.pp_model.specs.declared.read.Taken.TheVariants as given
-use Rattle.pp_macros.specs.Item.{Step}
+use Rattle.pp_macros.specs.Item.{PlacedStep}
 use Rattle.pp_macros.specs.inner.Defined.{Defined, Macro, AreNumbered, names_in, numbered_by}
 use Rattle.pp_macros.specs.inner.Expander.{Expander, StepsFetching, StepsTaking, step_of_outcome, taken_as}
 use Rattle.pp_macros.specs.inner.Frames.{Frame, names_of, outermost_frame_line}
@@ -21,7 +22,7 @@ use Rattle.pp_macros.proofs.taking.ExpanderLemmas.{fetches_held, fetches_step, i
 use Rattle.pp_lexer.specs.declared.token.Integer.{Integer}
 
 -- what is read doesn't depend on what is around
-pub reads_seen : (below : List Frame) (r s : Reader) (step : Step Read) → Reads r step s → Reads (seen_by below r) step (seen_by below s)
+pub reads_seen : (below : List Frame) (r s : Reader) (step : PlacedStep Read) → Reads r step s → Reads (seen_by below r) step (seen_by below s)
 reads_seen below (of_source old) (of_source new) step reads = reads
 reads_seen below (of_list old) (of_list new) step (inl h) = inl (h.0, ap (listed_in below) h.1)
 reads_seen below (of_list old) (of_list new) step (inr h) = inr h
@@ -29,19 +30,19 @@ reads_seen below (of_list old) (of_source new) step reads = absurd reads
 reads_seen below (of_source old) (of_list new) step reads = absurd reads
 
 -- a source stays a source
-pub reads_wait : (below : List Frame) (r s : Reader) (step : Step Read) → Reads r step s → MayWait below r → MayWait below s
+pub reads_wait : (below : List Frame) (r s : Reader) (step : PlacedStep Read) → Reads r step s → MayWait below r → MayWait below s
 reads_wait below (of_source old) (of_source new) step reads waits = waits
 reads_wait below (of_list old) (of_list new) step reads waits = tt
 reads_wait below (of_list old) (of_source new) step reads waits = absurd reads
 reads_wait below (of_source old) (of_list new) step reads waits = tt
 
 -- the same of a step of the frames or the reader
-pub moves_seen : (below frames after : List Frame) (r s : Reader) (step : Step Read) → Moves frames r step after s
+pub moves_seen : (below frames after : List Frame) (r s : Reader) (step : PlacedStep Read) → Moves frames r step after s
     → Moves frames (seen_by below r) step after (seen_by below s)
 moves_seen below [] after r s step moves = (moves.0, reads_seen below r s step moves.1)
 moves_seen below (f ∷ fs) after r s step moves = (ap (seen_by below) moves.0, moves.1)
 
-pub moves_wait : (below frames after : List Frame) (r s : Reader) (step : Step Read) → Moves frames r step after s → MayWait below r → MayWait below s
+pub moves_wait : (below frames after : List Frame) (r s : Reader) (step : PlacedStep Read) → Moves frames r step after s → MayWait below r → MayWait below s
 moves_wait below [] after r s step moves waits = reads_wait below r s step moves.1 waits
 moves_wait below (f ∷ fs) after r s step moves waits = subst (MayWait below) (sym moves.0) waits
 
@@ -84,10 +85,10 @@ shown_seen : (below : List Frame) (r : Reader) (line : ℕ) → shown_line (seen
 shown_seen below (of_source source) line = refl
 shown_seen below (of_list list) line = refl
 
-pub taken_seen : (below frames : List Frame) (r : Reader) (step : Step Read) → taken_as step frames (seen_by below r) ≡ taken_as step frames r
+pub taken_seen : (below frames : List Frame) (r : Reader) (step : PlacedStep Read) → taken_as step frames (seen_by below r) ≡ taken_as step frames r
 taken_seen below frames r (Err exit) = refl
 taken_seen below frames r (Ok read) =
-    ap (λ (line : Option Integer). step_of_outcome (if is_identifier line_name read.token.value then line_number read.token.location line else given.Token read))
+    ap (λ (line : Option Integer). step_of_outcome (if is_identifier line_name read.token.value then line_number (place_of read) line else given.Token read))
     (shown_seen below r (unwrap_or (outermost_frame_line frames) read.token.location.line))
 
 -- a token that comes first is taken with its paint
@@ -101,14 +102,14 @@ taken_painted m r n s first painted fetches is waits = record {
 }
 
 -- what is held comes first
-pub held_fetched : (m n : MacroProcessor) (step : Step Read) (r : Reader) → m.here.held ≡ Some step → n ≡ record m { here = record m.here { held = None } }
+pub held_fetched : (m n : MacroProcessor) (step : PlacedStep Read) (r : Reader) → m.here.held ≡ Some step → n ≡ record m { here = record m.here { held = None } }
     → StepsFetching m.here (seen_by m.below r) step n.here (seen_by n.below r)
 held_fetched m n step r holds left =
     subst (λ (p : MacroProcessor). StepsFetching m.here (seen_by m.below r) step p.here (seen_by p.below r)) (sym left)
     (fetches_held m.here (record m.here { held = None }) step (seen_by m.below r) holds refl)
 
 -- a step of the frames or the reader comes first, as it is once it is taken
-pub step_fetched : (m n : MacroProcessor) (move step : Step Read) (r s : Reader) → m.here.held ≡ None → Moves m.here.frames r move n.here.frames s
+pub step_fetched : (m n : MacroProcessor) (move step : PlacedStep Read) (r s : Reader) → m.here.held ≡ None → Moves m.here.frames r move n.here.frames s
     → n ≡ with_frames m n.here.frames → step ≡ taken_as move n.here.frames s → StepsFetching m.here (seen_by m.below r) step n.here (seen_by n.below s)
 step_fetched m n move step r s free moves others shows =
     subst (λ (p : MacroProcessor). StepsFetching m.here (seen_by m.below r) step p.here (seen_by p.below s)) (sym others)

@@ -6,7 +6,6 @@ use Rattle.std.proofs.lemmas.List.{take-append-drop}
 use Rattle.std.proofs.lemmas.List.Elements.{All-weaker}
 use Rattle.std.proofs.lemmas.List.Folds.{list_all-append}
 use Rattle.std.specs.List.{list_all}
-use Rattle.pp_lexer.specs.declared.token.Token.{Token}
 use Rattle.pp_model.specs.declared.read.Read.{Read}
 use Rattle.pp_model.specs.Painting.{is_one_of}
 use Rattle.pp_lexer.specs.declared.token.TokenValue.{TokenValue}
@@ -31,9 +30,9 @@ use Rattle.pp_macros.proofs.work.IterateLemmas.{iterate_up}
 use Rattle.pp_macros.proofs.work.ReachLemmas.{grown_up}
 use Rattle.pp_model.specs.declared.numbering.Numbering.{Numbering}
 
-unopened : (token : Token) (name : Name) (o : Option Definition) → is_none o ≡ true → opening_by token name o ≡ None
-unopened token name None e = refl
-unopened token name (Some definition) e = cc
+unopened : (read : Read) (name : Name) (o : Option Definition) → is_none o ≡ true → opening_by read name o ≡ None
+unopened read name None e = refl
+unopened read name (Some definition) e = cc
 
 -- unpainted it gives itself where no macro is open
 plain_itself : (definitions : List Defined) (hidden : List Name) (value : TokenValue) → is_plain_value definitions hidden false value ≡ true
@@ -46,11 +45,11 @@ pub plain_undefined : (definitions : List Defined) (hidden : List Name) (name : 
 plain_undefined definitions hidden name e =
     (and_parts (not (is_same_name name line_name)) (is_none (meaning_of definitions name)) (plain_itself definitions hidden (Ident name) e)).1
 
-no_opening : (definitions : List Defined) (hidden : List Name) (painted : Bool) (token : Token) (name : Name)
+no_opening : (definitions : List Defined) (hidden : List Name) (painted : Bool) (read : Read) (name : Name)
     → is_plain_value definitions hidden painted (Ident name) ≡ true
-    → (if painted then None else opening_by token name (meaning_of definitions name)) ≡ None
-no_opening definitions hidden true token name e = refl
-no_opening definitions hidden false token name e = unopened token name (meaning_of definitions name) (plain_undefined definitions hidden name e)
+    → (if painted then None else opening_by read name (meaning_of definitions name)) ≡ None
+no_opening definitions hidden true read name e = refl
+no_opening definitions hidden false read name e = unopened read name (meaning_of definitions name) (plain_undefined definitions hidden name e)
 
 -- a value that gives itself is no `__LINE__`
 pub itself_apart : (definitions : List Defined) (value : TokenValue) → gives_itself definitions value ≡ true → is_identifier line_name value ≡ false
@@ -76,7 +75,7 @@ plain_opens : (numbering : Numbering) (definitions : List Defined) (hidden : Lis
     → is_plain_value definitions hidden read.painted value ≡ true
     → opening_of argument_reading (reading_of rest numbering (meaning_of definitions) hidden) read value ≡ None
 plain_opens numbering definitions hidden rest read (Ident name) e =
-    no_opening definitions hidden read.painted read.token name e
+    no_opening definitions hidden read.painted read name e
 plain_opens numbering definitions hidden rest read _ e = refl
 
 plain_takes : (numbering : Numbering) (definitions : List Defined) (hidden : List Name) (read : Read) (rest : List Read) → is_plain definitions hidden read ≡ true
@@ -88,7 +87,7 @@ plain_takes numbering definitions hidden read rest e =
       first = given.Token read;
       fetches = taking.read (given.Token read) (given.Token read) e1.reader e0 e1 refl refl (refl, refl)
           (rw (plain_apart definitions hidden read.painted read.token.value e) refl) refl;
-      paints = ap (λ (b : Bool). given.Token (record { token = read.token; painted = b }))
+      paints = ap (λ (b : Bool). given.Token (record read { painted = b }))
           (sym (plain_paint definitions hidden read.painted read.token.value e));
     }
 

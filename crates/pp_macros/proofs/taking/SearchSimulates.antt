@@ -2,28 +2,29 @@
 -- reader.
 use Rattle.std.proofs.Common.{◌≡◌, ◌∙◌, ◌++◌, inl, inr, true, false, ℕ, Bool, List, [], ◌∷◌, refl, sym, ap, subst, Option, Some, None}
 use Rattle.std.specs.Prelude.{if◌then◌else◌, Result, Ok, Err, option_map, unwrap_or, ⊤}
-use Rattle.pp_lexer.specs.declared.token.Location.{Location}
 use Rattle.pp_lexer.specs.declared.token.PreprocessorError.TheVariants.{IntegerOverflow, UnexpectedEndOfInput}
+use Rattle.pp_model.specs.declared.place.Place.{Place}
+use Rattle.pp_model.specs.Places.{PlacedFault, place_of}
 use Rattle.pp_model.specs.declared.read.Read.{Read}
 use Rattle.pp_model.specs.Names.{Name, is_identifier, line_name}
 use Rattle.pp_model.specs.Reading.{Reading, Expander, masked_names}
 use Rattle.pp_model.specs.Taking as taking
 use Rattle.pp_model.specs.Taking.{Takes, line_number}
 use Rattle.pp_model.specs.Calls as calls
-use Rattle.pp_model.specs.Calls.{Fault, Gathered, Gathers, before, paren_at}
+use Rattle.pp_model.specs.Calls.{Gathered, Gathers, before, paren_at}
 use Rattle.pp_model.specs.SpliceList.{after_marks, open_names}
 use Rattle.pp_model.specs.Painting.{painted_among}
 use Rattle.pp_model.specs.declared.splice.Entry.{Entry}
 use Rattle.pp_model.specs.declared.read.Taken.{Taken as Given}
 use Rattle.pp_model.specs.declared.read.Taken.TheVariants as given
-use Rattle.pp_macros.specs.Item.{Step, wants_memory}
+use Rattle.pp_macros.specs.Item.{PlacedStep, wants_memory}
 use Rattle.pp_macros.specs.inner.Frames.{Frame, flat, names_of, outermost_frame_line}
 use Rattle.pp_macros.specs.inner.Expander as kept
 use Rattle.pp_macros.specs.inner.Expander.{is_pause, outcome_of_step, step_of_outcome, taken_as, StepsFetching, StepsTaking, held, moved, TakesNext, now, later, GathersNext, closed, inside, overfull, ended, failed}
 use Rattle.pp_macros.specs.inner.Reader.{Reader, Reads, hidden_of, shown_line}
 use Rattle.pp_macros.specs.inner.Reading.{painted_step}
 use Rattle.pp_macros.specs.inner.Turns.{Moves, masks, taken_in}
-use Rattle.pp_macros.specs.declared.step.StepExit.TheVariants.{Error, Continue, Finished}
+use Rattle.pp_macros.specs.declared.step.PlacedExit.TheVariants.{Error, Continue, Finished}
 use Rattle.pp_macros.proofs.open_frames.FlatLemmas.{StepsList, frame_steps, open_flat}
 use Rattle.pp_macros.proofs.taking.PauseLemmas.{PausesTo, list_pauses}
 use Rattle.pp_macros.proofs.taking.TakingLemmas.{taken_flat}
@@ -32,14 +33,14 @@ use Rattle.pp_lexer.specs.declared.token.Integer.{Integer}
 
 module _ {R : Type 0} (I : Reading R) (StandsR : Reader → R → Type 0) (hidden : List Name) where
   -- what a step of a reader is to the reader that it stands for; of what stands after a fault nothing is said
-  abbrev pub ReadsTo : Step Read → R → Reader → Type 0
+  abbrev pub ReadsTo : PlacedStep Read → R → Reader → Type 0
   ReadsTo (Ok read) x s = (y : R) × I.Reads x (given.Token read) y × StandsR s y
   ReadsTo (Err Continue) x s = (y : R) × StandsR s y × ((o : Given) (z : R) → I.Reads y o z → I.Reads x o z)
   ReadsTo (Err Finished) x s = (y : R) × I.Reads x given.End y × StandsR s y
   ReadsTo (Err (Error fault)) x s = (y : R) × I.Reads x (given.Fault fault) y
 
   -- what is held is held in the definitions' expander; after a fault that is held nothing is said of the reader
-  abbrev pub StandsHeld : Option (Step Read) → Reader → R → Type 0
+  abbrev pub StandsHeld : Option (PlacedStep Read) → Reader → R → Type 0
   StandsHeld (Some (Err (Error fault))) r x = ⊤
   StandsHeld (Some (Err Continue)) r x = ⊥
   StandsHeld _ r x = StandsR r x
@@ -56,7 +57,7 @@ module _ {R : Type 0} (I : Reading R) (StandsR : Reader → R → Type 0) (hidde
       ∙ ap (λ (hs : List Name). open_names (flat n.frames) ++ hs) stands.names ∙ ap (λ (ns : List Name). ns ++ hidden) (open_flat n.frames)
 
   -- what comes first is so for the expander
-  abbrev pub FetchesTo : Step Read → Expander R → kept.Expander → Reader → Type 0
+  abbrev pub FetchesTo : PlacedStep Read → Expander R → kept.Expander → Reader → Type 0
   FetchesTo (Ok read) e n s = (f : Expander R) × taking.Fetches I e (given.Token read) f × StandsIn n s f
   FetchesTo (Err Continue) e n s = (f : Expander R) × StandsIn n s f × PausesTo I e f
   FetchesTo (Err Finished) e n s = (f : Expander R) × taking.Fetches I e given.End f × StandsIn n s f
@@ -64,18 +65,18 @@ module _ {R : Type 0} (I : Reading R) (StandsR : Reader → R → Type 0) (hidde
       × (f.list ≡ flat n.frames) × (f.held ≡ None) × (n.held ≡ None)
 
   -- what one step of taking is to the expander
-  abbrev pub StepsTo : Step Read → Expander R → kept.Expander → Reader → Type 0
+  abbrev pub StepsTo : PlacedStep Read → Expander R → kept.Expander → Reader → Type 0
   StepsTo (Ok read) e n s = (f : Expander R) × Takes I e (given.Token read) f × StandsIn n s f
   StepsTo (Err Continue) e n s = (f : Expander R) × StandsIn n s f × PausesTo I e f
   StepsTo (Err Finished) e n s = (f : Expander R) × Takes I e given.End f × StandsIn n s f
   StepsTo (Err (Error fault)) e n s = (f : Expander R) × Takes I e (given.Fault fault) f × (e.hidden ≡ hidden) × (f.hidden ≡ hidden)
       × (f.list ≡ flat n.frames) × (f.held ≡ None) × (n.held ≡ None)
 
-  module _ (simulates : (r s : Reader) (x : R) (step : Step Read) → StandsR r x → Reads r step s → wants_memory step ≡ false → ReadsTo step x s)
+  module _ (simulates : (r s : Reader) (x : R) (step : PlacedStep Read) → StandsR r x → Reads r step s → wants_memory step ≡ false → ReadsTo step x s)
       (shows : (s : Reader) (y : R) (line : ℕ) → StandsR s y → I.shown_line y line ≡ shown_line s line)
       (hides : (s : Reader) (y : R) → StandsR s y → hidden_of s ≡ hidden) where
     -- what is held
-    held_steps : (step : Step Read) (n : kept.Expander) (s : Reader) (e : Expander R) → e.held ≡ Some (outcome_of_step step) → e.list ≡ flat n.frames
+    held_steps : (step : PlacedStep Read) (n : kept.Expander) (s : Reader) (e : Expander R) → e.held ≡ Some (outcome_of_step step) → e.list ≡ flat n.frames
         → StandsHeld (Some step) s e.reader → e.hidden ≡ hidden → n.held ≡ None → FetchesTo step e n s
     held_steps (Ok read) n s e is list reader names free = (
       record e { held = None },
@@ -103,12 +104,12 @@ module _ {R : Type 0} (I : Reading R) (StandsR : Reader → R → Type 0) (hidde
     taken_no_end : (frames : List Frame) (r : Reader) (read : Read) → taken_in frames r read ≡ given.End → ⊥
     taken_no_end frames r read = go (is_identifier line_name read.token.value) (shown_line r (unwrap_or (outermost_frame_line frames) read.token.location.line))
       where
-        go : (b : Bool) (o : Option Integer) → (if b then line_number read.token.location o else given.Token read) ≡ given.End → ⊥
+        go : (b : Bool) (o : Option Integer) → (if b then line_number (place_of read) o else given.Token read) ≡ given.End → ⊥
         go true (Some n) e = cc
         go true None e = cc
         go false o e = cc
 
-    list_steps : (m n : kept.Expander) (r : Reader) (move : Step Read) (e : Expander R) → StandsIn m r e → m.held ≡ None → n.held ≡ None
+    list_steps : (m n : kept.Expander) (r : Reader) (move : PlacedStep Read) (e : Expander R) → StandsIn m r e → m.held ≡ None → n.held ≡ None
         → StandsR r e.reader → StepsList move (flat m.frames) (flat n.frames) → FetchesTo (taken_as move n.frames r) e n r
     list_steps m n r (Ok read) e stands free freed reader steps =
         let f : Expander R = record e { list = flat n.frames } in
@@ -153,7 +154,7 @@ module _ {R : Type 0} (I : Reading R) (StandsR : Reader → R → Type 0) (hidde
       paints = takes.paints;
     }
 
-    read_steps : (m n : kept.Expander) (r s : Reader) (move : Step Read) (e : Expander R) → StandsIn m r e → m.held ≡ None → n.held ≡ None → m.frames ≡ []
+    read_steps : (m n : kept.Expander) (r s : Reader) (move : PlacedStep Read) (e : Expander R) → StandsIn m r e → m.held ≡ None → n.held ≡ None → m.frames ≡ []
         → n.frames ≡ [] → ReadsTo move e.reader s → FetchesTo (taken_as move n.frames s) e n s
     read_steps m n r s (Ok read) e stands free freed start end (y, reads, after) =
         let f : Expander R = record e { list = []; reader = y } in
@@ -203,7 +204,7 @@ module _ {R : Type 0} (I : Reading R) (StandsR : Reader → R → Type 0) (hidde
           freed,
         )
 
-    moved_simulates : (frames : List Frame) (m n : kept.Expander) (r s : Reader) (move : Step Read) (e : Expander R) → StandsIn m r e → m.held ≡ None
+    moved_simulates : (frames : List Frame) (m n : kept.Expander) (r s : Reader) (move : PlacedStep Read) (e : Expander R) → StandsIn m r e → m.held ≡ None
         → n.held ≡ None → m.frames ≡ frames → StandsR r e.reader → Moves frames r move n.frames s → wants_memory move ≡ false
         → FetchesTo (taken_as move n.frames s) e n s
     moved_simulates [] m n r s move e stands free freed start reader moves reported =
@@ -214,10 +215,10 @@ module _ {R : Type 0} (I : Reading R) (StandsR : Reader → R → Type 0) (hidde
         let steps : StepsList move (flat m.frames) (flat n.frames) = rw (start, is, becomes) (frame_steps f fs) in
         rw same (list_steps m n r move e stands free freed reader steps)
 
-    fetch_simulates : (m n : kept.Expander) (r s : Reader) (step : Step Read) (e : Expander R) → StandsIn m r e → StepsFetching m r step n s
+    fetch_simulates : (m n : kept.Expander) (r s : Reader) (step : PlacedStep Read) (e : Expander R) → StandsIn m r e → StepsFetching m r step n s
         → wants_memory step ≡ false → FetchesTo step e n s
     fetch_simulates m n r s step e stands (held step1 m1 n1 r1 s1 is at same) reported =
-        let reader : StandsHeld (Some step) r e.reader = subst (λ (o : Option (Step Read)). StandsHeld o r e.reader) is stands.reader in
+        let reader : StandsHeld (Some step) r e.reader = subst (λ (o : Option (PlacedStep Read)). StandsHeld o r e.reader) is stands.reader in
         let e_holds : e.held ≡ Some (outcome_of_step step) = stands.holds ∙ ap (option_map outcome_of_step) is in
         let frames : n.frames ≡ m.frames = ap (λ (k : kept.Expander). k.frames) at in
         held_steps step n s e e_holds (stands.list ∙ sym (ap flat frames)) (rw same reader) stands.names (ap (λ (k : kept.Expander). k.held) at)
@@ -231,7 +232,7 @@ module _ {R : Type 0} (I : Reading R) (StandsR : Reader → R → Type 0) (hidde
         masked_flat n s f stands ∙ ap (λ (hs : List Name). names_of n.frames ++ hs) (sym (hides s f.reader reader))
 
     -- what comes first is painted over frames as it is over their list
-    painted_to : (first : Step Read) (e : Expander R) (n : kept.Expander) (s : Reader) → n.held ≡ None → FetchesTo first e n s
+    painted_to : (first : PlacedStep Read) (e : Expander R) (n : kept.Expander) (s : Reader) → n.held ≡ None → FetchesTo first e n s
         → StepsTo (painted_step (masks n.frames s) first) e n s
     painted_to (Ok read) e n s freed (f, fetches, stands) = (
       f,
@@ -247,26 +248,26 @@ module _ {R : Type 0} (I : Reading R) (StandsR : Reader → R → Type 0) (hidde
     painted_to (Err (Error fault)) e n s freed (f, fetches, h1, h2, h3, h4, h5) =
         (f, record { first = given.Fault fault; fetches = fetches; paints = refl }, h1, h2, h3, h4, h5)
 
-    fetch_frees : (m n : kept.Expander) (r s : Reader) (step : Step Read) → StepsFetching m r step n s → n.held ≡ None
+    fetch_frees : (m n : kept.Expander) (r s : Reader) (step : PlacedStep Read) → StepsFetching m r step n s → n.held ≡ None
     fetch_frees m n r s step (held step1 m1 n1 r1 s1 is at same) = ap (λ (k : kept.Expander). k.held) at
     fetch_frees m n r s step (moved move step1 m1 n1 r1 s1 free moves is freed) = freed
 
-    pub step_frees : (m n : kept.Expander) (r s : Reader) (step : Step Read) → StepsTaking m r step n s → n.held ≡ None
+    pub step_frees : (m n : kept.Expander) (r s : Reader) (step : PlacedStep Read) → StepsTaking m r step n s → n.held ≡ None
     step_frees m n r s step steps = fetch_frees m n r s steps.first steps.fetches
 
-    pub step_simulates : (m n : kept.Expander) (r s : Reader) (step : Step Read) (e : Expander R) → StandsIn m r e → StepsTaking m r step n s
+    pub step_simulates : (m n : kept.Expander) (r s : Reader) (step : PlacedStep Read) (e : Expander R) → StandsIn m r e → StepsTaking m r step n s
         → wants_memory step ≡ false → StepsTo step e n s
     step_simulates m n r s step e stands steps reported =
         rw steps.paints (painted_to steps.first e n s (step_frees m n r s step steps) (fetch_simulates m n r s steps.first e stands steps.fetches
         (painted_reported (masks n.frames s) steps.first (rw steps.paints at reported))))
 
     -- what is taken next is taken by the definitions
-    abbrev pub NextTo : Step Read → Expander R → kept.Expander → Reader → Type 0
+    abbrev pub NextTo : PlacedStep Read → Expander R → kept.Expander → Reader → Type 0
     NextTo step e n s = (f : Expander R) × Takes I e (outcome_of_step step) f
         × StandsIn (record n { held = Some step }) s (record f { held = Some (outcome_of_step step) }) × (f.held ≡ None)
 
     -- the step itself may be held
-    held_back : (step : Step Read) (e : Expander R) (n : kept.Expander) (s : Reader) → is_pause step ≡ false → n.held ≡ None → StepsTo step e n s → NextTo step e n s
+    held_back : (step : PlacedStep Read) (e : Expander R) (n : kept.Expander) (s : Reader) → is_pause step ≡ false → n.held ≡ None → StepsTo step e n s → NextTo step e n s
     held_back (Ok read) e n s goes free (f, takes, stands) = (
       f,
       takes,
@@ -285,7 +286,7 @@ module _ {R : Type 0} (I : Reading R) (StandsR : Reader → R → Type 0) (hidde
     held_back (Err (Error fault)) e n s goes free (f, takes, names, names_then, list, none, freed) =
         (f, takes, record { holds = refl; list = list; reader = tt; names = names_then }, none)
 
-    pub next_simulates : (m n : kept.Expander) (r s : Reader) (step : Step Read) (e : Expander R) → StandsIn m r e → TakesNext m r step n s
+    pub next_simulates : (m n : kept.Expander) (r s : Reader) (step : PlacedStep Read) (e : Expander R) → StandsIn m r e → TakesNext m r step n s
         → wants_memory step ≡ false → NextTo step e n s
     next_simulates m n r s step e stands (now step1 m1 n1 r1 s1 steps goes) reported =
         held_back step e n s goes (step_frees m n r s step steps) (step_simulates m n r s step e stands steps reported)
@@ -294,7 +295,7 @@ module _ {R : Type 0} (I : Reading R) (StandsR : Reader → R → Type 0) (hidde
         let freed = next_simulates between n s1 s step first.0 first.1 next reported in
         (freed.0, first.2 (outcome_of_step step) freed.0 freed.1, freed.2, freed.3)
 
-    next_frees : (m n : kept.Expander) (r s : Reader) (step : Step Read) → TakesNext m r step n s → n.held ≡ None
+    next_frees : (m n : kept.Expander) (r s : Reader) (step : PlacedStep Read) → TakesNext m r step n s → n.held ≡ None
     next_frees m n r s step (now step1 m1 n1 r1 s1 steps goes) = step_frees m n r s step steps
     next_frees m n r s step (later step1 m1 between n1 r1 s1 t1 steps next) = next_frees between n s1 s step next
 
@@ -309,37 +310,37 @@ module _ {R : Type 0} (I : Reading R) (StandsR : Reader → R → Type 0) (hidde
           record {
             holds = h.3 ∙ sym (ap (option_map outcome_of_step) free);
             list = h.2.list;
-            reader = subst (λ (o : Option (Step Read)). StandsHeld o s h.0.reader) (sym free) h.2.reader;
+            reader = subst (λ (o : Option (PlacedStep Read)). StandsHeld o s h.0.reader) (sym free) h.2.reader;
             names = h.2.names;
           },
         )
 
     -- the search for the end of a call is that of the definitions
-    abbrev pub GathersTo : ℕ → Location → Expander R → Result Gathered Fault → kept.Expander → Reader → Type 0
+    abbrev pub GathersTo : ℕ → Place → Expander R → Result Gathered PlacedFault → kept.Expander → Reader → Type 0
     GathersTo k last e (Ok g) n s = (f : Expander R) × Gathers I k last e (Ok g) f × StandsIn n s f
     GathersTo k last e (Err fault) n s = (f : Expander R) × Gathers I k last e (Err fault) f × (f.list ≡ flat n.frames) × (n.held ≡ None)
 
-    inside_to : (k l : ℕ) (last : Location) (read : Read) (e f : Expander R) (rest : Result Gathered Fault) (n : kept.Expander) (s : Reader)
-        → Takes I e (given.Token read) f → calls.nesting k read.token.value ≡ calls.within l → GathersTo l read.token.location f rest n s
+    inside_to : (k l : ℕ) (last : Place) (read : Read) (e f : Expander R) (rest : Result Gathered PlacedFault) (n : kept.Expander) (s : Reader)
+        → Takes I e (given.Token read) f → calls.nesting k read.token.value ≡ calls.within l → GathersTo l (place_of read) f rest n s
         → GathersTo k last e (before read rest) n s
     inside_to k l last read e f (Ok g) n s takes is (h, gathers, stands) =
         (h, calls.inside k l last read e f h (Ok g) (before read (Ok g)) takes is gathers refl, stands)
     inside_to k l last read e f (Err fault) n s takes is (h, gathers, list, freed) =
         (h, calls.inside k l last read e f h (Err fault) (before read (Err fault)) takes is gathers refl, list, freed)
 
-    pub gather_simulates : (k : ℕ) (last : Location) (m n : kept.Expander) (r s : Reader) (g : Result Gathered Fault) (e : Expander R) → StandsIn m r e
+    pub gather_simulates : (k : ℕ) (last : Place) (m n : kept.Expander) (r s : Reader) (g : Result Gathered PlacedFault) (e : Expander R) → StandsIn m r e
         → GathersNext k last m r g n s → GathersTo k last e g n s
     gather_simulates k last m n r s g e stands (closed k1 last1 read m1 n1 r1 s1 g1 next out is) =
         let h = token_stands read m n r s e stands next in
         rw is (h.0, calls.closed k last read e h.0 (Ok (record { tokens = []; closing = read.token.location })) h.1 out refl, h.2)
     gather_simulates k last m n r s g e stands (inside k1 l last1 read m1 between n1 r1 s1 t1 rest g1 next in_call more is) =
         let h = token_stands read m between r s1 e stands next in
-        rw is (inside_to k l last read e h.0 rest n s h.1 in_call (gather_simulates l read.token.location between n s1 s rest h.0 h.2 more))
+        rw is (inside_to k l last read e h.0 rest n s h.1 in_call (gather_simulates l (place_of read) between n s1 s rest h.0 h.2 more))
     gather_simulates k last m n r s g e stands (overfull k1 last1 read m1 n1 r1 s1 g1 next out is) =
         let h = token_stands read m n r s e stands next in
         rw is (
           h.0,
-          calls.overfull k last read e h.0 (Err (IntegerOverflow, read.token.location)) h.1 out refl,
+          calls.overfull k last read e h.0 (Err (IntegerOverflow, place_of read)) h.1 out refl,
           h.2.list,
           next_frees m n r s (Ok read) next,
         )

@@ -1,7 +1,7 @@
 -- What a token becomes when it is taken, and which macro it opens, over frames and over their splice list.
 use Rattle.std.proofs.Common.{◌≡◌, ◌∙◌, ℕ, List, ap, Option, Some, None, option_map}
 use Rattle.std.specs.Prelude.{if◌then◌else◌, unwrap_or}
-use Rattle.pp_lexer.specs.declared.token.Token.{Token}
+use Rattle.pp_model.specs.Places.{place_of}
 use Rattle.pp_model.specs.declared.read.Read.{Read}
 use Rattle.pp_model.specs.Names.{Name, is_identifier, line_name}
 use Rattle.pp_model.specs.Definitions.{Definition}
@@ -22,9 +22,9 @@ taken_flat shown frames reader read same =
     let place = λ (line : Option ℕ). unwrap_or line read.token.location.line in
     let number : shown (place (outermost_line (flat frames))) ≡ shown_line reader (place (outermost_frame_line frames)) =
     ap (λ call. shown (place (option_map (λ c. c.line) call))) (outermost_flat frames) ∙ same (place (outermost_frame_line frames)) in
-    ap (λ n. if is_identifier line_name read.token.value then line_number read.token.location n else given.Token read) number
+    ap (λ n. if is_identifier line_name read.token.value then line_number (place_of read) n else given.Token read) number
 
 -- a macro that a token opens
-abbrev pub as_opening : Token → Option (Name × Definition) → Option Opening
-as_opening token None = None
-as_opening token (Some (name, definition)) = Some (record { token = token; name = name; definition = definition })
+abbrev pub as_opening : Read → Option (Name × Definition) → Option Opening
+as_opening read None = None
+as_opening read (Some (name, definition)) = Some (record { text = read.text; token = read.token; name = name; definition = definition })

@@ -1,7 +1,8 @@
 -- Each turn of an expander with calls leads the definitions' expander to the same item, for every kind of reader.
 use Rattle.std.proofs.Common.{◌≡◌, ◌∙◌, true, false, ℕ, Bool, List, [], ◌∷◌, refl, sym, ap, subst, Option, Some, None}
 use Rattle.std.specs.Prelude.{if◌then◌else◌, ◌||◌, Result, Ok, Err}
-use Rattle.pp_lexer.specs.declared.token.Location.{Location}
+use Rattle.pp_model.specs.declared.place.Place.{Place}
+use Rattle.pp_model.specs.Places.{PlacedFault}
 use Rattle.pp_model.specs.declared.read.Read.{Read}
 use Rattle.pp_lexer.specs.declared.token.TokenValue.{TokenValue}
 use Rattle.pp_lexer.specs.declared.token.TokenValue.TheVariants.{Ident}
@@ -11,7 +12,7 @@ use Rattle.pp_model.specs.Reading.{Reading, Expander, Opening, opening, opening_
 use Rattle.pp_model.specs.inner.Reading.{opening_by}
 use Rattle.pp_model.specs.Taking.{Takes}
 use Rattle.pp_model.specs.Calls as calls
-use Rattle.pp_model.specs.Calls.{Fault, Gathered, Answers, paren_at, is_left_paren, site_of}
+use Rattle.pp_model.specs.Calls.{Gathered, Answers, paren_at, is_left_paren, site_of}
 use Rattle.pp_model.specs.Emitting as emitting
 use Rattle.pp_model.specs.Emitting.{Emits, with_macro}
 use Rattle.pp_model.specs.inner.Emitting.{holding}
@@ -21,7 +22,7 @@ use Rattle.pp_model.specs.declared.splice.Entry.{Entry}
 use Rattle.pp_model.specs.declared.read.Taken.TheVariants as given
 use Rattle.pp_model.specs.declared.splice.CallPlace.{CallPlace}
 use Rattle.pp_macros.specs.inner.CallTurns.{Sought, no_call, Seeks, alone, called, Finds, TurnsTo, passes, gives, object, seeks, paren_of, sought_by}
-use Rattle.pp_macros.specs.Item.{Step, wants_memory}
+use Rattle.pp_macros.specs.Item.{PlacedStep, wants_memory}
 use Rattle.pp_macros.specs.inner.Frames.{new_frame, flat, bare_call}
 use Rattle.pp_macros.specs.inner.Expander as kept
 use Rattle.pp_macros.specs.inner.Expander.{outcome_of_step, StepsTaking, TakesNext}
@@ -30,8 +31,8 @@ use Rattle.pp_macros.specs.inner.Turns.{macro_of, macro_of_value}
 use Rattle.pp_macros.specs.inner.Defined.{Macro, opened_by}
 use Rattle.pp_macros.specs.declared.calls.Taken.{Taken}
 use Rattle.pp_macros.specs.declared.calls.Taken.TheVariants as taken
-use Rattle.pp_macros.specs.declared.step.StepExit.{StepExit}
-use Rattle.pp_macros.specs.declared.step.StepExit.TheVariants.{Error, Continue, Finished}
+use Rattle.pp_macros.specs.declared.step.PlacedExit.{PlacedExit}
+use Rattle.pp_macros.specs.declared.step.PlacedExit.TheVariants.{Error, Continue, Finished}
 pub use Rattle.pp_macros.proofs.open_frames.ReportedLemmas.{wants_taken}
 use Rattle.pp_macros.proofs.open_frames.ReportedLemmas.{exit_reported, not_refused}
 use Rattle.pp_macros.proofs.open_frames.FlatLemmas.{outermost_flat}
@@ -43,23 +44,23 @@ use Rattle.pp_macros.proofs.taking.SearchSimulates.{step_frees, GathersTo, Reads
 
 -- the call from which an item comes before which the list was `before` and after which it is `after`: what is held was met in the
 -- search for a `(` after the item
-abbrev pub item_call_after : Option (Step Read) → List Entry → List Entry → Option CallPlace
+abbrev pub item_call_after : Option (PlacedStep Read) → List Entry → List Entry → Option CallPlace
 item_call_after None before after = outermost_call after
 item_call_after (Some step) before after = outermost_call before
 
 module _ {R : Type 0} (I : Reading R) (StandsR : Reader → R → Type 0) (hidden : List Name)
-    (simulates : (r s : Reader) (x : R) (step : Step Read) → StandsR r x → Reads r step s → wants_memory step ≡ false → ReadsTo I StandsR hidden step x s)
+    (simulates : (r s : Reader) (x : R) (step : PlacedStep Read) → StandsR r x → Reads r step s → wants_memory step ≡ false → ReadsTo I StandsR hidden step x s)
     (shows : (s : Reader) (y : R) (line : ℕ) → StandsR s y → I.shown_line y line ≡ shown_line s line)
     (hides : (s : Reader) (y : R) → StandsR s y → hidden_of s ≡ hidden)
     (sees : (s : Reader) (y : R) (name : Name) → StandsR s y → visible s name ≡ (if I.is_reserved name then None else I.visible y name))
     (A : Answers) where
   -- what one turn is to the expander
-  abbrev pub LeadsTo : Step Taken → Expander R → kept.Expander → Reader → Type 0
+  abbrev pub LeadsTo : PlacedStep Taken → Expander R → kept.Expander → Reader → Type 0
   LeadsTo (Ok (taken.Token read)) e n s = (f : Expander R) × (emits : Emits I A e (given.Token read) f) × StandsIn I StandsR hidden n s f
       × (item_call emits ≡ item_call_after n.held e.list f.list)
   LeadsTo (Ok (taken.Call c)) e n s =
       (f : Expander R) × StandsIn I StandsR hidden n s f
-      × ((fault : Fault) → A c.opened.definition (site_of I f c.paren c.tokens) (Err fault)
+      × ((fault : PlacedFault) → A c.opened.definition (site_of I f c.paren c.tokens) (Err fault)
       → (emits : Emits I A e (given.Fault fault) f) × (item_call emits ≡ outermost_call f.list))
       × ((arguments : List (List Read)) → A c.opened.definition (site_of I f c.paren c.tokens) (Ok arguments)
       → EmitsLater I A e (record f { list = macro_before c.opened.name c.opened.definition c.call arguments f.list }))
@@ -71,24 +72,24 @@ module _ {R : Type 0} (I : Reading R) (StandsR : Reader → R → Type 0) (hidde
 
   -- the macro that a token opens over frames is the one that it opens over their list
   opens_same : (s : Reader) (f : Expander R) (read : Read) → StandsR s f.reader
-      → opening I f (given.Token read) ≡ as_opening read.token (macro_of s read)
+      → opening I f (given.Token read) ≡ as_opening read (macro_of s read)
   opens_same s f read reader = go read.token.value
     where
-      paint : (reserved painted : Bool) (name : Name) (d : Option Definition) → (if reserved || painted then None else opening_by read.token name d)
-          ≡ as_opening read.token (if painted then None else opened_by name (if reserved then None else d))
+      paint : (reserved painted : Bool) (name : Name) (d : Option Definition) → (if reserved || painted then None else opening_by read name d)
+          ≡ as_opening read (if painted then None else opened_by name (if reserved then None else d))
       paint true true name d = refl
       paint true false name d = refl
       paint false true name d = refl
       paint false false name None = refl
       paint false false name (Some d) = refl
 
-      unopened : (painted : Bool) → None ≡ as_opening read.token (if painted then None else None)
+      unopened : (painted : Bool) → None ≡ as_opening read (if painted then None else None)
       unopened true = refl
       unopened false = refl
 
-      go : (value : TokenValue) → opening_of I f read value ≡ as_opening read.token (if read.painted then None else macro_of_value s value)
+      go : (value : TokenValue) → opening_of I f read value ≡ as_opening read (if read.painted then None else macro_of_value s value)
       go (Ident name) = paint (I.is_reserved name) read.painted name (I.visible f.reader name)
-          ∙ ap (λ d. as_opening read.token (if read.painted then None else opened_by name d)) (sym (sees s f.reader name reader))
+          ∙ ap (λ d. as_opening read (if read.painted then None else opened_by name d)) (sym (sees s f.reader name reader))
       go _ = unopened read.painted
 
   -- after a token the reader stands
@@ -99,11 +100,11 @@ module _ {R : Type 0} (I : Reading R) (StandsR : Reader → R → Type 0) (hidde
         h.0,
         h.1,
         h.2,
-        subst (λ (o : Option (Step Read)). StandsHeld I StandsR hidden o s h.0.reader)
+        subst (λ (o : Option (PlacedStep Read)). StandsHeld I StandsR hidden o s h.0.reader)
             (step_frees I StandsR hidden simulates shows hides m n r s (Ok read) steps) h.2.reader,
       )
 
-  exit_leads : (exit : StepExit) (m n : kept.Expander) (r s : Reader) (e : Expander R) → StandsIn I StandsR hidden m r e → StepsTaking m r (Err exit) n s
+  exit_leads : (exit : PlacedExit) (m n : kept.Expander) (r s : Reader) (e : Expander R) → StandsIn I StandsR hidden m r e → StepsTaking m r (Err exit) n s
       → wants_memory {T = Read} (Err exit) ≡ false → LeadsTo (Err exit) e n s
   exit_leads Continue m n r s e stands steps reported =
       let h = step_simulates I StandsR hidden simulates shows hides m n r s (Err Continue) e stands steps refl in
@@ -120,25 +121,25 @@ module _ {R : Type 0} (I : Reading R) (StandsR : Reader → R → Type 0) (hidde
       let h = step_simulates I StandsR hidden simulates shows hides m n r s (Err (Error fault)) e stands steps reported in
       (h.0, emitting.itself (given.Fault fault) e h.0 h.1 refl, h.4, h.6, refl)
 
-  no_paren : (next : Step Read) → paren_of next ≡ None → paren_at (outcome_of_step next) ≡ None
+  no_paren : (next : PlacedStep Read) → paren_of next ≡ None → paren_at (outcome_of_step next) ≡ None
   no_paren (Ok read) h = h
   no_paren (Err Continue) h = refl
   no_paren (Err Finished) h = refl
   no_paren (Err (Error fault)) h = refl
 
-  some_paren : (next : Step Read) (paren : Location) → paren_of next ≡ Some paren → (read : Read) × (next ≡ Ok read)
+  some_paren : (next : PlacedStep Read) (paren : Place) → paren_of next ≡ Some paren → (read : Read) × (next ≡ Ok read)
       × (paren_at (given.Token read) ≡ Some paren)
   some_paren (Ok read) paren h = (read, refl, h)
   some_paren (Err exit) paren h = cc
 
   -- a call that was gathered, or its fault
-  call_leads : (read : Read) (opened : Macro) (first : Read) (paren : Location) (step : Step Taken)
-      (p q : kept.Expander) (t : Reader) (e f h : Expander R) (g : Result Gathered Fault) → Takes I e (given.Token read) f
-      → opening I f (given.Token read) ≡ Some (record { token = read.token; name = opened.name; definition = opened.definition }) → opened.definition.function_like ≡ true
+  call_leads : (read : Read) (opened : Macro) (first : Read) (paren : Place) (step : PlacedStep Taken)
+      (p q : kept.Expander) (t : Reader) (e f h : Expander R) (g : Result Gathered PlacedFault) → Takes I e (given.Token read) f
+      → opening I f (given.Token read) ≡ Some (record { text = read.text; token = read.token; name = opened.name; definition = opened.definition }) → opened.definition.function_like ≡ true
       → Takes I f (given.Token first) h → paren_at (given.Token first) ≡ Some paren
       → GathersTo I StandsR hidden simulates shows hides 0 paren h g p t → Finds read opened (sought_by paren g) step p q → LeadsTo step e q t
   call_leads read opened first paren step p q t e f h (Err fault) takes macro_of function takes_paren at (k, gathers, list, freed) (is, becomes) =
-      let m : Opening = record { token = read.token; name = opened.name; definition = opened.definition } in
+      let m : Opening = record { text = read.text; token = read.token; name = opened.name; definition = opened.definition } in
       rw (is, becomes) (
         k,
         emitting.call_refused (given.Token read) (given.Fault fault) fault m e f k takes macro_of function
@@ -148,7 +149,7 @@ module _ {R : Type 0} (I : Reading R) (StandsR : Reader → R → Type 0) (hidde
         refl,
       )
   call_leads read opened first paren step p q t e f h (Ok g) takes macro_of function takes_paren at (k, gathers, stands) (is, becomes) =
-      let m : Opening = record { token = read.token; name = opened.name; definition = opened.definition } in
+      let m : Opening = record { text = read.text; token = read.token; name = opened.name; definition = opened.definition } in
       rw (is, becomes) (
         k,
         stands,
@@ -165,12 +166,12 @@ module _ {R : Type 0} (I : Reading R) (StandsR : Reader → R → Type 0) (hidde
       )
 
   -- what is sought after a name
-  seek_leads : (read : Read) (opened : Macro) (c : Sought) (step : Step Taken)
+  seek_leads : (read : Read) (opened : Macro) (c : Sought) (step : PlacedStep Taken)
       (n p q : kept.Expander) (s t : Reader) (e f : Expander R) → Takes I e (given.Token read) f → StandsIn I StandsR hidden n s f
-      → opening I f (given.Token read) ≡ Some (record { token = read.token; name = opened.name; definition = opened.definition }) → opened.definition.function_like ≡ true
+      → opening I f (given.Token read) ≡ Some (record { text = read.text; token = read.token; name = opened.name; definition = opened.definition }) → opened.definition.function_like ≡ true
       → outermost_call f.list ≡ outermost_call e.list → Seeks n s c p t → Finds read opened c step p q → LeadsTo step e q t
   seek_leads read opened c step n p q s t e f takes stands macro_of function same (alone next n1 p1 s1 t1 c1 taken_next none reported is) found =
-      let m : Opening = record { token = read.token; name = opened.name; definition = opened.definition } in
+      let m : Opening = record { text = read.text; token = read.token; name = opened.name; definition = opened.definition } in
       let h = next_simulates I StandsR hidden simulates shows hides n p s t next f stands taken_next (not_refused next reported) in
       let found' : Finds read opened (no_call next) step p q = subst (λ (x : Sought). Finds read opened x step p q) is found in
       rw (found'.0, found'.1) (
@@ -185,22 +186,22 @@ module _ {R : Type 0} (I : Reading R) (StandsR : Reader → R → Type 0) (hidde
       (called next paren n1 between p1 s1 u t1 g c1 taken_next at gathers is) found =
       let first = some_paren next paren at in
       let h = SearchSimulates.token_stands I StandsR hidden simulates shows hides first.0 n between s u f stands
-      (subst (λ (x : Step Read). TakesNext n s x between u) first.1 taken_next) in
+      (subst (λ (x : PlacedStep Read). TakesNext n s x between u) first.1 taken_next) in
       call_leads read opened first.0 paren step p q t e f h.0 g takes macro_of function h.1 first.2
       (gather_simulates I StandsR hidden simulates shows hides 0 paren between p u t g h.0 h.2 gathers)
       (subst (λ (x : Sought). Finds read opened x step p q) is found)
 
   object_leads : (read : Read) (opened : Macro) (n p : kept.Expander) (s : Reader) (e f : Expander R)
       → Takes I e (given.Token read) f → StandsIn I StandsR hidden n s f → n.held ≡ None
-      → opening I f (given.Token read) ≡ Some (record { token = read.token; name = opened.name; definition = opened.definition }) → opened.definition.function_like ≡ false
-      → p ≡ record n { frames = new_frame opened (bare_call read.token.location) [] ∷ n.frames } → LeadsTo (Err Continue) e p s
+      → opening I f (given.Token read) ≡ Some (record { text = read.text; token = read.token; name = opened.name; definition = opened.definition }) → opened.definition.function_like ≡ false
+      → p ≡ record n { frames = new_frame opened (bare_call read.text read.token.location) [] ∷ n.frames } → LeadsTo (Err Continue) e p s
   object_leads read opened n p s e f takes stands free macro_of plain is =
-      let m : Opening = record { token = read.token; name = opened.name; definition = opened.definition } in
+      let m : Opening = record { text = read.text; token = read.token; name = opened.name; definition = opened.definition } in
       rw is (
         with_macro m read.token.location.line [] f,
         record {
           holds = stands.holds;
-          list = ap (macro_before opened.name opened.definition (bare_call read.token.location) []) stands.list;
+          list = ap (macro_before opened.name opened.definition (bare_call read.text read.token.location) []) stands.list;
           reader = stands.reader;
           names = stands.names;
         },
@@ -208,11 +209,11 @@ module _ {R : Type 0} (I : Reading R) (StandsR : Reader → R → Type 0) (hidde
       )
 
   as_opens : (s : Reader) (f : Expander R) (read : Read) (m : Option (Name × Definition)) → StandsR s f.reader → macro_of s read ≡ m
-      → opening I f (given.Token read) ≡ as_opening read.token m
-  as_opens s f read m reader is = opens_same s f read reader ∙ ap (as_opening read.token) is
+      → opening I f (given.Token read) ≡ as_opening read m
+  as_opens s f read m reader is = opens_same s f read reader ∙ ap (as_opening read) is
 
   -- One turn: a token, a fault or the end is the next item, a pause keeps it, and a call goes on by its answer.
-  pub turn_leads : (m n : kept.Expander) (r s : Reader) (step : Step Taken) (e : Expander R) → StandsIn I StandsR hidden m r e → TurnsTo m r step n s
+  pub turn_leads : (m n : kept.Expander) (r s : Reader) (step : PlacedStep Taken) (e : Expander R) → StandsIn I StandsR hidden m r e → TurnsTo m r step n s
       → wants_taken step ≡ false → LeadsTo step e n s
   turn_leads m n r s step e stands (passes exit step1 m1 n1 r1 s1 steps is) reported =
       rw is (exit_leads exit m n r s e stands steps (exit_reported exit (rw is at reported)))

@@ -35,7 +35,7 @@ pub use Rattle.pp_macros.specs.inner.Nesting.{AreKnown, MayWait, seen_by}
 pub use Rattle.pp_macros.specs.inner.Reader.{of_list}
 pub use Rattle.pp_macros.specs.contracts.list_lexer.ListLexer.{the_row as source_row}
 pub use Rattle.pp_macros.specs.contracts.macro_processor.MacroProcessor.{the_row as P}
-pub use Rattle.pp_macros.specs.contracts.step.StepExit.{the_row as exit_row}
-pub use Rattle.pp_macros.proofs.step.StepExit.TheLaws.{the_row_laws as exit_laws}
+pub use Rattle.pp_macros.specs.contracts.step.PlacedExit.{the_row as exit_row}
+pub use Rattle.pp_macros.proofs.step.PlacedExit.TheLaws.{the_row_laws as exit_laws}
 pub use Rattle.std.specs.contracts.result.Result.{the_row as result_row}
 pub use Rattle.std.proofs.result.Result.TheLaws.{the_row_laws as result_laws}

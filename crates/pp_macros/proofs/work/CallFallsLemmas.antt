@@ -1,10 +1,11 @@
 -- Each turn of an expander with calls lowers what is left to do, and so does the frame that opens after a call.
 use Rattle.std.proofs.Common.{◌≡◌, ℕ, suc, ◌+◌, ◌<◌, ◌≤◌, Bool, true, false, if◌then◌else◌, List, [], ◌∷◌, length, arith, ap, subst, refl, le_trans, Option, Some, None, All, Ok, Err, inl, inr, ◌∙◌}
 use Rattle.std.specs.Prelude.{IfOk, Result}
+use Rattle.pp_model.specs.Places.{PlacedFault}
 use Rattle.pp_model.specs.declared.read.Read.{Read}
 use Rattle.pp_lexer.specs.declared.token.TokenValue.{TokenValue}
 use Rattle.pp_lexer.specs.declared.token.TokenValue.TheVariants.{Ident}
-use Rattle.pp_model.specs.Calls.{Fault, Gathered}
+use Rattle.pp_model.specs.Calls.{Gathered}
 use Rattle.pp_model.specs.Definitions.{Definition}
 use Rattle.pp_model.specs.Names.{Name, is_in}
 use Rattle.pp_model.specs.declared.splice.CallPlace.{CallPlace}
@@ -12,7 +13,7 @@ use Rattle.pp_macros.specs.inner.Calling.{MacroCall}
 use Rattle.pp_macros.specs.inner.CallTurns.{Sought, no_call, sought_by, Seeks, alone, called, Finds, TurnsTo, TurnsOrRefuses, passes, gives, object, seeks, paren_of}
 use Rattle.pp_macros.specs.inner.Defined.{Macro, AreNumbered, meaning_of, names_in, numbered_by, body_tokens, opened_by}
 use Rattle.pp_macros.specs.inner.Frames.{new_frame, names_of, bare_call}
-use Rattle.pp_macros.specs.Item.{Step, wants_memory}
+use Rattle.pp_macros.specs.Item.{PlacedStep, wants_memory}
 use Rattle.pp_macros.specs.inner.Left.{reads_left, most_open, most_bodies, one_more, regions_of, regions, work_of, IsSound, most_alone}
 use Rattle.pp_macros.specs.inner.Expander.{Expander, StepsTaking, GathersNext}
 use Rattle.pp_macros.specs.inner.Reach.{total}
@@ -20,8 +21,8 @@ use Rattle.pp_macros.specs.inner.Reader.{Reader, of_source, of_list, visible, de
 use Rattle.pp_macros.specs.inner.Turns.{macro_of, macro_of_value, Opens}
 use Rattle.pp_macros.specs.declared.calls.Taken.{Taken}
 use Rattle.pp_macros.specs.declared.calls.Taken.TheVariants as taken
-use Rattle.pp_macros.specs.declared.step.StepExit.{StepExit}
-use Rattle.pp_macros.specs.declared.step.StepExit.TheVariants.{Error, Continue, Finished}
+use Rattle.pp_macros.specs.declared.step.PlacedExit.{PlacedExit}
+use Rattle.pp_macros.specs.declared.step.PlacedExit.TheVariants.{Error, Continue, Finished}
 use Rattle.pp_macros.proofs.open_frames.AdvanceLemmas.{body_within}
 use Rattle.pp_macros.proofs.open_frames.PaintLemmas.{opens_apart}
 use Rattle.pp_macros.proofs.open_frames.ReportedLemmas.{wants_taken, exit_reported, not_refused}
@@ -107,7 +108,7 @@ pub record IsLess (levels : ℕ) (m : Expander) (r : Reader) (n : Expander) (s :
   pub tight : Tightens r s
   pub sound : IsSound n s
 
-abbrev pub FallsBy : ℕ → Expander → Reader → Step Taken → Expander → Reader → Type 0
+abbrev pub FallsBy : ℕ → Expander → Reader → PlacedStep Taken → Expander → Reader → Type 0
 FallsBy levels m r (Ok (taken.Call c)) n s = IsPending levels m r c n s
 FallsBy levels m r (Err Finished) n s = IsSound n s
 FallsBy levels m r _ n s = IsLess levels m r n s
@@ -120,7 +121,7 @@ module _ (levels : ℕ) (m : Expander) (r : Reader) (sound : IsSound m r) where
       → IsLess levels m r n s
   less_by n s tight falls kept = record { falls = falls_work levels m n r s tight falls; tight = tight; sound = kept }
 
-  exit_falls : (exit : StepExit) (n : Expander) (s : Reader) → StepsTaking m r (Err exit) n s → wants_memory {T = Read} (Err exit) ≡ false
+  exit_falls : (exit : PlacedExit) (n : Expander) (s : Reader) → StepsTaking m r (Err exit) n s → wants_memory {T = Read} (Err exit) ≡ false
       → FallsBy levels m r (Err exit) n s
   exit_falls Continue n s steps reported =
       let h = step_spends (frame_of levels r) (most_open r) rises (Err Continue) m n r s steps refl in
@@ -162,7 +163,7 @@ module _ (levels : ℕ) (m : Expander) (r : Reader) (sound : IsSound m r) where
       }
 
   -- what is sought after a name
-  seek_falls : (read : Read) (opened : Macro) (c : Sought) (step : Step Taken) (n p q : Expander) (s t : Reader)
+  seek_falls : (read : Read) (opened : Macro) (c : Sought) (step : PlacedStep Taken) (n p q : Expander) (s t : Reader)
       → IsTokenTaken n s → IsFound n s opened → Seeks n s c p t → Finds read opened c step p q → FallsBy levels m r step q t
   seek_falls read opened c step n p q s t h found (alone next n1 p1 s1 t1 c1 taken_next none reported is) finds =
       let quiet : wants_memory next ≡ false = not_refused next reported in
@@ -175,11 +176,11 @@ module _ (levels : ℕ) (m : Expander) (r : Reader) (sound : IsSound m r) where
   seek_falls read opened c step n p q s t h found (called next paren n1 between p1 s1 u t1 g c1 taken_next at gathers is) finds =
       go g gathers (subst (λ (x : Sought). Finds read opened x step p q) is finds)
     where
-      first : (next : Step Read) → paren_of next ≡ Some paren → wants_memory next ≡ false
+      first : (next : PlacedStep Read) → paren_of next ≡ Some paren → wants_memory next ≡ false
       first (Ok read) e = refl
       first (Err exit) e = cc
 
-      go : (g : Result Gathered Fault) → GathersNext 0 paren between u g p t → Finds read opened (sought_by paren g) step p q
+      go : (g : Result Gathered PlacedFault) → GathersNext 0 paren between u g p t → Finds read opened (sought_by paren g) step p q
           → FallsBy levels m r step q t
       go (Err fault) gathers finds =
           let k = next_left (frame_of levels r) (most_open r) rises next n between s u taken_next (first next at) in
@@ -217,13 +218,13 @@ module _ (levels : ℕ) (m : Expander) (r : Reader) (sound : IsSound m r) where
   }
 
   -- each turn lowers what is left; after a call there is room for its frame
-  pub turn_falls : (step : Step Taken) (n : Expander) (s : Reader) → TurnsTo m r step n s → wants_taken step ≡ false → FallsBy levels m r step n s
+  pub turn_falls : (step : PlacedStep Taken) (n : Expander) (s : Reader) → TurnsTo m r step n s → wants_taken step ≡ false → FallsBy levels m r step n s
   turn_falls step n s (passes exit step1 m1 n1 r1 s1 steps is) reported = rw is (exit_falls exit n s steps (exit_reported exit (rw is at reported)))
   turn_falls step n s (gives read step1 m1 n1 r1 s1 steps none is) reported =
       let h = token_taken read n s steps in
       rw is (less_by n s h.tight (token_falls n s h) h.kept)
   turn_falls step p s (object read opened step1 m1 n p1 r1 s1 steps some plain is at) reported =
-      rw (is, at) (object_falls opened (bare_call read.token.location) n s (token_taken read n s steps)
+      rw (is, at) (object_falls opened (bare_call read.text read.token.location) n s (token_taken read n s steps)
       (taken_found read opened n s steps some))
   turn_falls step q t (seeks read opened c step1 m1 n p q1 r1 s t1 steps some function sought found) reported =
       seek_falls read opened c step n p q s t (token_taken read n s steps) (taken_found read opened n s steps some)
@@ -246,7 +247,7 @@ pending_opens levels m r c n s arguments pending all =
     }
 
 -- nothing is held after a call
-sought_free : (n p q : Expander) (s t : Reader) (read : Read) (opened : Macro) (c : Sought) (step : Step Taken) (call : MacroCall)
+sought_free : (n p q : Expander) (s t : Reader) (read : Read) (opened : Macro) (c : Sought) (step : PlacedStep Taken) (call : MacroCall)
     → step ≡ Ok (taken.Call call) → Seeks n s c p t → Finds read opened c step p q → q.held ≡ None
 sought_free n p q s t read opened c step call is (alone next n1 p1 s1 t1 c1 next_taken none reported at) found =
     let found' : Finds read opened (no_call next) step p q = subst (λ (x : Sought). Finds read opened x step p q) at found in
@@ -254,12 +255,12 @@ sought_free n p q s t read opened c step call is (alone next n1 p1 s1 t1 c1 next
 sought_free n p q s t read opened c step call is (called next paren n1 between p1 s1 u t1 g c1 next_taken opens gathers at) found =
     go g (gather_leaves (λ c. c) 0 (λ a b low. low) 0 paren between p u t g gathers) (subst (λ (x : Sought). Finds read opened x step p q) at found)
   where
-    go : (g : Result Gathered Fault) → IfOk g (λ h. IsGathered (λ c. c) 0 (λ a b low. low) h between p u t)
+    go : (g : Result Gathered PlacedFault) → IfOk g (λ h. IsGathered (λ c. c) 0 (λ a b low. low) h between p u t)
         → Finds read opened (sought_by paren g) step p q → q.held ≡ None
     go (Err fault) left found = let other = found.0 in cc
     go (Ok h) left found = ap (λ (e : Expander). e.held) found.1 ∙ left.free
 
-pub call_free : (m n : Expander) (r s : Reader) (step : Step Taken) (call : MacroCall) → step ≡ Ok (taken.Call call) → TurnsOrRefuses m r step n s
+pub call_free : (m n : Expander) (r s : Reader) (step : PlacedStep Taken) (call : MacroCall) → step ≡ Ok (taken.Call call) → TurnsOrRefuses m r step n s
     → n.held ≡ None
 call_free m n r s step call is (inr refused) = let other = refused.fault in cc
 call_free m n r s step call is (inl (passes exit step1 m1 n1 r1 s1 steps other)) = cc

@@ -8,8 +8,8 @@ use Rattle.pp_lexer.specs.declared.lexer.item.TokenValue.{TokenValue as LexerTok
 use Rattle.pp_lexer.specs.declared.lexer.item.TokenValue.TheVariants.{Ident as LexerIdent}
 use Rattle.pp_lexer.specs.declared.token.Location.{Location}
 use Rattle.pp_lexer.specs.declared.token.Token.{Token}
+use Rattle.pp_model.specs.Places.{Fault, source_text}
 use Rattle.pp_model.specs.Names.{Name}
-use Rattle.pp_model.specs.Calls.{Fault}
 use Rattle.pp_model.specs.Conversions.{is_newline, identifier_of}
 use Rattle.pp_model.specs.Definitions.{Definition, object_like}
 use Rattle.pp_lexer.specs.declared.token.PreprocessorError.TheVariants.{UnexpectedToken}
@@ -26,7 +26,7 @@ use Rattle.pp_macros.proofs.work.LinePartsLemmas.{name_or_refused_is}
 use Rattle.pp_macros.proofs.work.ParameterLemmas.{function_least, paren_goes_on}
 
 body_least : (r : Result (List Token) Fault) (n : ℕ) → IfOk r (λ tokens. length tokens ≤ n)
-    → IfOk (r >>= λ body. Ok (object_like body)) (λ definition. length definition.body ≤ n)
+    → IfOk (r >>= λ body. Ok (object_like source_text body)) (λ definition. length definition.body ≤ n)
 body_least (Err fault) n h = tt
 body_least (Ok tokens) n h = h
 
@@ -37,7 +37,7 @@ no_longer (Ok definition) m n low h = omega arith
 
 -- with parameters, where a `(` stands directly after the name, or without
 definition_by : (word : Location) (item : Lexeme) (had : Bool) (rest : List Seen) (attached : Bool) → is_attached_paren item ≡ attached
-    → IfOk (if attached then function_at word rest else (line_tokens (record { item = item; had_comments = had } ∷ rest) >>= λ body. Ok (object_like body)))
+    → IfOk (if attached then function_at word rest else (line_tokens (record { item = item; had_comments = had } ∷ rest) >>= λ body. Ok (object_like source_text body)))
     (λ definition. length definition.body ≤ line_length (record { item = item; had_comments = had } ∷ rest))
 definition_by word item had rest true e =
     no_longer (function_at word rest) (line_length rest) (line_length (record { item = item; had_comments = had } ∷ rest))

@@ -11,7 +11,7 @@ use Rattle.pp_model.specs.Moves.{Effect, gives, gives_item, fails, ends, passes,
 use Rattle.pp_macros.specs.inner.OpenBlocks.{BlockChange}
 use Rattle.pp_macros.specs.inner.SourceMoves.{Note}
 use Rattle.pp_macros.specs.inner.Source.{Source, DefinesOver, HasEffect, Decides, holds, faulty, Renumbers, numbers, unnumbered}
-use Rattle.pp_macros.specs.declared.step.StepExit.TheVariants.{Finished}
+use Rattle.pp_macros.specs.declared.step.PlacedExit.TheVariants.{Finished}
 
 abbrev pub is_end_effect : Effect → Bool
 is_end_effect ends = true

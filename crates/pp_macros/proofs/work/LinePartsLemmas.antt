@@ -3,7 +3,7 @@ use Rattle.std.proofs.Common.{◌≡◌, List, Option, Some, None, Result, Ok, r
 use Rattle.std.specs.Prelude.{ok_or}
 use Rattle.pp_lexer.specs.declared.lexer.item.Token.{Token as LexerToken}
 use Rattle.pp_expression.specs.Answers.{◌>>=◌}
-use Rattle.pp_model.specs.Calls.{Fault}
+use Rattle.pp_model.specs.Places.{Fault}
 use Rattle.pp_model.specs.Conversions.{identifier_of, refused_token}
 use Rattle.pp_model.specs.DefineLines.{new_parameter}
 use Rattle.pp_model.specs.Lines.{name_of}

@@ -3,7 +3,7 @@ use Rattle.std.proofs.Common.{◌≡◌, ℕ, ◌≤◌, Bool, List, length, sub
 use Rattle.pp_lexer.specs.Lexed.{Seen}
 use Rattle.pp_lexer.specs.declared.rules.Rules.{Rules}
 use Rattle.pp_lexer.specs.declared.token.Location.{Location}
-use Rattle.pp_model.specs.Calls.{Fault}
+use Rattle.pp_model.specs.Places.{Fault}
 use Rattle.pp_model.specs.DefineLines.{defined_on}
 use Rattle.pp_model.specs.Lines.{line_length}
 use Rattle.pp_model.specs.Moves.{BlockFacts, Effect, defines, Move, directive_move}

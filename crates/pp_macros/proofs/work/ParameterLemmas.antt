@@ -9,7 +9,7 @@ use Rattle.pp_lexer.specs.declared.lexer.item.TokenValue.TheVariants.{NewLine}
 use Rattle.pp_lexer.specs.declared.token.Location.{Location}
 use Rattle.pp_lexer.specs.declared.token.Token.{Token}
 use Rattle.pp_lexer.specs.declared.token.PreprocessorError.TheVariants.{UnexpectedEndOfInput, DuplicateParameter}
-use Rattle.pp_model.specs.Calls.{Fault}
+use Rattle.pp_model.specs.Places.{Fault, source_text}
 use Rattle.pp_model.specs.Conversions.{is_newline, opens_parameters, identifier_of, closes_parameters, parts_parameters, refused_token}
 use Rattle.pp_model.specs.DefineLines.{is_attached_paren, Parameters, parameters, after_parameter, after_comma}
 use Rattle.pp_model.specs.inner.DefineLines.{parameter_here}
@@ -232,13 +232,13 @@ function_least word rest = of_list (parameters word rest) refl
   where
     of_body : (names : List Name) (p : Parameters) → IsOnLine rest p.after → (body : Result (List Token) Fault)
         → IfOk body (λ tokens. length tokens ≤ line_length p.after)
-        → IfOk (body >>= λ tokens. Ok (record { function_like = true; parameters = names; body = tokens }))
+        → IfOk (body >>= λ tokens. Ok (record { function_like = true; parameters = names; body = tokens; text = source_text }))
         (λ (definition : Definition). length definition.body ≤ line_length rest)
     of_body names p on (Ok tokens) low = omega (arith, on.shorter, low)
     of_body names p on (Err fault) low = tt
 
     of_list : (list : Result Parameters Fault) → parameters word rest ≡ list
-        → IfOk (list >>= λ l. line_tokens l.after >>= λ body. Ok (record { function_like = true; parameters = l.names; body = body }))
+        → IfOk (list >>= λ l. line_tokens l.after >>= λ body. Ok (record { function_like = true; parameters = l.names; body = body; text = source_text }))
         (λ (definition : Definition). length definition.body ≤ line_length rest)
     of_list (Ok p) e = of_body p.names p (parameters_on_line word rest p e) (line_tokens p.after) (line_tokens_least p.after)
     of_list (Err fault) e = tt

@@ -5,8 +5,8 @@ use Rattle.std.proofs.lemmas.List.{length-take, length_push}
 use Rattle.pp_lexer.specs.Lexed.{Seen}
 use Rattle.pp_lexer.specs.declared.rules.Rules.{Rules}
 use Rattle.pp_lexer.specs.declared.token.Location.{Location}
+use Rattle.pp_model.specs.Places.{Fault}
 use Rattle.pp_model.specs.Blocks.{part_of}
-use Rattle.pp_model.specs.Calls.{Fault}
 use Rattle.pp_model.specs.Sights.{sight_of}
 use Rattle.pp_model.specs.declared.block.Part.{Part}
 use Rattle.pp_model.specs.declared.block.Part.TheVariants as part

@@ -9,7 +9,7 @@ use Rattle.pp_model.specs.Definitions.{Definition}
 use Rattle.pp_model.specs.Reads.{numbered_line}
 use Rattle.pp_model.specs.declared.definition.Named.{Named}
 use Rattle.pp_macros.specs.inner.Defined.{Defined, names_in, meaning_of, body_tokens}
-use Rattle.pp_macros.specs.Item.{Step}
+use Rattle.pp_macros.specs.Item.{PlacedStep}
 use Rattle.pp_macros.specs.inner.OpenBlocks.{last_block, BlockChange, block_change_at}
 use Rattle.pp_macros.specs.declared.blocks.OpenBlock.{OpenBlock}
 use Rattle.pp_macros.specs.inner.Source.{Source, IsAfter, IsAfterFault, IsAfterBlock, DefinesOver, Ends, HasEffect, MakesMove, IsRefusedStep, StepsSource, Decides, holds, faulty, Renumbers, numbers, unnumbered}
@@ -18,7 +18,7 @@ use Rattle.pp_model.specs.Sights.{sight_of}
 use Rattle.pp_model.specs.declared.sight.Sight.{Sight}
 use Rattle.pp_macros.specs.inner.SourceMoves.{Note, move_of, note_of}
 use Rattle.pp_macros.specs.inner.Work.{goes_on, most_reads, most_names, most_steps}
-use Rattle.pp_macros.specs.declared.step.StepExit.TheVariants.{Finished}
+use Rattle.pp_macros.specs.declared.step.PlacedExit.TheVariants.{Finished}
 use Rattle.pp_macros.proofs.work.ShortenLemmas.{sight_adds, sight_least, Shortens, move_of_shortens}
 use Rattle.pp_macros.proofs.taking.StepLemmas.{goes_on_not_end, goes_on_not_want}
 
@@ -64,7 +64,7 @@ module _ (old new : Source) where
   block_shrinks after low =
       stays_shrinks after.definitions (omega (arith, ap length after.rest, ap length after.blocks, length-take (length old.blocks - 1) old.blocks))
 
-  define_shrinks : (named : Named) (o : Option Definition) (taken : ℕ) (note : Note) (step : Step Token)
+  define_shrinks : (named : Named) (o : Option Definition) (taken : ℕ) (note : Note) (step : PlacedStep Token)
       → length old.rest - taken + length old.blocks + length named.definition.body < length old.rest + length old.blocks
       → DefinesOver named o taken note old step new → Shrinks old new
   define_shrinks named None taken note step low h = after_shrinks taken (length named.definition.body) note old.blocks h.1 h.2.names
@@ -72,13 +72,13 @@ module _ (old new : Source) where
   define_shrinks named (Some before) taken note step low (inl h) = passed_shrinks taken (length named.definition.body) note old.blocks h.2 h.3 low (omega arith)
   define_shrinks named (Some before) taken note step low (inr h) = fault_shrinks h.2
 
-  decides_shrinks : (word : Location) (tokens : List Token) (blocks : Bool → List OpenBlock) (taken adds : ℕ) (note : Note) (step : Step Token)
+  decides_shrinks : (word : Location) (tokens : List Token) (blocks : Bool → List OpenBlock) (taken adds : ℕ) (note : Note) (step : PlacedStep Token)
       → length old.rest - taken + length old.blocks + adds < length old.rest + length old.blocks
       → ((value : Bool) → length (blocks value) ≤ length old.blocks + adds) → Decides word tokens blocks taken note old step new → Shrinks old new
   decides_shrinks word tokens blocks taken adds note step low few (holds value condition h) = passed_shrinks taken adds note (blocks value) h.1 h.2 low (few value)
   decides_shrinks word tokens blocks taken adds note step low few (faulty fault condition failed left) = fault_shrinks left
 
-renumbers_shrinks : (old new : Source) (word : Location) (tokens : List Token) (taken : ℕ) (note : Note) (step : Step Token)
+renumbers_shrinks : (old new : Source) (word : Location) (tokens : List Token) (taken : ℕ) (note : Note) (step : PlacedStep Token)
     → length old.rest - taken + length old.blocks + 0 < length old.rest + length old.blocks
     → Renumbers word tokens taken note old step new → Shrinks old new
 renumbers_shrinks old new word tokens taken note step low (numbers n number h) =
@@ -87,14 +87,14 @@ renumbers_shrinks old new word tokens taken note step low (numbers n number h) =
 renumbers_shrinks old new word tokens taken note step low (unnumbered fault number failed left) = fault_shrinks old new left
 
 module _ (old new : Source) where
-  end_shrinks : (last : Option OpenBlock) → last_block old.blocks ≡ last → (step : Step Token) → Ends last old step new → step ≢ Err Finished
+  end_shrinks : (last : Option OpenBlock) → last_block old.blocks ≡ last → (step : PlacedStep Token) → Ends last old step new → step ≢ Err Finished
       → Shrinks old new
   end_shrinks None is step h not_end = absurd (not_end h.0)
   end_shrinks (Some block) is step h not_end =
       block_shrinks old new h.1 (omega (arith, slice_get_within old.blocks (length old.blocks - 1) block is))
 
   module _ (taken : ℕ) (note : Note) (change : BlockChange) (more : ℕ)
-      (few : (condition : Option Bool) → length (change condition old.blocks) ≤ length old.blocks + more) (step : Step Token) (not_end : step ≢ Err Finished) where
+      (few : (condition : Option Bool) → length (change condition old.blocks) ≤ length old.blocks + more) (step : PlacedStep Token) (not_end : step ≢ Err Finished) where
     effect_shrinks : (effect : Effect) → Shortens more (record { effect = effect; taken = taken }) (length old.rest) (length old.blocks)
         → HasEffect effect taken note change old step new → Shrinks old new
     effect_shrinks (gives token) low h = passed_shrinks old new taken more note old.blocks h.1 h.2 (omega (arith, low refl)) (omega arith)
@@ -113,7 +113,7 @@ module _ (old new : Source) where
     effect_shrinks (renumbers word tokens) low h = renumbers_shrinks old new word tokens taken note step (omega (arith, low refl)) h
 
   -- so does a step after which reading goes on
-  pub source_shrinks : (step : Step Token) → StepsSource old step new → goes_on step ≡ true → Shrinks old new
+  pub source_shrinks : (step : PlacedStep Token) → StepsSource old step new → goes_on step ≡ true → Shrinks old new
   source_shrinks step h on = go old.spent h
     where
       move : Move

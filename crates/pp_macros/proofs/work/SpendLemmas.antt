@@ -2,15 +2,16 @@
 use Rattle.std.proofs.Common.{◌≡◌, ◌∙◌, ◌⊎◌, inl, inr, ℕ, suc, ◌+◌, ◌-◌, ◌<◌, ◌≤◌, Bool, true, false, if◌then◌else◌, List, [], ◌∷◌, length, arith, le_trans, lt_of_le_of_lt, lt_of_lt_of_le, ap, sym, refl, Option, Some, None, IfSome, IfOk, MatchBool, unwrap_or, Result, Ok, Err}
 use Rattle.std.specs.Fn.{iterate}
 use Rattle.pp_lexer.specs.declared.token.Token.{Token}
+use Rattle.pp_model.specs.declared.place.Place.{Place}
+use Rattle.pp_model.specs.Places.{PlacedFault, place_of}
 use Rattle.pp_model.specs.declared.read.Read.{Read}
-use Rattle.pp_lexer.specs.declared.token.Location.{Location}
-use Rattle.pp_model.specs.Calls.{Fault, Gathered, before}
+use Rattle.pp_model.specs.Calls.{Gathered, before}
 use Rattle.pp_model.specs.Names.{Name, is_identifier, line_name}
 use Rattle.pp_model.specs.Taking.{line_number}
 use Rattle.pp_model.specs.Sights.{sight_of}
 use Rattle.pp_model.specs.declared.read.Taken.TheVariants as given
 use Rattle.pp_macros.specs.inner.Frames.{Frame, Advance, advance, outermost_frame_line}
-use Rattle.pp_macros.specs.Item.{Step, wants_memory}
+use Rattle.pp_macros.specs.Item.{PlacedStep, wants_memory}
 use Rattle.pp_model.specs.inner.Reading.{after_listed}
 use Rattle.pp_macros.specs.inner.Defined.{body_tokens}
 use Rattle.pp_macros.specs.inner.Left.{reads_left, most_open, most_bodies, one_more, holding_step, regions_of, regions}
@@ -25,7 +26,7 @@ use Rattle.pp_macros.specs.declared.blocks.OpenBlock.{OpenBlock}
 use Rattle.pp_macros.specs.inner.Turns.{as_pause, frame_move, Moves, masks}
 use Rattle.pp_macros.specs.inner.Reading.{unpainted_step, painted_step}
 use Rattle.pp_macros.specs.inner.Work.{steps_left, is_end}
-use Rattle.pp_macros.specs.declared.step.StepExit.TheVariants.{Error, Continue, Finished}
+use Rattle.pp_macros.specs.declared.step.PlacedExit.TheVariants.{Error, Continue, Finished}
 use Rattle.pp_macros.proofs.open_frames.AdvanceLemmas.{Advances, advance_lowers, some_steps_left}
 use Rattle.pp_macros.proofs.work.FinishedLemmas.{finished_ends}
 use Rattle.pp_macros.proofs.work.IterateLemmas.{IsLevel, iterate_more, iterate_steep}
@@ -51,7 +52,7 @@ pub record Falls (frame : ℕ → ℕ) (names : ℕ) (before after : List ℕ) :
   pub least : total after < total before
 
 -- a step is taken: a pause, or something for which there is room
-abbrev pub Spends : (ℕ → ℕ) → ℕ → Step Read → List ℕ → List ℕ → Type 0
+abbrev pub Spends : (ℕ → ℕ) → ℕ → PlacedStep Read → List ℕ → List ℕ → Type 0
 Spends frame names (Err Continue) before after = Falls frame names before after
 Spends frame names (Err Finished) before after = after ≡ before
 Spends frame names (Err (Error fault)) before after = IsNoMore frame names before (one_more after)
@@ -89,7 +90,7 @@ effect_stays (renumbers word tokens) taken note change old new h = absurd (let b
 pub source_end_stays : (old new : Source) → StepsSource old (Err Finished) new → new ≡ old
 source_end_stays old new h = go old.spent h
   where
-    go : (b : Bool) → MatchBool b ((◌≡◌ {A = Step Token} (Err Finished) (Err Finished)) × (new ≡ old))
+    go : (b : Bool) → MatchBool b ((◌≡◌ {A = PlacedStep Token} (Err Finished) (Err Finished)) × (new ≡ old))
         (IsRefusedStep old (Err Finished) ⊎ MakesMove old (Err Finished) new) → new ≡ old
     go true h = h.1
     go false (inl h) = let bad = h.fault in cc
@@ -98,18 +99,18 @@ source_end_stays old new h = go old.spent h
         effect_stays move.effect move.taken (note_of old.dead_for_good old.blocks old.rest) (block_change_at (sight_of old.rest)) old new h
 
 -- what a step of a reader leaves: less, but at the end
-abbrev pub ReadSpends : Step Read → Reader → Reader → Type 0
+abbrev pub ReadSpends : PlacedStep Read → Reader → Reader → Type 0
 ReadSpends (Err Finished) r s = s ≡ r
 ReadSpends _ r s = reads_left s < reads_left r
 
 shrinks_tightens : (old new : Source) → Shrinks old new → Tightens (of_source old) (of_source new)
 shrinks_tightens old new h = record { names = omega (arith, h.names); bodies = omega (arith, h.steps) }
 
-pub record IsRead (step : Step Read) (r s : Reader) : Type 0 where
+pub record IsRead (step : PlacedStep Read) (r s : Reader) : Type 0 where
   pub spends : ReadSpends step r s
   pub tightens : Tightens r s
 
-source_read : (step : Step Token) (old new : Source) → StepsSource old step new → wants_memory step ≡ false
+source_read : (step : PlacedStep Token) (old new : Source) → StepsSource old step new → wants_memory step ≡ false
     → IsRead (unpainted_step step) (of_source old) (of_source new)
 source_read (Ok token) old new h reported = let k = source_shrinks old new (Ok token) h refl in record {
   spends = k.shorter;
@@ -123,7 +124,7 @@ source_read (Err Finished) old new h reported = rw (source_end_stays old new h) 
 source_read (Err (Error fault)) old new h reported = let k =
     source_shrinks old new (Err (Error fault)) h (rw reported refl) in record { spends = k.shorter; tightens = shrinks_tightens old new k }
 
-list_read : (tokens : List Read) (step : Step Read) (old new : Listing) → old.tokens ≡ tokens → step ≡ listed_step tokens
+list_read : (tokens : List Read) (step : PlacedStep Read) (old new : Listing) → old.tokens ≡ tokens → step ≡ listed_step tokens
     → new ≡ record old { tokens = after_listed tokens } → IsRead step (of_list old) (of_list new)
 list_read [] step old new e is at =
     let same : new ≡ old = at ∙ ap (λ (t : List Read). record old { tokens = t }) (sym e) in
@@ -133,11 +134,11 @@ list_read (read ∷ tokens) step old new e is at =
     let same : new.definitions ≡ old.definitions = ap (λ (l : Listing). l.definitions) at in
     rw is (record { spends = less; tightens = record { names = omega (arith, ap length same); bodies = omega (arith, ap body_tokens same) } })
 
-pub reader_read : (step : Step Read) (r s : Reader) → Reads r step s → wants_memory step ≡ false → IsRead step r s
+pub reader_read : (step : PlacedStep Read) (r s : Reader) → Reads r step s → wants_memory step ≡ false → IsRead step r s
 reader_read step (of_source old) (of_source new) h reported =
     rw h.is (source_read h.given old new h.steps (given_quiet h.given (rw h.is at reported)))
   where
-    given_quiet : (given : Step Token) → wants_memory (unpainted_step given) ≡ false → wants_memory given ≡ false
+    given_quiet : (given : PlacedStep Token) → wants_memory (unpainted_step given) ≡ false → wants_memory given ≡ false
     given_quiet (Ok token) e = refl
     given_quiet (Err exit) e = e
 reader_read step (of_list old) (of_list new) (inl h) reported = list_read old.tokens step old new refl h.0 h.1
@@ -190,7 +191,7 @@ module _ (frame : ℕ → ℕ) (names : ℕ) (level : IsLevel frame) where
     least = omega arith;
   }
 
-  room_spends : (step : Step Read) (before after : List ℕ) → IsNoMore frame names before (one_more after) → is_end step ≡ false
+  room_spends : (step : PlacedStep Read) (before after : List ℕ) → IsNoMore frame names before (one_more after) → is_end step ≡ false
       → Spends frame names step before after
   room_spends (Ok read) before after h goes = h
   room_spends (Err Continue) before after h goes = no_more_falls before (one_more after) after h (one_more_falls after)
@@ -209,18 +210,18 @@ module _ (frame : ℕ → ℕ) (names : ℕ) (level : IsLevel frame) where
       pause_goes None = refl
       pause_goes (Some read) = refl
 
-  read_spends : (step : Step Read) (r s : Reader) → ReadSpends step r s → Spends frame names step (reads_left r ∷ []) (reads_left s ∷ [])
+  read_spends : (step : PlacedStep Read) (r s : Reader) → ReadSpends step r s → Spends frame names step (reads_left r ∷ []) (reads_left s ∷ [])
   read_spends (Ok read) r s h = less_here (reads_left r) (reads_left s) [] h
   read_spends (Err Continue) r s h = room_spends (Err Continue) (reads_left r ∷ []) (reads_left s ∷ []) (less_here (reads_left r) (reads_left s) [] h) refl
   read_spends (Err Finished) r s h = ap (λ t. reads_left t ∷ []) h
   read_spends (Err (Error fault)) r s h = less_here (reads_left r) (reads_left s) [] h
 
   -- a step of the frames or the reader
-  record IsMoved (move : Step Read) (fs gs : List Frame) (r s : Reader) : Type 0 where
+  record IsMoved (move : PlacedStep Read) (fs gs : List Frame) (r s : Reader) : Type 0 where
     spends : Spends frame names move (regions_of fs (reads_left r)) (regions_of gs (reads_left s))
     tightens : Tightens r s
 
-  moves_spend : (move : Step Read) (fs gs : List Frame) (r s : Reader) → Moves fs r move gs s → wants_memory move ≡ false → IsMoved move fs gs r s
+  moves_spend : (move : PlacedStep Read) (fs gs : List Frame) (r s : Reader) → Moves fs r move gs s → wants_memory move ≡ false → IsMoved move fs gs r s
   moves_spend move [] gs r s h reported =
       let read = reader_read move r s h.1 reported in
       rw h.0 (record { spends = read_spends move r s read.spends; tightens = read.tightens })
@@ -228,29 +229,29 @@ module _ (frame : ℕ → ℕ) (names : ℕ) (level : IsLevel frame) where
       rw (same, h.0, h.1) (record { spends = frame_spends f fs (reads_left r) (advance f) (advance_lowers f); tightens = tightens_not r })
   moves_spend move (f ∷ fs) gs r s (same, inr h) reported = absurd (let bad : true ≡ false = rw h at reported in cc)
 
-  taken_spends : (move : Step Read) (fs : List Frame) (r : Reader) (before after : List ℕ) → Spends frame names move before after
+  taken_spends : (move : PlacedStep Read) (fs : List Frame) (r : Reader) (before after : List ℕ) → Spends frame names move before after
       → Spends frame names (taken_as move fs r) before after
   taken_spends (Ok read) fs r before after h = go (is_identifier line_name read.token.value) (shown_line r
       (unwrap_or (outermost_frame_line fs) read.token.location.line))
     where
-      go : (b : Bool) (o : Option Integer) → Spends frame names (step_of_outcome (if b then line_number read.token.location o else given.Token read)) before after
+      go : (b : Bool) (o : Option Integer) → Spends frame names (step_of_outcome (if b then line_number (place_of read) o else given.Token read)) before after
       go true (Some n) = h
       go true None = h
       go false o = h
   taken_spends (Err exit) fs r before after h = h
 
-  held_spends : (step : Step Read) (before : List ℕ) → Spends frame names step (holding_step (Some step) before) before
+  held_spends : (step : PlacedStep Read) (before : List ℕ) → Spends frame names step (holding_step (Some step) before) before
   held_spends (Ok read) before = no_more (one_more before)
   held_spends (Err Continue) before = one_more_falls before
   held_spends (Err Finished) before = refl
   held_spends (Err (Error fault)) before = no_more (one_more before)
 
-  pub record IsTaken (step : Step Read) (m n : Expander) (r s : Reader) : Type 0 where
+  pub record IsTaken (step : PlacedStep Read) (m n : Expander) (r s : Reader) : Type 0 where
     pub spends : Spends frame names step (regions m r) (regions n s)
     pub tightens : Tightens r s
     pub free : n.held ≡ None
 
-  fetch_spends : (step : Step Read) (m n : Expander) (r s : Reader) → StepsFetching m r step n s → wants_memory step ≡ false → IsTaken step m n r s
+  fetch_spends : (step : PlacedStep Read) (m n : Expander) (r s : Reader) → StepsFetching m r step n s → wants_memory step ≡ false → IsTaken step m n r s
   fetch_spends step m n r s (held step1 m1 n1 r1 s1 is at same) reported =
       rw (is, at, same) (record { spends = held_spends step (regions_of m.frames (reads_left r)); tightens = tightens_not r; free = refl })
   fetch_spends step m n r s (moved move step1 m1 n1 r1 s1 free moves is none) reported =
@@ -260,14 +261,14 @@ module _ (frame : ℕ → ℕ) (names : ℕ) (level : IsLevel frame) where
       record { spends = rw (is, free, none) spends; tightens = h.tightens; free = none }
 
   -- paint costs nothing
-  painted_spends : (names_open : List Name) (first : Step Read) (before after : List ℕ) → Spends frame names first before after
+  painted_spends : (names_open : List Name) (first : PlacedStep Read) (before after : List ℕ) → Spends frame names first before after
       → Spends frame names (painted_step names_open first) before after
   painted_spends names_open (Ok read) before after h = h
   painted_spends names_open (Err Continue) before after h = h
   painted_spends names_open (Err Finished) before after h = h
   painted_spends names_open (Err (Error fault)) before after h = h
 
-  pub step_spends : (step : Step Read) (m n : Expander) (r s : Reader) → StepsTaking m r step n s → wants_memory step ≡ false → IsTaken step m n r s
+  pub step_spends : (step : PlacedStep Read) (m n : Expander) (r s : Reader) → StepsTaking m r step n s → wants_memory step ≡ false → IsTaken step m n r s
   step_spends step m n r s steps reported =
       let h = fetch_spends steps.first m n r s steps.fetches (painted_reported (masks n.frames s) steps.first (rw steps.paints at reported)) in
       record {
@@ -277,19 +278,19 @@ module _ (frame : ℕ → ℕ) (names : ℕ) (level : IsLevel frame) where
       }
 
   -- what was taken may be held
-  pub record IsTakenOn (step : Step Read) (m n : Expander) (r s : Reader) : Type 0 where
+  pub record IsTakenOn (step : PlacedStep Read) (m n : Expander) (r s : Reader) : Type 0 where
     pub spends : IsNoMore frame names (regions m r) (regions (record n { held = Some step }) s)
     pub tightens : Tightens r s
     pub free : n.held ≡ None
 
-  on_spends : (step : Step Read) (before after : List ℕ) → Spends frame names step before after → is_pause step ≡ false
+  on_spends : (step : PlacedStep Read) (before after : List ℕ) → Spends frame names step before after → is_pause step ≡ false
       → IsNoMore frame names before (holding_step (Some step) after)
   on_spends (Ok read) before after h goes = h
   on_spends (Err Continue) before after h goes = cc
   on_spends (Err Finished) before after h goes = rw h (no_more before)
   on_spends (Err (Error fault)) before after h goes = h
 
-  pub next_spends : (step : Step Read) (m n : Expander) (r s : Reader) → TakesNext m r step n s → wants_memory step ≡ false → IsTakenOn step m n r s
+  pub next_spends : (step : PlacedStep Read) (m n : Expander) (r s : Reader) → TakesNext m r step n s → wants_memory step ≡ false → IsTakenOn step m n r s
   next_spends step m n r s (now step1 m1 n1 r1 s1 steps goes) reported =
       let h = step_spends step m n r s steps reported in
       let same : regions n s ≡ regions_of n.frames (reads_left s) = ap (λ o. holding_step o (regions_of n.frames (reads_left s))) h.free in
@@ -319,15 +320,15 @@ module _ (frame : ℕ → ℕ) (names : ℕ) (level : IsLevel frame) where
       let least : total (one_more (regions n s)) ≤ total (regions m r) = rw same (h.spends.least) in
       record { spends = rw same h.spends; least = omega (arith, least); tightens = h.tightens; free = h.free }
 
-  pub gather_leaves : (l : ℕ) (last : Location) (m n : Expander) (r s : Reader) (o : Result Gathered Fault) → GathersNext l last m r o n s
+  pub gather_leaves : (l : ℕ) (last : Place) (m n : Expander) (r s : Reader) (o : Result Gathered PlacedFault) → GathersNext l last m r o n s
       → IfOk o (λ g. IsGathered g m n r s)
   gather_leaves l last m n r s o (closed l1 last1 read m1 n1 r1 s1 g next out is) = rw is (token_leaves read m n r s next)
   gather_leaves l last m n r s o (inside l1 k last1 read m1 between n1 r1 s1 t1 rest g next in_call more is) =
       let first = token_leaves read m between r s1 next in
-      let later = gather_leaves k read.token.location between n s1 s rest more in
+      let later = gather_leaves k (place_of read) between n s1 s rest more in
       rw is (go rest later first)
     where
-      go : (rest : Result Gathered Fault) → IfOk rest (λ g. IsGathered g between n s1 s)
+      go : (rest : Result Gathered PlacedFault) → IfOk rest (λ g. IsGathered g between n s1 s)
           → IsGathered (record { tokens = []; closing = read.token.location }) m between r s1 → IfOk (before read rest) (λ g. IsGathered g m n r s)
       go (Err fault) h k = tt
       go (Ok g) h k = record {
@@ -347,24 +348,24 @@ module _ (frame : ℕ → ℕ) (names : ℕ) (level : IsLevel frame) where
     pub spends : IsNoMore frame names (regions m r) (regions n s)
     pub tightens : Tightens r s
 
-  holding_no_more : (step : Step Read) (xs : List ℕ) → IsNoMore frame names (holding_step (Some step) xs) xs
+  holding_no_more : (step : PlacedStep Read) (xs : List ℕ) → IsNoMore frame names (holding_step (Some step) xs) xs
   holding_no_more (Ok read) xs = falls_at_most (one_more xs) xs (one_more_falls xs)
   holding_no_more (Err Continue) xs = falls_at_most (one_more xs) xs (one_more_falls xs)
   holding_no_more (Err Finished) xs = no_more xs
   holding_no_more (Err (Error fault)) xs = falls_at_most (one_more xs) xs (one_more_falls xs)
 
-  pub next_left : (step : Step Read) (m n : Expander) (r s : Reader) → TakesNext m r step n s → wants_memory step ≡ false → IsLeft m n r s
+  pub next_left : (step : PlacedStep Read) (m n : Expander) (r s : Reader) → TakesNext m r step n s → wants_memory step ≡ false → IsLeft m n r s
   next_left step m n r s next reported =
       let h = next_spends step m n r s next reported in
       let xs = regions_of n.frames (reads_left s) in
       let same : regions n s ≡ xs = ap (λ o. holding_step o xs) h.free in
       record { spends = rw same (no_more_then (regions m r) (holding_step (Some step) xs) xs h.spends (holding_no_more step xs)); tightens = h.tightens }
 
-  pub gather_left : (l : ℕ) (last : Location) (m n : Expander) (r s : Reader) (o : Result Gathered Fault) → GathersNext l last m r o n s → IsLeft m n r s
+  pub gather_left : (l : ℕ) (last : Place) (m n : Expander) (r s : Reader) (o : Result Gathered PlacedFault) → GathersNext l last m r o n s → IsLeft m n r s
   gather_left l last m n r s o (closed l1 last1 read m1 n1 r1 s1 g next out is) = next_left (Ok read) m n r s next refl
   gather_left l last m n r s o (inside l1 k last1 read m1 between n1 r1 s1 t1 rest g next in_call more is) =
       let h = next_left (Ok read) m between r s1 next refl in
-      let j = gather_left k read.token.location between n s1 s rest more in
+      let j = gather_left k (place_of read) between n s1 s rest more in
       record { spends = no_more_then (regions m r) (regions between s1) (regions n s) h.spends j.spends; tightens = tightens_then r s1 s h.tightens j.tightens }
   gather_left l last m n r s o (overfull l1 last1 read m1 n1 r1 s1 g next out is) = next_left (Ok read) m n r s next refl
   gather_left l last m n r s o (ended l1 last1 m1 n1 r1 s1 g next is) = next_left (Err Finished) m n r s next refl

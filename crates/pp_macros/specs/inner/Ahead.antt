@@ -1,5 +1,5 @@
 -- What the innermost frame gives next, and the frames after its step.
-use Rattle.std.specs.Prelude.{List, [], ◌∷◌, Option, Some, None}
+use Rattle.std.specs.Prelude.{Bool, List, [], ◌∷◌, Option, Some, None}
 use Rattle.std.specs.Option.{option_map}
 use Rattle.pp_lexer.specs.declared.token.Token.{Token}
 use Rattle.pp_model.specs.declared.read.Read.{Read}
@@ -9,7 +9,11 @@ use Rattle.pp_macros.specs.inner.Turns.{frame_move}
 
 -- what is ahead, as it is read
 abbrev pub read_of : Ahead → Read
-read_of ahead = record { token = ahead.token.now; painted = ahead.painted }
+read_of ahead = record { token = ahead.token.now; text = ahead.text; painted = ahead.painted }
+
+-- what is given, if it is painted so when it is taken
+abbrev pub painted_as : Bool → Option Read → Option Read
+painted_as painted given = option_map (λ (read : Read). record read { painted = painted }) given
 
 -- its token
 abbrev pub token_given : Option Read → Option Token

@@ -1,9 +1,10 @@
 -- What is done with a call once its tokens are gathered: its arguments are expanded, and its frame opens
 -- (docs/RULES.md, Expansion 7 to 9).
 use Rattle.std.specs.Prelude.{◌≡◌, ◌≤◌, ◌-◌, ℕ, false, List, [], ◌∷◌, ◌++◌, All, length, None, Result, Ok, Err, IfOk, ⊤}
+use Rattle.pp_model.specs.Places.{PlacedFault}
 use Rattle.pp_model.specs.declared.numbering.Numbering.{Numbering}
 use Rattle.pp_model.specs.declared.read.Read.{Read}
-use Rattle.pp_model.specs.Calls.{Fault, Site, arguments_of}
+use Rattle.pp_model.specs.Calls.{Site, arguments_of}
 use Rattle.pp_model.specs.Emitting.{Alone, Each, answers_at}
 use Rattle.pp_model.specs.Names.{Name}
 use Rattle.pp_macros.specs.inner.Calling.{MacroCall}
@@ -14,8 +15,8 @@ use Rattle.pp_macros.specs.inner.Expander.{Expander}
 use Rattle.pp_macros.specs.inner.Parts.{addition}
 use Rattle.pp_macros.specs.inner.Reader.{Listing}
 use Rattle.pp_macros.specs.inner.Reading.{AllReadOrdinary}
-use Rattle.pp_macros.specs.declared.halt.Halt.{Halt}
-use Rattle.pp_macros.specs.declared.halt.Halt.TheVariants as halt
+use Rattle.pp_macros.specs.declared.halt.PlacedHalt.{PlacedHalt}
+use Rattle.pp_macros.specs.declared.halt.PlacedHalt.TheVariants as halt
 
 -- the site of the call: the place of its `(`, its arguments, how their lines are numbered, the definitions, and the
 -- names that are open around
@@ -44,7 +45,7 @@ pub record IsOpened (levels : ℕ) (numbering : Numbering) (definitions : List D
 
 -- The frame opens, or the call has this fault and nothing changes. If memory runs out, this says nothing.
 abbrev pub Finishes : ℕ → Numbering → List Defined → List Name → MacroCall → Expander
-    → Result (Unit {0}) Halt → Expander → Type 0
+    → Result (Unit {0}) PlacedHalt → Expander → Type 0
 Finishes levels numbering definitions hidden call old (Ok done) new =
     IsOpened levels numbering definitions (names_of old.frames ++ hidden) call old new
 Finishes levels numbering definitions hidden call old (Err (halt.Fault fault)) new =
@@ -81,7 +82,7 @@ pub record IsExpandedOnto (levels : ℕ) (numbering : Numbering) (definitions : 
 
 -- they are, or they have this fault
 abbrev pub ExpandsOnto : ℕ → Numbering → List Defined → List Name → List Read → List Read → List Read
-    → Result (Unit {0}) Fault → Type 0
+    → Result (Unit {0}) PlacedFault → Type 0
 ExpandsOnto levels numbering definitions hidden tokens old new (Ok done) =
     IsExpandedOnto levels numbering definitions hidden tokens old new
 ExpandsOnto levels numbering definitions hidden tokens old new (Err fault) =
@@ -89,6 +90,6 @@ ExpandsOnto levels numbering definitions hidden tokens old new (Err fault) =
 
 -- each of the arguments is expanded alone, and comes to no more than the bound, or this is the first fault
 pub record ExpandsEach (levels : ℕ) (numbering : Numbering) (definitions : List Defined) (hidden : List Name)
-    (arguments : List (List Read)) (out : Result (List (List Read)) Fault) : Type 0 where
+    (arguments : List (List Read)) (out : Result (List (List Read)) PlacedFault) : Type 0 where
   pub each : Each (Alone levels) numbering (meaning_of definitions) hidden arguments out
   pub least : IfOk out (AreShort levels definitions arguments)

@@ -4,7 +4,7 @@ use Rattle.std.specs.Prelude.{◌≡◌, ◌==◌, ℕ, Bool, true, false, List,
 use Rattle.std.specs.Prelude.{slice_get, slice_index_or, suc, if◌then◌else◌, option_map}
 use Rattle.pp_lexer.specs.declared.token.Token.{Token}
 use Rattle.pp_model.specs.declared.read.Read.{Read}
-use Rattle.pp_model.specs.Painting.{unpainted}
+use Rattle.pp_model.specs.Painting.{read_in}
 use Rattle.pp_model.specs.Names.{Name}
 use Rattle.pp_model.specs.SpliceList.{body_before, parameter_of}
 use Rattle.pp_model.specs.inner.SpliceList.{followed_by}
@@ -16,7 +16,8 @@ use Rattle.pp_model.specs.declared.splice.Entry.TheVariants.{End}
 use Rattle.pp_lexer.specs.declared.token.Location.{Location}
 
 -- A frame: the macro's name, its number and those that are noted in its body, where it was called, its
--- parameters, what is left of its body, its arguments, and what is left of the argument that is being read.
+-- parameters, what is left of its body, the text of that, its arguments, and what is left of the argument that is being
+-- read.
 pub record Frame : Type 0 where
   pub name : Name
   pub number : ℕ
@@ -24,6 +25,7 @@ pub record Frame : Type 0 where
   pub call : CallPlace
   pub parameters : List Name
   pub body : List Token
+  pub text : ℕ
   pub arguments : List (List Read)
   pub reading : Option (List Read)
 
@@ -36,9 +38,9 @@ count_of k (f ∷ fs) = if f.number == k then suc (count_of k fs) else count_of 
 abbrev pub AreCounted : List ℕ → List Frame → Type 0
 AreCounted counts frames = (k : ℕ) → slice_index_or counts k 0 ≡ count_of k frames
 
--- where a macro without parentheses is called whose name is at this place
-abbrev pub bare_call : Location → CallPlace
-bare_call name = record { name = name; line = name.line }
+-- where a macro without parentheses is called whose name is at this place of this text
+abbrev pub bare_call : ℕ → Location → CallPlace
+bare_call text name = record { name = name; text = text; line = name.line }
 
 -- the frame of a macro as it opens
 abbrev pub new_frame : Macro → CallPlace → List (List Read) → Frame
@@ -49,6 +51,7 @@ new_frame opened call arguments = record {
   call = call;
   parameters = opened.definition.parameters;
   body = opened.definition.body;
+  text = opened.definition.text;
   arguments = arguments;
   reading = None;
 }
@@ -69,7 +72,7 @@ arguments_left arguments k false = set arguments k []
 
 -- a parameter in the body starts its argument, which is a pause; any other token is given
 abbrev pub body_token : Frame → Token → List Token → Option ℕ → Advance
-body_token f token rest None = record { gives = Some (unpainted token); after = record f { body = rest } }
+body_token f token rest None = record { gives = Some (read_in f.text token); after = record f { body = rest } }
 body_token f token rest (Some k) = record {
   gives = None;
   after = record f {
@@ -102,7 +105,7 @@ reading_before (Some tokens) entries = followed_by tokens entries
 abbrev pub layer_before : Frame → List Entry → List Entry
 layer_before f entries =
     reading_before f.reading
-    (body_before f.parameters f.arguments f.body (End (record { name = f.name; call = f.call }) ∷ entries))
+    (body_before f.parameters f.arguments f.text f.body (End (record { name = f.name; call = f.call }) ∷ entries))
 
 -- the splice list that the frames stand for, the innermost frame first
 abbrev pub flat : List Frame → List Entry

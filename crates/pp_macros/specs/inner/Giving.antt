@@ -5,14 +5,14 @@ use Rattle.std.specs.Prelude.{MatchOption}
 use Rattle.pp_lexer.specs.declared.token.Token.{Token}
 use Rattle.pp_model.specs.declared.read.Read.{Read}
 use Rattle.pp_macros.specs.Held.{HoldsOrdinary}
-use Rattle.pp_macros.specs.inner.Ahead.{token_given, given_next, frames_after}
+use Rattle.pp_macros.specs.inner.Ahead.{painted_as, token_given, given_next, frames_after}
 use Rattle.pp_macros.specs.inner.CallTurns.{TurnsTo, TakesSomething}
 use Rattle.pp_macros.specs.inner.Expander.{Expander}
 use Rattle.pp_macros.specs.inner.Reader.{Reader}
 use Rattle.pp_macros.specs.declared.calls.Taken.TheVariants as taken
 use Rattle.pp_macros.specs.declared.calls.giving.Turn.{Turn}
 use Rattle.pp_macros.specs.declared.calls.giving.Turn.TheVariants as turn
-use Rattle.pp_macros.specs.declared.step.StepExit.TheVariants.{Continue}
+use Rattle.pp_macros.specs.declared.step.PlacedExit.TheVariants.{Continue}
 
 -- the expander after a step of the innermost frame
 abbrev pub passed : Expander → Expander
@@ -22,17 +22,25 @@ passed m = record m { frames = frames_after m.frames }
 abbrev pub token_ahead : Expander → Option Token
 token_ahead m = token_given (given_next m.frames)
 
+-- what the innermost frame gives next, if it is painted so when it is taken
+abbrev pub read_ahead : Bool → Expander → Option Read
+read_ahead painted m = painted_as painted (given_next m.frames)
+
 -- nothing is held, the innermost frame has this token next, and it is given as it is, painted or not
-pub record GivesAhead (r : Reader) (m : Expander) (token : Token) (painted : Bool) : Type 0 where
+pub record GivesAhead (r : Reader) (m : Expander) (painted : Bool) (read : Read) : Type 0 where
   pub free : m.held ≡ None
-  pub ahead : token_ahead m ≡ Some token
-  pub turns : TurnsTo m r (Ok (taken.Token (record { token = token; painted = painted }))) (passed m) r
-  pub holds : HoldsOrdinary token.value
+  pub ahead : read_ahead painted m ≡ Some read
+  pub turns : TurnsTo m r (Ok (taken.Token read)) (passed m) r
+  pub holds : HoldsOrdinary read.token.value
+
+-- such a token is next, and painted so when it is taken
+abbrev pub SomeAhead : Reader → Expander → Bool → Type 0
+SomeAhead r m painted = (read : Read) × GivesAhead r m painted read
 
 -- one turn, if it is a pause; a token that is ahead isn't taken yet
 abbrev pub TurnsFrames : Reader → Expander → Turn → Expander → Type 0
 TurnsFrames r m turn.Passed n = TurnsTo m r (Err Continue) n r
-TurnsFrames r m (turn.Token painted) n = (n ≡ m) × (token : Token) × GivesAhead r m token painted
+TurnsFrames r m (turn.Token painted) n = (n ≡ m) × SomeAhead r m painted
 TurnsFrames r m turn.Other n = n ≡ m
 
 -- any number of pauses
@@ -43,7 +51,7 @@ pub data PausesEach (r : Reader) (m : Expander) : Expander → Type 0 where
 -- pauses, up to a token that is given as it is, if there is one
 pub record AdvancesTo (r : Reader) (m : Expander) (found : Option Bool) (n : Expander) : Type 0 where
   pub pauses : PausesEach r m n
-  pub gives : IfSome found (λ painted. (token : Token) × GivesAhead r n token painted)
+  pub gives : IfSome found (SomeAhead r n)
 
 -- pauses, up to a turn with something to take, for which memory ran out
 pub record RefusesWithin (r : Reader) (m : Expander) : Type 0 where
@@ -52,15 +60,15 @@ pub record RefusesWithin (r : Reader) (m : Expander) : Type 0 where
   pub some : TakesSomething between r
 
 -- pauses, and then the token that is given, if there is one
-pub record IsGivenNext (r : Reader) (m : Expander) (token : Token) (n : Expander) : Type 0 where
+pub record IsGivenNext (r : Reader) (m : Expander) (read : Read) (n : Expander) : Type 0 where
   pub between : Expander
   pub painted : Bool
   pub pauses : PausesEach r m between
-  pub gives : GivesAhead r between token painted
+  pub gives : GivesAhead r between painted read
   pub passes : n ≡ passed between
 
-abbrev pub GivesNext : Reader → Expander → Option Token → Expander → Type 0
-GivesNext r m given n = MatchOption given (PausesEach r m n) (λ token. IsGivenNext r m token n)
+abbrev pub GivesNext : Reader → Expander → Option Read → Expander → Type 0
+GivesNext r m given n = MatchOption given (PausesEach r m n) (λ read. IsGivenNext r m read n)
 
 -- one turn: a pause, or a token
 pub data GivesOne (r : Reader) (m : Expander) (items : List Read) (n : Expander) (more : List Read) : Type 0 where

@@ -2,16 +2,17 @@
 use Rattle.std.specs.Prelude.{◌≡◌, ◌&&◌, not, is_some, Bool, [], Some, Ok, Err}
 use Rattle.pp_lexer.specs.declared.token.PreprocessorError.TheVariants.{LineOverflow}
 use Rattle.pp_lexer.specs.declared.token.Token.{Token}
+use Rattle.pp_model.specs.Places.{in_source}
 use Rattle.pp_model.specs.Painting.{unpainted}
 use Rattle.pp_model.specs.declared.read.Read.{Read}
 use Rattle.pp_model.specs.declared.read.Taken.TheVariants as given
 use Rattle.pp_macros.specs.inner.Frames.{outermost_frame_call}
-use Rattle.pp_macros.specs.Item.{Step}
+use Rattle.pp_macros.specs.Item.{PlacedStep}
 use Rattle.pp_macros.specs.inner.Expander.{Expander}
 use Rattle.pp_macros.specs.inner.Reader.{of_source}
 use Rattle.pp_macros.specs.inner.Source.{Source}
 use Rattle.pp_macros.specs.inner.Turns.{taken_in}
-use Rattle.pp_macros.specs.declared.step.StepExit.TheVariants.{Error}
+use Rattle.pp_macros.specs.declared.step.PlacedExit.TheVariants.{Error}
 
 -- nothing is held, and no macro is open
 abbrev pub is_idle : Expander → Bool
@@ -24,8 +25,9 @@ pub record IsHeld (word : Token) (source : Source) (old new : Expander) : Type 0
   pub holds : new ≡ record old { held = Some (Ok token) }
 
 -- the word is held, or it is `__LINE__` and its number is out of range
-abbrev pub HoldsWord : Token → Source → Expander → Step (Unit {0}) → Expander → Type 0
+abbrev pub HoldsWord : Token → Source → Expander → PlacedStep (Unit {0}) → Expander → Type 0
 HoldsWord word source old (Ok done) new = IsHeld word source old new
 HoldsWord word source old (Err exit) new =
-    (exit ≡ Error (LineOverflow, word.location))
-    × (taken_in [] (of_source source) (unpainted word) ≡ given.Fault (LineOverflow, word.location)) × (new ≡ old)
+    (exit ≡ Error (LineOverflow, in_source word.location))
+    × (taken_in [] (of_source source) (unpainted word) ≡ given.Fault (LineOverflow, in_source word.location))
+    × (new ≡ old)

@@ -4,7 +4,7 @@ use Rattle.pp_model.specs.declared.read.Read.{Read}
 use Rattle.pp_model.specs.ApartMarks.{AreApart}
 use Rattle.pp_model.specs.Names.{Name}
 use Rattle.pp_macros.specs.inner.Defined.{Defined, Numbered, AreNumbered, meaning_of, names_in, body_tokens}
-use Rattle.pp_macros.specs.Item.{Step}
+use Rattle.pp_macros.specs.Item.{PlacedStep}
 use Rattle.pp_macros.specs.inner.Frames.{Frame, names_of}
 use Rattle.pp_macros.specs.inner.Expander.{Expander}
 use Rattle.pp_macros.specs.inner.Reader.{Reader, of_source, of_list, definitions_of}
@@ -33,7 +33,7 @@ one_more [] = 1 ∷ []
 one_more (s ∷ regions) = suc s ∷ regions
 
 -- what is held is one more step of the innermost region, unless it is the end
-abbrev pub holding_step : Option (Step Read) → List ℕ → List ℕ
+abbrev pub holding_step : Option (PlacedStep Read) → List ℕ → List ℕ
 holding_step None regions = regions
 holding_step (Some step) regions = if is_end step then regions else one_more regions
 

@@ -3,7 +3,7 @@ use Rattle.std.specs.Prelude.{false, true, Bool, if◌then◌else◌, List, [], 
 use Rattle.pp_lexer.specs.Lexed.{Seen}
 use Rattle.pp_lexer.specs.declared.lexer.item.Token.{Token as LexerToken}
 use Rattle.pp_lexer.specs.declared.token.Location.{Location}
-use Rattle.pp_model.specs.Calls.{Fault}
+use Rattle.pp_model.specs.Places.{Fault, source_text}
 use Rattle.pp_model.specs.Conversions.{closes_parameters, parts_parameters, identifier_of, refused_token}
 use Rattle.pp_model.specs.DefineLines.{parameters}
 use Rattle.pp_model.specs.inner.DefineLines.{parameter_here}
@@ -56,4 +56,4 @@ GoesOnInLine (Err halt.OutOfMemory) old new = ⊤
 -- the definition of a function-like macro, read after its `(`
 abbrev pub function_at : Location → List Seen → Result Definition Fault
 function_at word rest = parameters word rest >>= λ list. line_tokens list.after >>= λ body.
-    Ok (record { function_like = true; parameters = list.names; body = body })
+    Ok (record { function_like = true; parameters = list.names; body = body; text = source_text })

@@ -1,7 +1,6 @@
 -- What comes after the frames: the reader, as its interface object shows it.
 use Rattle.std.specs.Prelude.{◌≡◌, ◌⊎◌, ℕ, Bool, true, false, ◌&&◌, ◌||◌, if◌then◌else◌, List, [], ◌∷◌, ◌++◌}
 use Rattle.std.specs.Prelude.{Option, Some, None, Ok, Err}
-use Rattle.pp_lexer.specs.PreprocessorError.{out_of_memory}
 use Rattle.pp_lexer.specs.declared.token.Integer.{Integer}
 use Rattle.pp_lexer.specs.declared.token.Token.{Token}
 use Rattle.pp_lexer.specs.declared.token.TokenValue.{TokenValue}
@@ -13,12 +12,12 @@ use Rattle.pp_model.specs.declared.numbering.Numbering.{Numbering}
 use Rattle.pp_model.specs.declared.read.Read.{Read}
 use Rattle.pp_model.specs.inner.Reading.{after_listed}
 use Rattle.pp_macros.specs.Held.{HoldsOrdinary}
-use Rattle.pp_macros.specs.Item.{Step}
+use Rattle.pp_macros.specs.Item.{PlacedStep, no_memory}
 use Rattle.pp_macros.specs.inner.Reading.{unpainted_step}
 use Rattle.pp_macros.specs.inner.Defined.{Defined, meaning_of}
 use Rattle.pp_macros.specs.inner.Source.{Source, unreported_of, StepsSource}
 use Rattle.pp_macros.specs.inner.Unreported.{StepReports}
-use Rattle.pp_macros.specs.declared.step.StepExit.TheVariants.{Error, Finished}
+use Rattle.pp_macros.specs.declared.step.PlacedExit.TheVariants.{Error, Finished}
 
 -- The tokens of an argument or of a directive's line, how their lines are numbered, with the definitions there and the
 -- names that are open around. On a line `defined` is an operator.
@@ -33,25 +32,25 @@ pub data Reader : Type 0 where
   of_source : Source → Reader
   of_list : Listing → Reader
 
-abbrev pub listed_step : List Read → Step Read
+abbrev pub listed_step : List Read → PlacedStep Read
 listed_step [] = Err Finished
 listed_step (read ∷ tokens) = Ok read
 
 -- the next token, or the end, unless memory runs out
-abbrev pub StepsListed : Listing → Step Read → Listing → Type 0
+abbrev pub StepsListed : Listing → PlacedStep Read → Listing → Type 0
 StepsListed old step new =
     ((step ≡ listed_step old.tokens) × (new ≡ record old { tokens = after_listed old.tokens }))
-    ⊎ (step ≡ Err (Error out_of_memory))
+    ⊎ (step ≡ Err (Error no_memory))
 
 -- one step of a source: what it gives is unpainted, and it reports the errors of the lexer too
-pub record ReadsSource (old : Source) (step : Step Read) (new : Source) : Type 0 where
-  pub given : Step Token
+pub record ReadsSource (old : Source) (step : PlacedStep Read) (new : Source) : Type 0 where
+  pub given : PlacedStep Token
   pub steps : StepsSource old given new
   pub reports : StepReports old.rules.passes_dead_errors given (unreported_of old) (unreported_of new)
   pub is : step ≡ unpainted_step given
 
 -- one step of a reader: a source stays a source, a list a list
-abbrev pub Reads : Reader → Step Read → Reader → Type 0
+abbrev pub Reads : Reader → PlacedStep Read → Reader → Type 0
 Reads (of_source old) step (of_source new) = ReadsSource old step new
 Reads (of_list old) step (of_list new) = StepsListed old step new
 Reads _ step _ = ⊥

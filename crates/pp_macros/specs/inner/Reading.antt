@@ -5,18 +5,18 @@ use Rattle.pp_model.specs.Names.{Name}
 use Rattle.pp_model.specs.Painting.{unpainted, painted_among}
 use Rattle.pp_model.specs.declared.read.Read.{Read}
 use Rattle.pp_macros.specs.Held.{HoldsOrdinary}
-use Rattle.pp_macros.specs.Item.{Step}
+use Rattle.pp_macros.specs.Item.{PlacedStep}
 
 abbrev pub AllReadOrdinary : List Read → Type 0
 AllReadOrdinary reads = All (λ read. HoldsOrdinary read.token.value) reads
 
 -- what a source gives is unpainted
-abbrev pub unpainted_step : Step Token → Step Read
+abbrev pub unpainted_step : PlacedStep Token → PlacedStep Read
 unpainted_step (Ok token) = Ok (unpainted token)
 unpainted_step (Err exit) = Err exit
 
 -- what is taken while these names are open
-abbrev pub painted_step : List Name → Step Read → Step Read
+abbrev pub painted_step : List Name → PlacedStep Read → PlacedStep Read
 painted_step names (Ok read) = Ok (painted_among names read)
 painted_step names (Err exit) = Err exit
 

@@ -3,17 +3,16 @@ use Rattle.std.specs.Prelude.{◌≡◌, ◌≢◌, ℕ, ◌+◌, ◌<◌, ◌�
 use Rattle.std.specs.Prelude.{length, drop, Option, Some, None, Result, Ok, Err, MatchBool, ℤ, pos, ◌-ℤ◌}
 use Rattle.pp_lexer.specs.Lexed.{Seen}
 use Rattle.pp_lexer.specs.declared.rules.Rules.{Rules}
-use Rattle.pp_lexer.specs.PreprocessorError.{out_of_memory}
 use Rattle.pp_lexer.specs.declared.token.PreprocessorError.TheVariants.{DefineRedefined, UnfinishedBlock}
 use Rattle.pp_lexer.specs.declared.token.Token.{Token}
 use Rattle.pp_lexer.specs.declared.token.Location.{Location}
-use Rattle.pp_model.specs.Calls.{Fault}
+use Rattle.pp_model.specs.Places.{PlacedFault, placed}
 use Rattle.pp_model.specs.Definitions.{Definition, IsSameDefinition}
 use Rattle.pp_model.specs.Emitting.{answers_at, expansion_limit}
 use Rattle.pp_model.specs.LineValues.{IsCondition, IsLineNumber}
 use Rattle.pp_model.specs.Reads.{numbered_line}
 use Rattle.pp_model.specs.declared.definition.Named.{Named}
-use Rattle.pp_macros.specs.Item.{Step}
+use Rattle.pp_macros.specs.Item.{PlacedStep, no_memory}
 use Rattle.pp_macros.specs.inner.Defined.{Defined, meaning_of, names_in, body_tokens, IsChanged}
 use Rattle.pp_macros.specs.inner.OpenBlocks.{last_block, outer_blocks, BlockChange, block_change_at}
 use Rattle.pp_macros.specs.declared.blocks.OpenBlock.{OpenBlock}
@@ -22,14 +21,14 @@ use Rattle.pp_model.specs.Moves.{renumbers, Move}
 use Rattle.pp_model.specs.Sights.{sight_of}
 use Rattle.pp_macros.specs.inner.SourceMoves.{Note, notes_text, notes_directive, move_of, note_of}
 use Rattle.pp_macros.specs.inner.Unreported.{Unreported, unreported}
-use Rattle.pp_macros.specs.declared.step.StepExit.TheVariants.{Error, Continue, Finished}
+use Rattle.pp_macros.specs.declared.step.PlacedExit.TheVariants.{Error, Continue, Finished}
 use Rattle.pp_model.specs.Numbering.{list_numbering}
 use Rattle.pp_model.specs.declared.numbering.Numbering.{Numbering}
 
 -- the rules by which it is read; the items that are left, with their places; the place of an error of the lexer that
 -- was read and not reported; what is defined; the open blocks, the outermost first; what `#line` adds to a line;
--- whether memory ran out; whether a live token of the text was read so far, and whether a directive was; and whether an
--- `#elif` outside of all blocks made all that follows dead
+-- whether memory ran out; whether a live token of the text was read so far, and whether a directive was; whether an
+-- `#elif` outside of all blocks made all that follows dead; and how many contents were added
 pub record Source : Type 0 where
   pub rules : Rules
   pub rest : List Seen
@@ -42,6 +41,7 @@ pub record Source : Type 0 where
   pub has_text : Bool
   pub has_directive : Bool
   pub dead_for_good : Bool
+  pub contents : ℕ
 
 -- its errors of the lexer that were not reported yet
 abbrev pub unreported_of : Source → Unreported
@@ -57,6 +57,7 @@ pub record IsAfter (taken : ℕ) (note : Note) (still_open : List OpenBlock) (ol
   pub has_text : new.has_text ≡ (notes_text note || old.has_text)
   pub has_directive : new.has_directive ≡ (notes_directive note || old.has_directive)
   pub dead_for_good : new.dead_for_good ≡ old.dead_for_good
+  pub contents : new.contents ≡ old.contents
 
 -- All that is known after a fault: the rules are the same, fewer items and open blocks are left, the same names have
 -- numbers, no more tokens of bodies are defined, and memory didn't run out.
@@ -76,7 +77,7 @@ pub record IsAfterBlock (old new : Source) : Type 0 where
   pub spent : new.spent ≡ false
 
 -- a `#define` of a name that had this definition, or none
-abbrev pub DefinesOver : Named → Option Definition → ℕ → Note → Source → Step Token → Source → Type 0
+abbrev pub DefinesOver : Named → Option Definition → ℕ → Note → Source → PlacedStep Token → Source → Type 0
 DefinesOver named None taken note old step new =
     (step ≡ Err Continue)
     × IsAfter taken note old.blocks old new
@@ -87,65 +88,65 @@ DefinesOver named (Some before) taken note old step new =
     × IsAfter taken note old.blocks old new
     × (new.definitions ≡ old.definitions))
     ⊎ ((IsSameDefinition before named.definition → ⊥)
-    × (step ≡ Err (Error (DefineRedefined, named.location)))
+    × (step ≡ Err (Error (placed (DefineRedefined, named.location))))
     × IsAfterFault old new)
 
 -- at the end of the source the innermost open block is reported, or, if none is open, the end is given
-abbrev pub Ends : Option OpenBlock → Source → Step Token → Source → Type 0
-Ends (Some block) old step new = (step ≡ Err (Error (UnfinishedBlock, block.word))) × IsAfterBlock old new
+abbrev pub Ends : Option OpenBlock → Source → PlacedStep Token → Source → Type 0
+Ends (Some block) old step new = (step ≡ Err (Error (placed (UnfinishedBlock, block.word)))) × IsAfterBlock old new
 Ends None old step new = (step ≡ Err Finished) × (new ≡ old)
 
 -- a pause after `taken` items, with this remembered of them, and with these blocks open
-abbrev pub Pauses : ℕ → Note → List OpenBlock → Source → Step Token → Source → Type 0
+abbrev pub Pauses : ℕ → Note → List OpenBlock → Source → PlacedStep Token → Source → Type 0
 Pauses taken note blocks old step new =
     (step ≡ Err Continue) × IsAfter taken note blocks old new × (new.definitions ≡ old.definitions)
 
 -- the condition of an `#if` or `#elif` with this word and these tokens holds, doesn't hold, or has this fault
-abbrev pub Condition : Location → List Token → Numbering → List Defined → Result Bool Fault → Type 0
+abbrev pub Condition : Location → List Token → Numbering → List Defined → Result Bool PlacedFault → Type 0
 Condition word tokens numbering definitions result =
     IsCondition (answers_at expansion_limit) word tokens numbering (meaning_of definitions) result
 
 -- the number that a `#line` with this word and these tokens gives, or its fault
-abbrev pub LineNumber : Location → List Token → Numbering → List Defined → Result ℕ Fault → Type 0
+abbrev pub LineNumber : Location → List Token → Numbering → List Defined → Result ℕ PlacedFault → Type 0
 LineNumber word tokens numbering definitions result =
     IsLineNumber (answers_at expansion_limit) word tokens numbering (meaning_of definitions) result
 
 -- a line with a condition: the open blocks after it depend on whether the condition holds
 pub data Decides (word : Location) (tokens : List Token) (blocks : Bool → List OpenBlock) (taken : ℕ) (note : Note)
-    (old : Source) (step : Step Token) (new : Source) : Type 0 where
+    (old : Source) (step : PlacedStep Token) (new : Source) : Type 0 where
   holds : (value : Bool)
       → Condition word tokens (list_numbering old.rules old.line_offset) old.definitions (Ok value)
       → Pauses taken note (blocks value) old step new
       → Decides word tokens blocks taken note old step new
-  faulty : (fault : Fault)
+  faulty : (fault : PlacedFault)
       → Condition word tokens (list_numbering old.rules old.line_offset) old.definitions (Err fault)
       → step ≡ Err (Error fault)
       → IsAfterFault old new
       → Decides word tokens blocks taken note old step new
 
 -- a `#line`: the lines after it are numbered from there
-pub data Renumbers (word : Location) (tokens : List Token) (taken : ℕ) (note : Note) (old : Source) (step : Step Token)
-    (new : Source) : Type 0 where
+pub data Renumbers (word : Location) (tokens : List Token) (taken : ℕ) (note : Note) (old : Source)
+    (step : PlacedStep Token) (new : Source) : Type 0 where
   numbers : (n : ℕ)
       → LineNumber word tokens (list_numbering old.rules old.line_offset) old.definitions (Ok n)
       → Pauses taken note old.blocks
       (record old { line_offset = pos n -ℤ pos (numbered_line old.rules word.line) }) step new
       → Renumbers word tokens taken note old step new
-  unnumbered : (fault : Fault)
+  unnumbered : (fault : PlacedFault)
       → LineNumber word tokens (list_numbering old.rules old.line_offset) old.definitions (Err fault)
       → step ≡ Err (Error fault)
       → IsAfterFault old new
       → Renumbers word tokens taken note old step new
 
 -- what an effect means for the step, and for the source after it, if its line does this to the open blocks
-abbrev pub HasEffect : Effect → ℕ → Note → BlockChange → Source → Step Token → Source → Type 0
+abbrev pub HasEffect : Effect → ℕ → Note → BlockChange → Source → PlacedStep Token → Source → Type 0
 HasEffect (gives token) taken note change old step new =
     (step ≡ Ok token) × IsAfter taken note old.blocks old new × (new.definitions ≡ old.definitions)
 HasEffect (gives_item value word) taken note change old step new =
     (step ≡ Ok (record { value = value old.has_text (not (old.has_directive || old.has_text)); location = word }))
     × IsAfter taken note old.blocks old new
     × (new.definitions ≡ old.definitions)
-HasEffect (fails fault) taken note change old step new = (step ≡ Err (Error fault)) × IsAfterFault old new
+HasEffect (fails fault) taken note change old step new = (step ≡ Err (Error (placed fault))) × IsAfterFault old new
 HasEffect ends taken note change old step new = Ends (last_block old.blocks) old step new
 HasEffect passes taken note change old step new = Pauses taken note (change None old.blocks) old step new
 HasEffect (defines named) taken note change old step new =
@@ -160,23 +161,23 @@ HasEffect (decides word tokens) taken note change old step new =
     Decides word tokens (λ value. change (Some value) old.blocks) taken note old step new
 HasEffect (renumbers word tokens) taken note change old step new = Renumbers word tokens taken note old step new
 
-abbrev pub Makes : Note → BlockChange → Move → Source → Step Token → Source → Type 0
+abbrev pub Makes : Note → BlockChange → Move → Source → PlacedStep Token → Source → Type 0
 Makes note change move old step new = HasEffect move.effect move.taken note change old step new
 
 -- the same of the item at the front
-abbrev pub MakesMove : Source → Step Token → Source → Type 0
+abbrev pub MakesMove : Source → PlacedStep Token → Source → Type 0
 MakesMove old step new =
     Makes (note_of old.dead_for_good old.blocks old.rest) (block_change_at (sight_of old.rest))
     (move_of old.rules old.dead_for_good old.blocks old.rest) old step new
 
 -- memory ran out, and something was left to read
-pub record IsRefusedStep (old : Source) (step : Step Token) : Type 0 where
+pub record IsRefusedStep (old : Source) (step : PlacedStep Token) : Type 0 where
   pub some_left : old.rest ≢ []
-  pub fault : step ≡ Err (Error out_of_memory)
+  pub fault : step ≡ Err (Error no_memory)
 
 -- One step of a source. Once memory has run out, each further step is the end; nothing else is known of the source
 -- then.
-abbrev pub StepsSource : Source → Step Token → Source → Type 0
+abbrev pub StepsSource : Source → PlacedStep Token → Source → Type 0
 StepsSource old step new =
     MatchBool old.spent ((step ≡ Err Finished) × (new ≡ old))
     (IsRefusedStep old step ⊎ MakesMove old step new)

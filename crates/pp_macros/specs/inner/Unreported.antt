@@ -2,12 +2,13 @@
 use Rattle.std.specs.Prelude.{◌≡◌, Bool, true, false, List, ◌∷◌, ◌++◌, Option, Some, None, Result, Ok, Err, ⊤}
 use Rattle.pp_lexer.specs.Lexed.{Seen}
 use Rattle.pp_lexer.specs.declared.token.Location.{Location}
-use Rattle.pp_macros.specs.Item.{Fault, Step, is_out_of_memory}
+use Rattle.pp_model.specs.Places.{unplaced}
+use Rattle.pp_macros.specs.Item.{Fault, PlacedStep, is_out_of_memory}
 use Rattle.pp_macros.specs.LexerErrors.{ErrorAt, errors_among, PassesErrors}
 use Rattle.pp_macros.specs.declared.halt.Halt.{Halt}
 use Rattle.pp_macros.specs.declared.halt.Halt.TheVariants as halt
-use Rattle.pp_macros.specs.declared.step.StepExit.{StepExit}
-use Rattle.pp_macros.specs.declared.step.StepExit.TheVariants.{Error, Continue, Finished}
+use Rattle.pp_macros.specs.declared.step.PlacedExit.{PlacedExit}
+use Rattle.pp_macros.specs.declared.step.PlacedExit.TheVariants.{Error, Continue, Finished}
 
 -- the place of the error that was read and not reported, if there is one, and the errors that are still to be read
 pub record Unreported : Type 0 where
@@ -47,21 +48,22 @@ Reports passes (Err halt.OutOfMemory) old new = ⊤
 
 -- The same of a step that gives nothing: a pause or the end reports none, and if memory runs out, this says nothing.
 -- The end reads no error. With a fault errors may be passed: what is left of its line may be skipped.
-abbrev pub ExitReports : Bool → StepExit → Unreported → Unreported → Type 0
+abbrev pub ExitReports : Bool → PlacedExit → Unreported → Unreported → Type 0
 ExitReports passes Continue old new = ReportsNone passes old new
 ExitReports passes Finished old new = new ≡ old
-ExitReports passes (Error fault) old new = is_out_of_memory fault.0 ≡ false → IsMetOrPassed passes fault old new
+ExitReports passes (Error fault) old new =
+    is_out_of_memory fault.0 ≡ false → IsMetOrPassed passes (unplaced fault) old new
 
-abbrev pub StepReports : {A : Type 0} → Bool → Step A → Unreported → Unreported → Type 0
+abbrev pub StepReports : {A : Type 0} → Bool → PlacedStep A → Unreported → Unreported → Type 0
 StepReports passes (Ok value) old new = ReportsNone passes old new
 StepReports passes (Err exit) old new = ExitReports passes exit old new
 
 -- the errors that are still to be reported if this is held: a fault that is held may be an error that was read
-abbrev pub unreported_with : {T : Type 0} → Option (Step T) → Unreported → List ErrorAt
-unreported_with (Some (Err (Error fault))) u = with_read fault u.read u.later
+abbrev pub unreported_with : {T : Type 0} → Option (PlacedStep T) → Unreported → List ErrorAt
+unreported_with (Some (Err (Error fault))) u = with_read (unplaced fault) u.read u.later
 unreported_with _ u = u.later
 
 -- an error that was read and not reported is held: if no fault is held, there is none
-abbrev pub IsReportedBut : {T : Type 0} → Option (Step T) → Unreported → Type 0
+abbrev pub IsReportedBut : {T : Type 0} → Option (PlacedStep T) → Unreported → Type 0
 IsReportedBut (Some (Err (Error fault))) u = ⊤
 IsReportedBut _ u = u.read ≡ None

@@ -6,9 +6,9 @@ use Rattle.pp_model.specs.Names.{Name}
 use Rattle.pp_model.specs.SpliceList.{parameter_of}
 use Rattle.pp_macros.specs.inner.Defined.{body_tokens}
 use Rattle.pp_macros.specs.inner.Frames.{Frame, argument_at}
-use Rattle.pp_macros.specs.Item.{Step, wants_memory}
+use Rattle.pp_macros.specs.Item.{PlacedStep, wants_memory}
 use Rattle.pp_macros.specs.inner.Source.{Source}
-use Rattle.pp_macros.specs.declared.step.StepExit.TheVariants.{Finished}
+use Rattle.pp_macros.specs.declared.step.PlacedExit.TheVariants.{Finished}
 
 -- A token of a body takes one step. A parameter takes one step itself, one for each token of its argument, and one for
 -- the argument's end.
@@ -42,10 +42,10 @@ most_steps source = 2 * (body_tokens source.definitions + most_reads source) + 1
 abbrev pub most_names : Source → ℕ
 most_names source = length source.definitions + most_reads source
 
-abbrev pub is_end : {T : Type 0} → Step T → Bool
+abbrev pub is_end : {T : Type 0} → PlacedStep T → Bool
 is_end (Err Finished) = true
 is_end _ = false
 
 -- reading goes on after the step: it isn't the end, and memory didn't run out
-abbrev pub goes_on : {T : Type 0} → Step T → Bool
+abbrev pub goes_on : {T : Type 0} → PlacedStep T → Bool
 goes_on step = not (is_end step) && not (wants_memory step)

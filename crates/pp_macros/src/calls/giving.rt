@@ -1,13 +1,13 @@
 //! What the open macros of an expander give, without a step of its reader.
 
-ghost use Rattle.std.specs.Prelude.{◌≡◌, ◌∷◌, ◌++◌, [], List, OnOk, OnErr, IfOk, IfSome, Some, IsSome, option_map};
+ghost use Rattle.std.specs.Prelude.{◌≡◌, ◌∷◌, ◌++◌, [], ℕ, List, OnOk, OnErr, IfOk, IfSome, Some, IsSome, option_map};
 ghost use Rattle.pp_model.specs.Names.{Name};
 ghost use Rattle.pp_model.specs.Painting.{painted_among};
 ghost use Rattle.pp_macros.specs.Held.{HoldsOrdinary};
-ghost use Rattle.pp_macros.specs.inner.Ahead.{read_of};
+ghost use Rattle.pp_macros.specs.inner.Ahead.{given_next, read_of};
 ghost use Rattle.pp_macros.specs.inner.Reading.{AllReadOrdinary};
 ghost use Rattle.pp_macros.specs.inner.Giving.{AdvancesTo, GivesEach, GivesNext, RefusesWithin};
-ghost use Rattle.pp_macros.specs.inner.Giving.{TurnsFrames, token_ahead};
+ghost use Rattle.pp_macros.specs.inner.Giving.{TurnsFrames, read_ahead, token_ahead};
 ghost use Rattle.pp_macros.specs.inner.CallTurns.{TakesSomething};
 ghost use Rattle.pp_macros.specs.inner.Left.{IsSound};
 ghost use Rattle.pp_macros.specs.inner.Bodies.{noted_by};
@@ -52,10 +52,10 @@ fn opened_by<'l, L: MeLexer>(
     number: &Option<NameId>,
     painted: bool,
 ) -> Option<&'l Rc<Macro>>
-    ensures opened { (token : Token)
+    ensures opened { (token : Token) (text : ℕ)
         → number.now ≡ number_in (names_in (definitions_of (L.reader lexer.now))) token.value
         → option_map (λ m. (m.now.value.name, m.now.value.definition)) result
-        ≡ macro_of (L.reader lexer.now) (record { token = token; painted = painted }) }
+        ≡ macro_of (L.reader lexer.now) (record { token = token; text = text; painted = painted }) }
     ensures numbered { IfSome result (λ m.
         AreNumbered (names_in (definitions_of (L.reader lexer.now))) (numbered_by m.now.value)) }
 {
@@ -119,10 +119,10 @@ impl MacroProcessor {
         if found.is_function_like() {
             return Ok(Turn::Other);
         }
-        let name = ahead.token.location;
+        let (text, name) = (ahead.text, ahead.token.location);
         let opened = found.clone()?;
         self.pass_token();
-        self.open_bare(opened, name)?;
+        self.open_bare(opened, text, name)?;
         Ok(Turn::Passed)
     }
 
@@ -161,18 +161,18 @@ impl MacroProcessor {
 
     /// Goes on as `advance` does, and gives a copy of the token that it finds, and passes it.
     #[inline(always)]
-    pub fn give_next<L: MeLexer>(&mut self, lexer: &L) -> Result<Option<Token>, AllocError>
+    pub fn give_next<L: MeLexer>(&mut self, lexer: &L) -> Result<Option<Read>, AllocError>
         requires sound { IsSound self.old.here (seen_by self.old.below (L.reader lexer.now)) }
         requires waits { MayWait self.old.below (L.reader lexer.now) }
         requires known { AreKnown (names_in (definitions_of (L.reader lexer.now))) self.old }
         ensures gives { IfOk result (λ given. GivesNext (seen_by self.old.below (L.reader lexer.now))
             self.old.here given self.new.here) }
         ensures below { self.new.below ≡ self.old.below }
-        ensures holds { IfOk result (λ given. IfSome given (λ token. HoldsOrdinary token.value)) }
+        ensures holds { IfOk result (λ given. IfSome given (λ read. HoldsOrdinary read.token.value)) }
         ensures refused { OnErr result (RefusesWithin (seen_by self.old.below (L.reader lexer.now)) self.old.here) }
     {
         match self.advance(lexer)? {
-            Some(_) => self.make_token().map(Some),
+            Some(painted) => self.make_read(painted).map(Some),
             None => Ok(None),
         }
     }
@@ -181,22 +181,23 @@ impl MacroProcessor {
     // is put.
     #[inline(always)]
     fn put_token(&mut self, painted: bool, items: &mut Vec<Read>) -> Result<(), AllocError>
-        requires { IsSome (token_ahead self.old.here) }
+        requires { IsSome (given_next self.old.here.frames) }
         ensures passes { OnOk result (self.new ≡ stepped self.old) }
         ensures below { self.new.below ≡ self.old.below }
-        ensures puts { OnOk result ((token : Token) → token_ahead self.old.here ≡ Some token
-            → items.new.items ≡ items.old.items ++ record { token = token; painted = painted } ∷ []) }
+        ensures puts { OnOk result ((read : Read) → read_ahead painted self.old.here ≡ Some read
+            → items.new.items ≡ items.old.items ++ read ∷ []) }
     {
-        let Some(token) = self.token() else {
+        let Some(ahead) = self.ahead() else {
             unreachable!();
         };
-        if let TokenValue::Punct(punct) = &token.value {
+        if let TokenValue::Punct(punct) = &ahead.token.value {
             self.pay(2)?;
             items.push(Read {
                 token: Token {
                     value: TokenValue::Punct(*punct),
-                    location: token.location,
+                    location: ahead.token.location,
                 },
+                text: ahead.text,
                 painted,
             })?;
             self.pass_token();
@@ -208,15 +209,15 @@ impl MacroProcessor {
     // Does the same with any token. It is a function of its own, so that a punctuator is put without it.
     #[inline(never)]
     fn put_other(&mut self, painted: bool, items: &mut Vec<Read>) -> Result<(), AllocError>
-        requires { IsSome (token_ahead self.old.here) }
+        requires { IsSome (given_next self.old.here.frames) }
         ensures passes { OnOk result (self.new ≡ stepped self.old) }
         ensures below { self.new.below ≡ self.old.below }
-        ensures puts { OnOk result ((token : Token) → token_ahead self.old.here ≡ Some token
-            → items.new.items ≡ items.old.items ++ record { token = token; painted = painted } ∷ []) }
+        ensures puts { OnOk result ((read : Read) → read_ahead painted self.old.here ≡ Some read
+            → items.new.items ≡ items.old.items ++ read ∷ []) }
     {
         self.pay(1)?;
-        let token = self.make_token()?;
-        items.push(Read { token, painted })?;
+        let read = self.make_read(painted)?;
+        items.push(read)?;
         Ok(())
     }
 

@@ -3,7 +3,7 @@ use Rattle.std.specs.Prelude.{Ok, Err}
 use Rattle.std.proofs.lemmas.Int.{to_z-of_z}
 use Rattle.pp_lexer.specs.declared.token.Location.{Location}
 use Rattle.pp_lexer.specs.declared.token.Token.{Token}
-use Rattle.pp_model.specs.Calls.{Fault}
+use Rattle.pp_model.specs.Places.{PlacedFault}
 use Rattle.pp_model.specs.Emitting.{answers_at, expansion_limit}
 use Rattle.pp_model.specs.LineValues.{IsAlone, IsLineNumber}
 use Rattle.pp_model.specs.LineValues as line
@@ -32,7 +32,7 @@ module _ (directive : Location) (tokens : List Token) (numbering : Numbering) (d
   }
 
   -- the fault of the second expression
-  followed : (fault : Fault) → is_none (slice_get after.words.words 0) ≡ false
+  followed : (fault : PlacedFault) → is_none (slice_get after.words.words 0) ≡ false
       → IsAlone {A = ℤ} after.directive after.words (λ value. value) (Err fault)
       → IsLineNumber (answers_at expansion_limit) directive tokens numbering (meaning_of definitions) (Err fault)
   followed fault more second = record {

@@ -1,7 +1,7 @@
 use Rattle.std.proofs.Common.{◌≡◌, ◌+◌, ◌*◌, List, ◌++◌, length, drop}
 use Rattle.std.specs.Prelude.{Result}
+use Rattle.pp_model.specs.Places.{PlacedFault}
 use Rattle.pp_model.specs.declared.read.Read.{Read}
-use Rattle.pp_model.specs.Calls.{Fault}
 use Rattle.pp_model.specs.Emitting.{Each, Alone}
 use Rattle.pp_model.proofs.CollectLemmas.{after_items}
 use Rattle.pp_macros.specs.inner.Defined.{meaning_of}
@@ -51,7 +51,7 @@ decreases-expand_list-items l = work_of l.levels l.processor.here (seen_by l.pro
 -- the lists so far, and the parts that are left
 abbrev pub invariant-expand_parts-loop-part : goal.invariant-expand_parts-loop-part
 invariant-expand_parts-loop-part l = record {
-  goes_on : (out : Result (List (List Read)) Fault)
+  goes_on : (out : Result (List (List Read)) PlacedFault)
       → Each (Alone l.levels) l.scope.numbering (meaning_of l.scope.definitions.now) (open_names l.fn.processor) (lists_of l.fn.tokens (drop l.part-index l.parts)) out
       → Each (Alone l.levels) l.scope.numbering (meaning_of l.scope.definitions.now) (open_names l.fn.processor) (lists_of l.fn.tokens l.parts) (after_items (lists_of l.items.items l.expanded.items) out);
   short : AreShort l.levels l.scope.definitions.now (lists_of l.fn.tokens l.parts) (lists_of l.items.items l.expanded.items);

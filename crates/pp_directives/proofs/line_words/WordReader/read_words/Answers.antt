@@ -27,11 +27,11 @@ words-preserved-in-Continue-branch-2 c =
 pub words-preserved : goal.words-preserved
 words-preserved c = words_answered _ _ _ _ _ _ _ _ _ _ c.words.invariant c.next_item.new.line.expander.here (rest_of c.next_item.new.line) c.in-Ok-Some.read
     (rw c.in-Ok-Some.field-0-is at c.in-Ok-Some.ensures.reads) c.in-Ok.answer c.operand.new.line.expander.here (rest_of c.operand.new.line) _
-    c.in-Operator.ensures.reads c.in-Ok.ensures c.in_ok-push-in-Ok.ensures.items
+    c.in-Operator.ensures.reads c.in-Ok.ensures (rw c.place-place.ensures at c.in_ok-push-in-Ok.ensures.items)
 
 pub returns-in-Err-Fault-operand : goal.returns-in-Err-Fault-operand
 returns-in-Err-Fault-operand c =
     words_faulty _ _ _ _ _ _ _ _ _ _ c.words.invariant c.next_item.new.line.expander.here (rest_of c.next_item.new.line) c.in-Ok-Some.read
     (rw c.in-Ok-Some.field-0-is at c.in-Ok-Some.ensures.reads) c.in-Err-Fault-operand.fault c.operand.new.line.expander.here (rest_of c.operand.new.line) _ c.new-in-Err-Fault-operand.result c.in-Operator.ensures.reads
-    (rw c.in-Err-Fault-operand.field-0-is at c.in-Err-Fault-operand.ensures) c.in_ok-push-in-Err-Fault-operand.ensures.items
+    (rw c.in-Err-Fault-operand.field-0-is at c.in-Err-Fault-operand.ensures) (rw c.place-place.ensures at c.in_ok-push-in-Err-Fault-operand.ensures.items)
     c.new-in-Err-Fault-operand.ensures

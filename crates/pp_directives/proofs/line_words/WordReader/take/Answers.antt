@@ -1,6 +1,6 @@
 use Rattle.std.proofs.Common.{◌≡◌, true, false, refl}
 use Rattle.std.specs.Prelude.{Ok, Err}
-use Rattle.pp_macros.specs.declared.step.StepExit.TheVariants.{Continue, Finished}
+use Rattle.pp_macros.specs.declared.step.PlacedExit.TheVariants.{Continue, Finished}
 use Rattle.pp_directives.proofs.LineReadLemmas.{taken_fault}
 use Rattle.pp_directives.proofs.LineTurnLemmas.{next_read}
 use Rattle.pp_macros.proofs.taking.ExpanderLemmas.{next_no_pause}

@@ -10,7 +10,7 @@ use Rattle.pp_macros.proofs.define.Macro.entry_at.Goals as goal
 pub returns-clause-entry : goal.returns-clause-entry
 returns-clause-entry c =
     rw (← c.self.view_is)
-    (entry_found c.self.inside.function_like c.self.inside.parameters.items c.self.inside.body.items c.args.position c.get.result c.self.invariant
+    (entry_found c.self.inside.function_like c.self.inside.parameters.items c.self.inside.body.items c.self.inside.text c.args.position c.get.result c.self.invariant
     (rw c.deref.ensures.value at c.get.ensures.lookup))
 
 pub returns-clause-noted : goal.returns-clause-noted

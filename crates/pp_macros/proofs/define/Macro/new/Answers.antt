@@ -31,5 +31,6 @@ returns-clause-is c =
       function_like = c.define.inside.function_like;
       parameters = c.define.inside.parameters.items;
       body = tokens;
+      text = c.define.inside.text;
     }) (rw is same.0)
     ∙ c.define.view_is)

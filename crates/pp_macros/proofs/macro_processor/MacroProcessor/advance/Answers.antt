@@ -1,7 +1,7 @@
 use Rattle.std.proofs.Common.{◌∙◌, refl, Err}
 use Rattle.pp_macros.specs.inner.Giving.{at_once, after}
 use Rattle.pp_macros.specs.inner.Nesting.{seen_by}
-use Rattle.pp_macros.specs.declared.step.StepExit.TheVariants.{Continue}
+use Rattle.pp_macros.specs.declared.step.PlacedExit.TheVariants.{Continue}
 use Rattle.pp_macros.proofs.open_frames.KnownLemmas.{sound_known}
 use Rattle.pp_macros.proofs.work.CallFallsLemmas.{turn_falls}
 use Rattle.pp_macros.proofs.macro_processor.MacroProcessor.advance.Goals as goal

@@ -24,3 +24,8 @@ pub returns-clause-waits : goal.returns-clause-waits
 returns-clause-waits g c =
     let step = c.in_ok-read.ensures {u = tt} in
     rw step.others (moves_wait _ _ _ _ _ _ step.moves c.requires.waits)
+
+pub returns-in_err-read-clause-waits : goal.returns-in_err-read-clause-waits
+returns-in_err-read-clause-waits g c =
+    let step = c.in_err-read.ensures {u = tt} in
+    rw step.others (moves_wait _ _ _ _ _ _ step.moves c.requires.waits)

@@ -40,7 +40,7 @@ returns-in-Closes-clause-gathers g c =
     let run = (c.in-Ok.ensures {u = tt}).takes in
     let t = run.last in
     let same = last_put _ _ t.read c.in-Some.read.now (c.deref-in-tokens.ensures.value ∙ t.is) c.in-Some.ensures.value in
-    rw (c.pop.ensures.rest ∙ before_last _ _ t.read _ c.push_run.new.tokens.ok.0 t.is, same)
+    rw (c.pop.ensures.rest ∙ before_last _ _ t.read _ c.push_run.new.tokens.ok.0 t.is, c.place-place.ensures, same)
     (gathers_closed _ _ _ run.some _ _ _ _ (flat_gathers _ _ _ _ _ _ _ _ _ c.tokens.invariant.goes_on run.flat) _ _ t.read t.takes
     (ap (λ (r : Read). nesting c.tokens.depth r.token.value) (sym same) ∙ c.in-Closes.ensures {u = tt}))
 
@@ -56,7 +56,7 @@ returns-in-TooMany-clause-gathers g c =
     let run = (c.in-Ok.ensures {u = tt}).takes in
     let t = run.last in
     let same = last_put _ _ t.read c.in-Some.read.now (c.deref-in-tokens.ensures.value ∙ t.is) c.in-Some.ensures.value in
-    rw same
+    rw (c.place-place.ensures, same)
     (gathers_overfull _ _ _ run.some _ _ _ _ (flat_gathers _ _ _ _ _ _ _ _ _ c.tokens.invariant.goes_on run.flat) _ _ t.read t.takes
     (ap (λ (r : Read). nesting c.tokens.depth r.token.value) (sym same) ∙ c.in-TooMany.ensures {u = tt}))
 

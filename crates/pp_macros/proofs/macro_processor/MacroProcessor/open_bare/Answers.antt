@@ -14,7 +14,7 @@ overflow_add-index_mut c =
 pub invariant_of-self-2 : goal.invariant_of-self-2
 invariant_of-self-2 c =
     rw (c.push_reserved.ensures.items, c.bare.ensures, c.reserve.ensures.items) (
-      counted_put c.self.inside.counts.items c.make_room.new.counts.items c.self.inside.frames.items (new_frame c.args.opened.value (bare_call c.args.name) []) c.number-number.result c.index_mut.result.now
+      counted_put c.self.inside.counts.items c.make_room.new.counts.items c.self.inside.frames.items (new_frame c.args.opened.value (bare_call c.args.text c.args.name) []) c.number-number.result c.index_mut.result.now
           (c.number-number.ensures ∙ c.number.ensures ∙ ap (λ (m : Macro). m.number) c.deref-2.ensures) c.self.invariant.0 c.in_ok-make_room.ensures.same c.in_ok-make_room.ensures.room c.index_mut.ensures.value,
       c.self.invariant.1,
       pushed_within c.self.inside.base c.self.inside.frames.items _ _ c.self.invariant.2 refl,

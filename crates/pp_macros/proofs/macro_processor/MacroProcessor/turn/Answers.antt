@@ -25,16 +25,19 @@ returns-in_default-clause-turns g c =
 pub returns-in_default-opened_by-clause-turns : goal.returns-in_default-opened_by-clause-turns
 returns-in_default-opened_by-clause-turns g c = (
   refl,
-  c.in-Some.ahead.token.now,
-  frame_gives c.args.self.now.here (seen_by c.args.self.now.below (g.L.MeLexer.reader c.args.lexer.now))
-      (none_held c.args.self.now.here.held (sym c.is_holding.ensures ∙ c.if-is_holding.false)) (sym c.has_frames.ensures ∙ c.if-not-has_frames.false)
-      (read_of c.in-Some.ahead) c.in-Some.ensures.ahead
-      (sym c.is_line_name.ensures ∙ c.if-is_line_name.false) c.paints-painted.result
-      (c.paints-painted.ensures _ c.requires.known c.number_of-number.ensures ∙ ap (λ (names : List Name). (painted_among names (read_of c.in-Some.ahead)).painted)
-      (sym (masks_seen c.args.self.now (g.L.MeLexer.reader c.args.lexer.now) c.requires.waits)))
-      c.in-Some.ensures.holds
-      (macro_seen c.args.self.now.below (g.L.MeLexer.reader c.args.lexer.now)
-      (record { token = c.in-Some.ahead.token.now; painted = c.paints-painted.result }) ∙ sym ((c.in_default-opened_by.ensures {u = tt}).opened c.in-Some.ahead.token.now c.number_of-number.ensures)),
+  (
+    record (read_of c.in-Some.ahead) { painted = c.paints-painted.result },
+    frame_gives c.args.self.now.here (seen_by c.args.self.now.below (g.L.MeLexer.reader c.args.lexer.now))
+        (none_held c.args.self.now.here.held (sym c.is_holding.ensures ∙ c.if-is_holding.false)) (sym c.has_frames.ensures ∙ c.if-not-has_frames.false)
+        (read_of c.in-Some.ahead) c.in-Some.ensures.ahead
+        (sym c.is_line_name.ensures ∙ c.if-is_line_name.false) c.paints-painted.result
+        (c.paints-painted.ensures _ c.requires.known c.number_of-number.ensures ∙ ap (λ (names : List Name). (painted_among names (read_of c.in-Some.ahead)).painted)
+        (sym (masks_seen c.args.self.now (g.L.MeLexer.reader c.args.lexer.now) c.requires.waits)))
+        c.in-Some.ensures.holds
+        (macro_seen c.args.self.now.below (g.L.MeLexer.reader c.args.lexer.now)
+        (record (read_of c.in-Some.ahead) { painted = c.paints-painted.result })
+        ∙ sym ((c.in_default-opened_by.ensures {u = tt}).opened c.in-Some.ahead.token.now c.in-Some.ahead.text c.number_of-number.ensures)),
+  ),
 )
 
 -- a name whose macro can't be shared, or not be opened
@@ -68,4 +71,4 @@ returns-clause-turns g c =
     (sym c.is_line_name.ensures ∙ c.if-is_line_name.false) c.paints-painted.result
     (c.paints-painted.ensures _ c.requires.known c.number_of-number.ensures ∙ ap (λ (names : List Name). (painted_among names (read_of c.in-Some.ahead)).painted)
     (sym (masks_seen c.args.self.now (g.L.MeLexer.reader c.args.lexer.now) c.requires.waits)))
-    _ (opens_seen c.args.self.now.below (g.L.MeLexer.reader c.args.lexer.now) _ _ (sym (opened.opened c.in-Some.ahead.token.now c.number_of-number.ensures)) opened.numbered) bare)
+    _ (opens_seen c.args.self.now.below (g.L.MeLexer.reader c.args.lexer.now) _ _ (sym (opened.opened c.in-Some.ahead.token.now c.in-Some.ahead.text c.number_of-number.ensures)) opened.numbered) bare)
