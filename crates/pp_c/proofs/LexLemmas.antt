@@ -1,7 +1,7 @@
 -- The items of the lexer, one after another.
 use Rattle.std.proofs.Common.{◌≡◌, ◌≢◌, ◌∙◌, inl, inr, Bool, true, false, List, [], ◌∷◌, ◌++◌, refl, ap, sym, Some, Result, Err, arith, append_assoc}
 use Rattle.std.specs.Prelude.{MatchBool}
-use Rattle.pp_model.specs.Calls.{Fault}
+use Rattle.pp_model.specs.Places.{Fault}
 use Rattle.pp_rs.specs.Lexed.{Seen, Lexed, first_item, after_first_item, first_place, places_after_first, IsNext}
 use Rattle.pp_rs.specs.PreprocessorError.{out_of_memory}
 use Rattle.pp_rs.specs.declared.lexer.Token.{Token}

@@ -2,7 +2,7 @@
 use Rattle.std.proofs.Common.{◌≡◌, ◌∙◌, ℕ, inl, inr, Bool, true, false, List, [], refl, ap, sym, Option, Some, None, Ok, Err}
 use Rattle.std.specs.Prelude.{MatchBool}
 use Rattle.pp_macros.specs.Item.{Item, is_out_of_memory}
-use Rattle.pp_model.specs.Calls.{Fault}
+use Rattle.pp_model.specs.Places.{Fault}
 use Rattle.pp_model.specs.Run.{items_by, content_tokens}
 use Rattle.pp_rs.specs.Adding.{IsAdded, refused, faulty, added}
 use Rattle.pp_rs.specs.Kept.{Preprocessing, is_spent, error_place, rules_of}

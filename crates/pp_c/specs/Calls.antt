@@ -1,7 +1,7 @@
 -- The definitions that a caller in C passes, and the calls of the preprocessor that they stand for.
 use Rattle.std.specs.Prelude.{ℕ, ◌+◌, ◌-◌, ◌^◌, ◌<◌, ◌≤◌, min, max, List, [], ◌∷◌, ◌++◌, length}
 use Rattle.std.specs.Prelude.{replicate, slice_range, IsCharBoundary, Result, Ok, Err}
-use Rattle.pp_model.specs.Calls.{Fault}
+use Rattle.pp_model.specs.Places.{Fault}
 use Rattle.pp_model.specs.Run.{Call, add_define, next, items_by, content_tokens}
 use Rattle.pp_rs.specs.Location.{nowhere}
 use Rattle.pp_rs.specs.Rules.{pp_rs}

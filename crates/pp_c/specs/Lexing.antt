@@ -1,6 +1,6 @@
 -- What a call of `pp_lex` gives: the items of the lexer.
 use Rattle.std.specs.Prelude.{ℕ, bit_or, List, [], ◌∷◌, ◌++◌, Result, Ok, Err}
-use Rattle.pp_model.specs.Calls.{Fault}
+use Rattle.pp_model.specs.Places.{Fault}
 use Rattle.pp_rs.specs.Entry.{ident, integer, float, punct}
 use Rattle.pp_rs.specs.Lexed.{Seen, Lexed, start_of, first_place, places_after_first}
 use Rattle.pp_rs.specs.Spots.{spots_of}

@@ -3,7 +3,7 @@ use Rattle.std.specs.Prelude.{◌≡◌, ℕ, ◌+◌, ◌<◌, ◌⊎◌, Bool,
 use Rattle.std.specs.Prelude.{Option, Some, None, ⊤}
 use Rattle.std.specs.List.{flat_map, AllByRecursion as Each}
 use Rattle.pp_macros.specs.LexerErrors.{ErrorAt, lexer_errors_by, PassesErrors}
-use Rattle.pp_model.specs.Calls.{Fault}
+use Rattle.pp_model.specs.Places.{Fault}
 use Rattle.pp_model.specs.Run.{IsRunBy}
 use Rattle.pp_model.specs.declared.call.Reply.{Reply}
 use Rattle.pp_model.specs.declared.call.Reply.TheVariants as reply

@@ -1,9 +1,9 @@
 -- A source has a run, where definitions are added whose contents hold no error and no number sign
-use Rattle.std.proofs.Common.{◌≡◌, false, List, [], ◌∷◌, Result, Ok, Err, IsOk, refl}
+use Rattle.std.proofs.Common.{◌≡◌, ◌+◌, false, List, [], ◌∷◌, Result, Ok, Err, IsOk, refl}
 use Rattle.std.specs.Prelude.{All}
 use Rattle.std.specs.Str.{chars}
 use Rattle.std.proofs.lemmas.List.Elements.{All-head, All-tail}
-use Rattle.pp_model.specs.Calls.{Fault}
+use Rattle.pp_model.specs.Places.{Fault}
 use Rattle.pp_model.specs.Definitions.{object_like}
 use Rattle.pp_model.specs.Emitting.{answers_at, expansion_limit}
 use Rattle.pp_model.specs.ExistenceLaws.{is_given_token, Ends}
@@ -62,7 +62,7 @@ added : (ds : List Definition) (e : State) → HasFinite e.reader → All (λ d.
 added [] e finite accepted = record { after = e; adds = adds.none e [] e refl refl; finite = finite }
 added (d ∷ ds) e finite accepted =
     added_first e d ds (tokens_of d) refl (All-head (λ d. IsOk (tokens_of d)) d ds accepted)
-    (λ tokens. added ds (with_added (chars d.0.now) tokens e) (with_one e.reader.definitions (chars d.0.now) finite (object_like tokens))
+    (λ tokens. added ds (with_added (chars d.0.now) tokens e) (with_one e.reader.definitions (chars d.0.now) finite (object_like (e.reader.contents + 1) tokens))
     (All-tail (λ d. IsOk (tokens_of d)) d ds accepted))
 
 -- A source and definitions have a run.

@@ -3,7 +3,7 @@ use Rattle.std.proofs.Common.{◌≡◌, ◌<◌, ◌-◌, ◌^◌, ℕ, List, [
 use Rattle.std.specs.Str.{chars}
 use Rattle.std.proofs.lemmas.List.{take_more}
 use Rattle.std.proofs.lemmas.List.Elements.{All-nil, All-cons, All-push, All-head}
-use Rattle.pp_model.specs.Calls.{Fault}
+use Rattle.pp_model.specs.Places.{Fault}
 use Rattle.pp_rs.specs.Rules.{pp_rs}
 use Rattle.pp_model.specs.Run.{with_added}
 use Rattle.pp_rs.specs.Adding.{IsAdded, refused, faulty, added}

@@ -1,6 +1,6 @@
 -- The tokens that come one after another in a run
 use Rattle.std.proofs.Common.{◌≡◌, ◌∙◌, List, [], ◌∷◌, ◌++◌, refl, ap, sym, subst, append-nil}
-use Rattle.pp_model.specs.Calls.{Fault}
+use Rattle.pp_model.specs.Places.{Fault}
 use Rattle.pp_model.specs.declared.outcome.Outcome.TheVariants as outcome
 use Rattle.pp_rs.specs.Comes.{State, Comes, Gives, nothing, first}
 use Rattle.pp_rs.specs.declared.token.Token.{Token}

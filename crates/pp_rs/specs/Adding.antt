@@ -8,7 +8,7 @@ use Rattle.pp_model.specs.Run.{items_by, content_tokens, with_added}
 use Rattle.pp_rs.specs.Comes.{State}
 use Rattle.pp_macros.specs.Item.{Fault}
 use Rattle.pp_rs.specs.Kept.{Preprocessing, Stands, is_spent, most_items, errors_left, error_place}
-use Rattle.pp_rs.specs.Kept.{call_place, rules_of}
+use Rattle.pp_rs.specs.Kept.{call_place, item_text, rules_of}
 
 -- For each state that the preprocessor stood for, it now stands for that state with the name defined as a macro with
 -- these tokens. If nothing was left to give, nothing is.
@@ -18,6 +18,7 @@ pub record IsWithAdded (name : Name) (tokens : List Token) (old new : Preprocess
   pub ended : most_items old ≡ 0 → most_items new ≡ 0
   pub errors : errors_left new ≡ errors_left old
   pub place : error_place new ≡ error_place old
+  pub text : item_text new ≡ item_text old
   pub call : call_place new ≡ call_place old
   pub rules : rules_of new ≡ rules_of old
 

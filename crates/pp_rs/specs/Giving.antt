@@ -2,19 +2,19 @@
 use Rattle.std.specs.Prelude.{◌≡◌, Bool, false, Option, Some, Ok}
 use Rattle.pp_lexer.specs.TokenValue.{is_ordinary}
 use Rattle.pp_macros.specs.Item.{Item}
-use Rattle.pp_rs.specs.Kept.{Preprocessing, call_place}
+use Rattle.pp_rs.specs.Kept.{Preprocessing, origin_of}
 use Rattle.pp_rs.specs.Preprocessing.{IsNextItem, IsLessLeft, is_refusal}
 use Rattle.pp_rs.specs.TokenRefs.{token_of}
 use Rattle.pp_rs.specs.declared.pp.token_ref.TokenRef.{TokenRef}
 
--- `next` would give these tokens, one after another, and the sink took each, with the call that gave it.
+-- `next` would give these tokens, one after another, and the sink took each, with its origin.
 pub data AreGiven {S : Type 0} (takes : S → TokenRef → S → Type 0) (old : Preprocessing) (before : S)
     : Preprocessing → S → Type 0 where
   nothing : (new : Preprocessing) (after : S) → new ≡ old → after ≡ before → AreGiven takes old before new after
   one_more : (token : TokenRef) (now new : Preprocessing) (between after : S)
       → AreGiven takes old before now between
       → IsNextItem now (Some (Ok (token_of token))) new
-      → token.call ≡ call_place new
+      → token.origin ≡ origin_of new
       → takes between token after
       → AreGiven takes old before new after
 

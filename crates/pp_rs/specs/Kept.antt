@@ -1,19 +1,19 @@
 -- What a preprocessor keeps: the states of a run that it stands for, whether memory ran out, how much is left, which
--- errors of the lexer were not reported yet, the place of the error that was given last, the call from which the last
--- item came, and the rules. Nothing here has to be believed. Contracts of public calls say what holds of `Stands`,
--- `is_spent`, `most_items`, `errors_left`, `error_place`, `call_place` and `rules_of`, and no proof of a caller looks
--- into them.
+-- errors of the lexer were not reported yet, the place of the error that was given last, the text of the last item and
+-- the call from which it came, and the rules. Nothing here has to be believed. Contracts of public calls say what holds
+-- of `Stands`, `is_spent`, `most_items`, `errors_left`, `error_place`, `call_place`, `item_text` and `rules_of`, and no
+-- proof of a caller looks into them.
 use Rattle.std.specs.Prelude.{◌≡◌, Bool, false, IsTrue, if◌then◌else◌, ℕ, List, Option, Some, None}
 use Rattle.pp_lexer.specs.declared.rules.Rules.{Rules}
 use Rattle.pp_lexer.specs.declared.token.Location.{Location}
 use Rattle.pp_lexer.specs.TokenValue.{is_ordinary}
-use Rattle.pp_lexer.specs.declared.token.Token.{Token}
 use Rattle.pp_model.specs.Emitting.{expansion_limit}
 use Rattle.pp_model.specs.Reading.{Expander}
 use Rattle.pp_model.specs.SourceReader.{SourceReader}
 use Rattle.pp_model.specs.declared.read.Read.{Read}
 use Rattle.pp_model.specs.declared.splice.CallPlace.{CallPlace}
-use Rattle.pp_macros.specs.Item.{Step}
+use Rattle.pp_model.specs.declared.splice.Origin.{Origin}
+use Rattle.pp_macros.specs.Item.{PlacedStep}
 use Rattle.pp_macros.specs.inner.Frames.{Frame, outermost_frame_call}
 use Rattle.pp_macros.specs.inner.Giving.{GivesAhead}
 use Rattle.pp_macros.specs.inner.Left.{work_of}
@@ -24,14 +24,15 @@ use Rattle.pp_macros.specs.inner.Source.{Source, unreported_of}
 use Rattle.pp_rs.specs.inner.Stands.{StandsFor}
 use Rattle.pp_macros.specs.inner.Unreported.{unreported_with}
 
--- the open macros with what is held, the source after them, whether memory ran out, the place of the last error, where
--- the outermost macro was called that was open when the name was taken after which the held step was met, and the rules
--- by which the source and contents are read
+-- the open macros with what is held, the source after them, whether memory ran out, the place of the last error, the
+-- text of the last item, where the outermost macro was called that was open when the name was taken after which the
+-- held step was met, and the rules by which the source and contents are read
 pub record Preprocessing : Type 0 where
   pub expander : kept.Expander
   pub source : Source
   pub spent : Bool
   pub place : Location
+  pub text : ℕ
   pub name_call : Option CallPlace
   pub rules : Rules
 
@@ -40,10 +41,10 @@ unfoldable pub Stands : Preprocessing → Expander SourceReader → Type 0
 Stands p state = StandsFor p.expander p.source state
 
 -- an open macro gives this token next, as its body or an argument has it, and it is ordinary
-unfoldable pub IsAhead : Preprocessing → Token → Type 0
-IsAhead p token =
-    (p.spent ≡ false) × IsTrue (is_ordinary token.value)
-    × (painted : Bool) × GivesAhead (of_source p.source) p.expander token painted
+unfoldable pub IsAhead : Preprocessing → Read → Type 0
+IsAhead p read =
+    (p.spent ≡ false) × IsTrue (is_ordinary read.token.value)
+    × (painted : Bool) × GivesAhead (of_source p.source) p.expander painted read
 
 -- memory for an item ran out
 unfoldable pub is_spent : Preprocessing → Bool
@@ -62,13 +63,21 @@ unfoldable pub error_place : Preprocessing → Location
 error_place p = p.place
 
 -- the call that is kept if a step is held, and otherwise that of the outermost frame
-abbrev pub kept_call : Option (Step Read) → Option CallPlace → List Frame → Option CallPlace
+abbrev pub kept_call : Option (PlacedStep Read) → Option CallPlace → List Frame → Option CallPlace
 kept_call None call frames = outermost_frame_call frames
 kept_call (Some step) call frames = call
 
 -- where the macro was called from which the last item came
 unfoldable pub call_place : Preprocessing → Option CallPlace
 call_place p = kept_call p.expander.held p.name_call p.expander.frames
+
+-- the text in which the place of the last item is
+unfoldable pub item_text : Preprocessing → ℕ
+item_text p = p.text
+
+-- where the last item came from
+abbrev pub origin_of : Preprocessing → Origin
+origin_of p = record { text = item_text p; call = call_place p }
 
 -- the rules by which the source and contents are read
 unfoldable pub rules_of : Preprocessing → Rules

@@ -17,6 +17,7 @@ pub use Rattle.pp_lexer.specs.PhaseLaws
 pub use Rattle.pp_lexer.specs.ItemLaws
 pub use Rattle.pp_macros.specs.Held
 pub mod Kept
+pub mod Steps
 pub mod Preprocessing
 pub mod TokenRefs
 pub mod Giving

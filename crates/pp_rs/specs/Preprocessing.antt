@@ -1,17 +1,17 @@
 -- One call of `next` (docs/RULES.md, "Runs").
 use Rattle.std.specs.Prelude.{◌≡◌, ◌<◌, ◌⊎◌, Bool, true, false, List, [], ◌∷◌, Option}
-use Rattle.std.specs.Prelude.{Some, None, Ok, Err, MatchBool, ⊤}
+use Rattle.std.specs.Prelude.{Some, None, Ok, Err, MatchBool, IfSome, ⊤}
 use Rattle.pp_lexer.specs.PreprocessorError.{out_of_memory}
 use Rattle.pp_lexer.specs.declared.token.Location.{Location}
 use Rattle.pp_model.specs.declared.outcome.Outcome.{Outcome}
 use Rattle.pp_model.specs.declared.outcome.Outcome.TheVariants as outcome
-use Rattle.pp_model.specs.ItemCall.{item_call}
+use Rattle.pp_model.specs.ItemCall.{item_call, text_of}
 use Rattle.pp_rs.specs.Comes.{State, Comes}
 use Rattle.pp_macros.specs.Held.{AnswerHoldsOrdinary}
 use Rattle.pp_macros.specs.Item.{Fault, Item, is_out_of_memory}
 use Rattle.pp_macros.specs.LexerErrors.{ErrorAt, PassesErrors}
 use Rattle.pp_rs.specs.Kept.{Preprocessing, Stands, is_spent, most_items, errors_left, error_place}
-use Rattle.pp_rs.specs.Kept.{call_place, rules_of}
+use Rattle.pp_rs.specs.Kept.{call_place, item_text, rules_of}
 
 -- the answer is the error that memory ran out
 abbrev pub is_refusal : Option Item → Bool
@@ -29,11 +29,12 @@ abbrev pub GoesOn : Option Item → Preprocessing → State → Type 0
 GoesOn (Some (Err fault)) new state = ⊤
 GoesOn _ new state = Stands new state
 
--- the answer is what comes next in this state, the call from which it comes is kept, and the preprocessor stands for
--- the state after it
+-- the answer is what comes next in this state, its text and the call from which it comes are kept, and the preprocessor
+-- stands for the state after it
 pub record Emitted (answer : Option Item) (state : State) (new : Preprocessing) : Type 0 where
   pub after : State
   pub emits : Comes state (outcome_of answer) after
+  pub text : IfSome (text_of emits.taken) (λ text. item_text new ≡ text)
   pub call : call_place new ≡ item_call emits.emits
   pub goes_on : GoesOn answer new after
 

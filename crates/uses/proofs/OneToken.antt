@@ -12,6 +12,7 @@ use Rattle.pp_model.specs.Calls.{Answers}
 use Rattle.pp_model.specs.Emitting.{Emits, itself}
 use Rattle.pp_model.specs.Names.{Name, is_same_name, line_name}
 use Rattle.pp_model.specs.Painting.{unpainted}
+use Rattle.pp_model.specs.Places.{in_source}
 use Rattle.pp_model.specs.Reading.{Expander}
 use Rattle.pp_model.specs.Reads.{Steps, Reads, here, later, source_reading}
 use Rattle.pp_model.specs.Run.{by_rules, start, next, Runs, done, given}
@@ -52,18 +53,18 @@ module _ (A : Answers) (name : Name) (place after : Location) (b f c g : Bool) (
 
   -- it isn't `__LINE__`, and so it is shown as it is
   shown : first ≡ shown_token (text_number (reader_at 1).rules (reader_at 1).line_offset) [] (unpainted (token_of name place))
-  shown = ap (λ is_line. if is_line then line_number place (text_number (reader_at 1).rules (reader_at 1).line_offset (unwrap_or None place.line)) else first) (sym other)
+  shown = ap (λ is_line. if is_line then line_number (in_source place) (text_number (reader_at 1).rules (reader_at 1).line_offset (unwrap_or None place.line)) else first) (sym other)
 
   word_comes : Emits (source_reading A) A (state_at 0) first (state_at 1)
   word_comes =
-      let step : Steps A (reader_at 0) (Some (outcome.Token (token_of name place))) (reader_at 1) = (refl, refl) in
-      itself first _ _ (record { first = first; fetches = read first first (reader_at 1) _ _ refl refl (here _ first _ _ step refl) shown refl; paints = refl }) refl
+      let step : Steps A (reader_at 0) (Some first) (reader_at 1) = (refl, refl) in
+      itself first _ _ (record { first = first; fetches = read first first (reader_at 1) _ _ refl refl (here first _ _ step) shown refl; paints = refl }) refl
 
   end_comes : Emits (source_reading A) A (state_at 1) taken.End (state_at 2)
   end_comes =
       let newline : Steps A (reader_at 1) None (reader_at 2) = (refl, refl) in
-      let end : Steps A (reader_at 2) (Some outcome.End) (reader_at 2) = (refl, refl) in
-      let reads : Reads A (reader_at 1) taken.End (reader_at 2) = later taken.End _ (reader_at 2) _ newline (here _ taken.End _ _ end refl) in
+      let end : Steps A (reader_at 2) (Some taken.End) (reader_at 2) = (refl, refl) in
+      let reads : Reads A (reader_at 1) taken.End (reader_at 2) = later taken.End _ (reader_at 2) _ newline (here taken.End _ _ end) in
       itself taken.End _ _ (record { first = taken.End; fetches = read taken.End taken.End (reader_at 2) _ _ refl refl reads refl refl; paints = refl }) refl
 
   runs : Runs (by_rules A) pp_rs (start items) (next ∷ next ∷ []) (replies_of name place)

@@ -19,7 +19,7 @@ impl TokenSink for Counts {
 
     fn take(&mut self, token: TokenRef<'_>) -> Result<(), AllocError> {
         self.tokens = self.tokens.saturating_add(1);
-        if token.call.is_some() {
+        if token.origin.call.is_some() {
             self.from_macros = self.from_macros.saturating_add(1);
         }
         Ok(())

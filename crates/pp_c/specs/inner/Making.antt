@@ -4,7 +4,7 @@ use Rattle.std.specs.Prelude.{List, [], ◌∷◌, ◌++◌, map, length, drop, 
 use Rattle.std.specs.Prelude.{Option, Some, None, option_map, is_some, MatchOption, Ok, Err, ⊤}
 use Rattle.std.specs.Str.{chars}
 use Rattle.pp_macros.specs.Item.{Item as Given_item}
-use Rattle.pp_model.specs.Calls.{Fault}
+use Rattle.pp_model.specs.Places.{Fault}
 use Rattle.pp_model.specs.Run.{Call, add_define, next, items_by, content_tokens}
 use Rattle.pp_rs.specs.Adding.{IsWithAdded}
 use Rattle.pp_rs.specs.Kept.{Preprocessing, is_spent, error_place, rules_of}

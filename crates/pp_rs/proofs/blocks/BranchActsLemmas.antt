@@ -1,6 +1,7 @@
 -- Each step of a source keeps what is known of the blocks that its reader has met.
 use Rattle.std.proofs.Common.{◌≡◌, ◌∙◌, Bool, true, false, if◌then◌else◌, refl, ap, Option, Some, None}
 use Rattle.pp_lexer.specs.declared.token.Location.{Location}
+use Rattle.pp_model.specs.declared.read.Taken.{Taken}
 use Rattle.pp_model.specs.Calls.{Answers}
 use Rattle.pp_model.specs.Sights.{sight_of}
 use Rattle.pp_model.specs.Blocks.{part_of, Block, is_live}
@@ -11,7 +12,6 @@ use Rattle.pp_model.specs.inner.Acts.{items_left, after_word, after_line, after_
 use Rattle.pp_model.specs.Reads.{Steps}
 use Rattle.pp_model.specs.declared.block.Part.TheVariants as part
 use Rattle.pp_model.specs.declared.directive.Directive.{Directive}
-use Rattle.pp_model.specs.declared.outcome.Outcome.{Outcome}
 use Rattle.pp_model.specs.declared.sight.Sight.{Sight}
 use Rattle.pp_model.specs.declared.sight.Sight.TheVariants as sight
 use Rattle.pp_model.proofs.MovesLemmas.{skips, Passes, plain, unread, parting, skipping, closing, Decides, opening, choosing, directive_holds}
@@ -104,5 +104,5 @@ module _ (r : SourceReader) (b : HasRead r) where
 
 module _ (A : Answers) where
   -- so each step keeps it
-  pub step_keeps_branches : (o : Option Outcome) (r t : SourceReader) → Steps A r o t → HasRead r → HasRead t
+  pub step_keeps_branches : (o : Option Taken) (r t : SourceReader) → Steps A r o t → HasRead r → HasRead t
   step_keeps_branches o r t s b = holds_after A r o t HasRead (act r).step (act r).after (act_keeps r b) s

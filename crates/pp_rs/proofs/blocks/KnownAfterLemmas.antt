@@ -3,7 +3,7 @@ use Rattle.std.proofs.Common.{◌≡◌, ◌∙◌, ℕ, ◌+◌, ◌-◌, Bool,
 use Rattle.std.specs.List.{cons_option}
 use Rattle.pp_lexer.specs.Lexed.{Seen}
 use Rattle.pp_lexer.specs.declared.token.Location.{Location}
-use Rattle.pp_model.specs.Calls.{Fault}
+use Rattle.pp_model.specs.Places.{Fault}
 use Rattle.pp_model.specs.Lines.{line_length}
 use Rattle.pp_model.specs.Moves.{error_length}
 use Rattle.pp_model.specs.Sights.{sight_of}

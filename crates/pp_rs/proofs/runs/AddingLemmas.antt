@@ -17,8 +17,8 @@ use Rattle.pp_rs.specs.Adding.{IsAdded, refused, faulty, added}
 use Rattle.pp_macros.specs.inner.Defined.{Defined, IsChanged, meaning_of, names_in}
 use Rattle.pp_rs.specs.inner.Fit.{EndIsLast, IsFit, IsReported}
 use Rattle.pp_macros.specs.inner.Frames.{Frame, names_of}
-use Rattle.pp_macros.specs.Item.{Fault, Step}
-use Rattle.pp_rs.specs.Kept.{Preprocessing, Stands, is_spent, most_items, errors_left, error_place, call_place, rules_of}
+use Rattle.pp_macros.specs.Item.{Fault, PlacedStep}
+use Rattle.pp_rs.specs.Kept.{Preprocessing, Stands, is_spent, most_items, errors_left, error_place, call_place, item_text, rules_of}
 use Rattle.pp_macros.specs.inner.Left.{AreDefinedAbove, work_of}
 use Rattle.pp_macros.specs.inner.Expander as kept
 use Rattle.pp_macros.specs.inner.Reader.{of_source}
@@ -26,7 +26,7 @@ use Rattle.pp_directives.specs.inner.SettingContent.{IsSetIn}
 use Rattle.pp_macros.specs.inner.Source.{Source, unreported_of}
 use Rattle.pp_macros.specs.inner.Unreported.{unreported_with}
 use Rattle.pp_rs.specs.inner.Stands.{StandsForReader, StandsForHeld, StandsFor}
-use Rattle.pp_macros.specs.declared.step.StepExit.TheVariants.{Error, Continue, Finished}
+use Rattle.pp_macros.specs.declared.step.PlacedExit.TheVariants.{Error, Continue, Finished}
 use Rattle.pp_macros.proofs.open_frames.OpenSoundLemmas.{numbers_more}
 use Rattle.pp_rs.proofs.source.StandsAfterLemmas.{stands_with}
 use Rattle.pp_rs.proofs.runs.LeftLemmas.{no_more_work}
@@ -37,13 +37,15 @@ pub tokens_by_pp_rs : (old : Preprocessing) (content : List ℕ) → rules_of ol
 tokens_by_pp_rs old content usual = ap (λ rules. content_tokens (items_by rules content)) (sym usual)
 
 module _ (name : Name) (tokens : List Token) (old new : Source) (h : IsSetIn name tokens old new) where
-  reader_added : (definitions : List Defined) → IsChanged name (Some (object_like tokens)) old.definitions definitions → (r : SourceReader)
-      → StandsForReader old r → StandsForReader (record old { definitions = definitions }) (after_addition name tokens r)
+  reader_added : (definitions : List Defined) → IsChanged name (Some (object_like (old.contents + 1) tokens)) old.definitions definitions → (r : SourceReader)
+      → StandsForReader old r → StandsForReader (record old { definitions = definitions; contents = old.contents + 1 }) (after_addition name tokens r)
   reader_added definitions c r s =
-      stands_with old r s definitions (with_change r.definitions name (Some (object_like tokens))) old.line_offset r.line_offset
-      (ap (λ (m : Definitions). with_change m name (Some (object_like tokens))) s.definitions ∙ sym c.meaning) s.line_offset
+      stands_with old r s definitions (with_change r.definitions name (Some (object_like (r.contents + 1) tokens))) (old.contents + 1) (r.contents + 1)
+      old.line_offset r.line_offset
+      (rw s.contents (ap (λ (m : Definitions). with_change m name (Some (object_like (old.contents + 1) tokens))) s.definitions ∙ sym c.meaning))
+      (ap (λ (n : ℕ). n + 1) s.contents) s.line_offset
 
-  held_added : (o : Option (Step Read)) (r : SourceReader) → StandsForHeld o old r → StandsForHeld o new (after_addition name tokens r)
+  held_added : (o : Option (PlacedStep Read)) (r : SourceReader) → StandsForHeld o old r → StandsForHeld o new (after_addition name tokens r)
   held_added (Some (Err (Error fault))) r s = tt
   held_added (Some (Err Continue)) r s = s
   held_added _ r s = subst (λ (source : Source). StandsForReader source (after_addition name tokens r)) (sym h.others)
@@ -62,7 +64,7 @@ module _ (name : Name) (tokens : List Token) (old new : Source) (h : IsSetIn nam
   defined_added : (x : Name) → IsSome (meaning_of old.definitions x) → IsSome (meaning_of new.definitions x)
   defined_added x some = subst (λ (d : Definitions). IsSome (d x)) (sym h.definitions.meaning) (go (is_same_name x name))
     where
-      go : (b : Bool) → IsSome (if b then Some (object_like tokens) else meaning_of old.definitions x)
+      go : (b : Bool) → IsSome (if b then Some (object_like (old.contents + 1) tokens) else meaning_of old.definitions x)
       go true = refl
       go false = some
 
@@ -72,10 +74,10 @@ module _ (name : Name) (tokens : List Token) (old new : Source) (h : IsSetIn nam
   above_added (x ∷ y ∷ names) d = (defined_added x d.0, above_added (y ∷ names) d.1)
 
   -- the expander may go on
-  last_added : (o : Option (Step Read)) (frames : List Frame) → EndIsLast o frames (of_source old) → EndIsLast o frames (of_source new)
+  last_added : (o : Option (PlacedStep Read)) (frames : List Frame) → EndIsLast o frames (of_source old) → EndIsLast o frames (of_source new)
   last_added o frames last = subst (λ (source : Source). EndIsLast o frames (of_source source)) (sym h.others) (same o last)
     where
-      same : (o : Option (Step Read)) → EndIsLast o frames (of_source old) → EndIsLast o frames (of_source (record old { definitions = new.definitions }))
+      same : (o : Option (PlacedStep Read)) → EndIsLast o frames (of_source old) → EndIsLast o frames (of_source (record old { definitions = new.definitions; contents = old.contents + 1 }))
       same (Some (Err Finished)) last = last
       same _ last = tt
 
@@ -102,13 +104,14 @@ module _ (name : Name) (tokens : List Token) (old new : Source) (h : IsSetIn nam
 module _ (old : Preprocessing) (name content : List ℕ) (new : Source) where
   pub added_now : (tokens : List Token) → content_tokens (items_by old.rules content) ≡ Ok tokens → IsSetIn (chars name) tokens old.source new
       → IsAdded old name content (Ok tt) (record old { source = new })
-  unfolding Stands is_spent most_items errors_left error_place call_place rules_of
+  unfolding Stands is_spent most_items errors_left error_place call_place item_text rules_of
   added_now tokens e h = added tokens e refl (record {
     stands = λ state stands. stands_added (chars name) tokens old.source new h old.expander state stands;
     spent = refl;
     ended = λ none. none_left_added (chars name) tokens old.source new h old.expander old.spent none;
     errors = ap (λ (s : Source). unreported_with old.expander.held (unreported_of s)) h.others;
     place = refl;
+    text = refl;
     call = refl;
     rules = refl;
   })

@@ -2,10 +2,9 @@
 use Rattle.std.proofs.Common.{◌≡◌, ◌∙◌, ℕ, Bool, true, List, refl, ap, sym, Option, Some, None, Ok}
 use Rattle.pp_lexer.specs.declared.rules.Rules.{Rules}
 use Rattle.pp_lexer.specs.declared.token.Location.{Location}
-use Rattle.pp_lexer.specs.declared.token.Token.{Token}
 use Rattle.pp_model.specs.declared.read.Read.{Read}
 use Rattle.pp_model.specs.declared.splice.CallPlace.{CallPlace}
-use Rattle.pp_macros.specs.Item.{Step}
+use Rattle.pp_macros.specs.Item.{PlacedStep}
 use Rattle.pp_macros.specs.declared.calls.Taken.{Taken}
 use Rattle.pp_macros.specs.declared.calls.Taken.TheVariants as taken
 use Rattle.pp_macros.specs.inner.CallTurns.{TurnsTo, passes, gives, object, seeks, no_call, refused, gathered}
@@ -17,14 +16,14 @@ use Rattle.pp_macros.specs.inner.Reader.{Reader, of_source}
 use Rattle.pp_macros.specs.inner.Source.{Source}
 use Rattle.pp_macros.proofs.taking.ExpanderLemmas.{is_idle-idle}
 use Rattle.pp_macros.proofs.taking.CallStaysLemmas.{token_call}
-use Rattle.pp_rs.specs.Kept.{Preprocessing, IsAhead, kept_call, call_place}
+use Rattle.pp_rs.specs.Kept.{Preprocessing, IsAhead, kept_call, call_place, item_text}
 
 -- if nothing is held, the call is that of the outermost frame
-free_call : (o : Option (Step Read)) (call : Option CallPlace) (frames : List Frame) → o ≡ None → kept_call o call frames ≡ outermost_frame_call frames
+free_call : (o : Option (PlacedStep Read)) (call : Option CallPlace) (frames : List Frame) → o ≡ None → kept_call o call frames ≡ outermost_frame_call frames
 free_call o call frames free = rw free refl
 
 -- a token that is taken, with nothing held after it, leaves the outermost macro open
-turn_call : (m n : Expander) (r s : Reader) (step : Step Taken) (read : Read) → TurnsTo m r step n s → step ≡ Ok (taken.Token read) → n.held ≡ None
+turn_call : (m n : Expander) (r s : Reader) (step : PlacedStep Taken) (read : Read) → TurnsTo m r step n s → step ≡ Ok (taken.Token read) → n.held ≡ None
     → outermost_frame_call n.frames ≡ outermost_frame_call m.frames
 turn_call m n r s step read (passes exit step1 m1 n1 r1 s1 takes is) e free = cc
 turn_call m n r s step read (gives other step1 m1 n1 r1 s1 takes plain is) e free = token_call m n r s other takes
@@ -37,15 +36,20 @@ turn_call m n r s step read (seeks other opened (gathered paren g) step1 m1 n1 p
     let f = finds.0 in cc
 
 -- the call that gives the token that is ahead
-pub ahead_call : (p : Preprocessing) (token : Token) → IsAhead p token
-    → (now : Expander) → p.expander ≡ now → (source : Source) (spent : Bool) (place : Location) (name_call : Option CallPlace) (rules : Rules)
-    → call_place (record { expander = passed now; source = source; spent = spent; place = place; name_call = name_call; rules = rules })
+pub ahead_call : (p : Preprocessing) (read : Read) → IsAhead p read
+    → (now : Expander) → p.expander ≡ now → (source : Source) (spent : Bool) (place : Location) (text : ℕ) (name_call : Option CallPlace) (rules : Rules)
+    → call_place (record { expander = passed now; source = source; spent = spent; place = place; text = text; name_call = name_call; rules = rules })
     ≡ outermost_frame_call p.expander.frames
 unfolding IsAhead call_place
-ahead_call p token ahead now is source spent place name_call rules =
+ahead_call p read ahead now is source spent place text name_call rules =
     let is_given = ahead.3 in
     rw (← is) (free_call p.expander.held name_call (passed p.expander).frames is_given.free
     ∙ turn_call p.expander (passed p.expander) (of_source p.source) (of_source p.source) _ _ is_given.turns refl is_given.free)
+
+-- the text of the last item is kept
+pub text_kept : (p : Preprocessing) → item_text p ≡ p.text
+unfolding item_text
+text_kept p = refl
 
 -- no macro is open in live text
 pub call_outside : (p : Preprocessing) → is_idle p.expander ≡ true → call_place p ≡ None

@@ -1,5 +1,5 @@
 -- Tokens that are given to a sink.
-use Rattle.std.proofs.Common.{◌≡◌, ◌∙◌, ◌<◌, ◌≤◌, true, false, refl, ap, sym, Option, Some, None, Ok, Err, IsTrue, inl, inr, arith}
+use Rattle.std.proofs.Common.{◌≡◌, ◌∙◌, ◌<◌, ◌≤◌, true, false, refl, ap, sym, Option, Some, None, Ok, Err, IsTrue, inl, inr, arith, ℕ}
 use Rattle.std.specs.Prelude.{OnErr, Result}
 use Rattle.pp_lexer.specs.PreprocessorError.{out_of_memory}
 use Rattle.pp_lexer.specs.TokenValue.{is_ordinary}
@@ -8,7 +8,10 @@ use Rattle.pp_lexer.specs.declared.token.Token.{Token}
 use Rattle.pp_directives.specs.WordTokens.{word_token}
 use Rattle.pp_macros.specs.Item.{Item}
 use Rattle.pp_rs.specs.Giving.{AreGiven, GivesTokens, is_ordinary_token, nothing, one_more}
-use Rattle.pp_rs.specs.Kept.{Preprocessing, is_spent, most_items, call_place, rules_of}
+use Rattle.pp_rs.specs.Kept.{Preprocessing, is_spent, most_items, call_place, item_text, origin_of, rules_of}
+use Rattle.pp_model.specs.Places.{source_text}
+use Rattle.pp_model.specs.declared.splice.CallPlace.{CallPlace}
+use Rattle.pp_model.specs.declared.splice.Origin.{Origin}
 use Rattle.pp_rs.specs.inner.NextWord.{IsPassed, IsWord}
 use Rattle.pp_rs.specs.Preprocessing.{IsNextItem}
 use Rattle.pp_rs.specs.TokenRefs.{value_of, token_of}
@@ -19,6 +22,10 @@ use Rattle.pp_rs.specs.inner.GivingOn.{IsGiving, IsRefusedAfter}
 use Rattle.pp_rs.proofs.runs.NextLemmas.{next_none}
 use Rattle.pp_rs.proofs.runs.NextWordLemmas.{less_over, passed_next, passed_again, refused_next}
 use Rattle.pp_rs.proofs.runs.PassedLemmas.{passed_nothing}
+
+-- an origin with the text and the call of the last item
+pub origin_is : (o : Origin) (p : Preprocessing) → item_text p ≡ o.text → call_place p ≡ o.call → origin_of p ≡ o
+origin_is o p text call = ap (λ (t : ℕ). record { text = t; call = call_place p }) text ∙ ap (λ (c : Option CallPlace). record { text = o.text; call = c }) call
 
 -- a token reference refers to an ordinary token
 value_ordinary : (v : ValueRef) → IsTrue (is_ordinary (value_of v))
@@ -69,7 +76,7 @@ module _ {S : Type 0} (takes : S → TokenRef → S → Type 0) where
 
       -- a token is given
       pub giving_takes : (token : TokenRef) (new : Preprocessing) (after : S) → IsNextItem now (Some (Ok (token_of token))) new
-          → token.call ≡ call_place new → takes sink token after → IsGiving takes start first new after
+          → token.origin ≡ origin_of new → takes sink token after → IsGiving takes start first new after
       giving_takes token new after next line taken = record {
         last = new;
         given = one_more token g.last new sink after g.given (next_from_last (Some (Ok (token_of token))) new next) line taken;
@@ -88,9 +95,9 @@ module _ {S : Type 0} (takes : S → TokenRef → S → Type 0) where
 
       -- a word is given
       pub giving_word : (word : PlainItem) (new : Preprocessing) (token : TokenRef) (after : S) → IsWord now word new
-          → token_of token ≡ word_token word → token.call ≡ None → takes sink token after → IsGiving takes start first new after
+          → token_of token ≡ word_token word → token.origin ≡ record { text = source_text; call = None } → takes sink token after → IsGiving takes start first new after
       giving_word word new token after is refers outside taken =
-          giving_takes token new after (rw refers is.next) (outside ∙ sym is.call) taken
+          giving_takes token new after (rw refers is.next) (outside ∙ sym (origin_is (record { text = source_text; call = None }) new is.text is.call)) taken
 
       -- no more tokens come
       pub giving_ends : (answer : Option Item) (new : Preprocessing) → IsNextItem now answer new → is_ordinary_token answer ≡ false

@@ -6,6 +6,7 @@ use Rattle.std.proofs.lemmas.Bool.{and_parts}
 use Rattle.pp_lexer.specs.declared.token.Token.{Token}
 use Rattle.pp_lexer.specs.declared.token.TokenValue.{TokenValue}
 use Rattle.pp_lexer.specs.declared.token.TokenValue.TheVariants.{Ident}
+use Rattle.pp_model.specs.Places.{source_text}
 use Rattle.pp_model.specs.declared.read.Read.{Read}
 use Rattle.pp_model.specs.Names.{Name, is_same_name, is_identifier, line_name}
 use Rattle.pp_model.specs.Definitions.{Definition}
@@ -15,7 +16,7 @@ use Rattle.pp_macros.specs.inner.CallTurns.{TurnsTo, passes, gives, object, seek
 use Rattle.pp_macros.specs.inner.Defined.{Macro, meaning_of, opened_by}
 use Rattle.pp_macros.specs.inner.Frames.{Frame, new_frame, bare_call}
 use Rattle.pp_macros.specs.inner.Idle.{IsHeld, HoldsWord}
-use Rattle.pp_macros.specs.Item.{Step}
+use Rattle.pp_macros.specs.Item.{PlacedStep}
 use Rattle.pp_macros.specs.inner.Expander.{Expander, step_of_outcome, taken_as, StepsFetching, StepsTaking, held, moved}
 use Rattle.pp_macros.specs.inner.Plain.{gives_itself}
 use Rattle.pp_macros.specs.inner.Reader.{Reader, of_source}
@@ -25,8 +26,8 @@ use Rattle.pp_rs.specs.inner.SourceTurns.{StepsOver}
 use Rattle.pp_macros.specs.inner.Turns.{masks, macro_of_value, Opens}
 use Rattle.pp_macros.specs.declared.calls.Taken.{Taken}
 use Rattle.pp_macros.specs.declared.calls.Taken.TheVariants as taken
-use Rattle.pp_macros.specs.declared.step.StepExit.{StepExit}
-use Rattle.pp_macros.specs.declared.step.StepExit.TheVariants.{Continue}
+use Rattle.pp_macros.specs.declared.step.PlacedExit.{PlacedExit}
+use Rattle.pp_macros.specs.declared.step.PlacedExit.TheVariants.{Continue}
 use Rattle.pp_macros.proofs.taking.PlainLemmas.{itself_apart}
 use Rattle.pp_macros.proofs.taking.ExpanderLemmas.{idle, fetches_step}
 use Rattle.pp_rs.proofs.source.UnpaintedLemmas.{StepsReporting, reads_step}
@@ -42,19 +43,19 @@ opens_none source (Ident name) e = unopened name (meaning_of source.definitions 
 opens_none source _ e = refl
 
 -- where nothing is open nothing is painted
-painted_nothing : (step : Step Read) → painted_step [] step ≡ step
+painted_nothing : (step : PlacedStep Read) → painted_step [] step ≡ step
 painted_nothing (Ok read) = ap (λ (b : Bool). Ok (record read { painted = b })) (or_none read.painted read.token.value)
 painted_nothing (Err exit) = refl
 
 -- what a step that is held goes on to, the step by which it came goes on to
 module _ (m h : Expander) (r : Reader) (s : Source) (read : Read) (takes : StepsTaking m r (Ok read) (record h { held = None }) (of_source s))
     (holds : h.held ≡ Some (Ok read)) (closed : h.frames ≡ []) where
-  refetched : (step : Step Read) (n : Expander) (t : Reader) → StepsFetching h (of_source s) step n t
+  refetched : (step : PlacedStep Read) (n : Expander) (t : Reader) → StepsFetching h (of_source s) step n t
       → (step ≡ Ok read) × (n ≡ record h { held = None }) × (t ≡ of_source s)
   refetched step n t (held step1 m1 n1 r1 s1 a b c) = let same : step ≡ Ok read = cc in (same, b, c)
   refetched step n t (moved move step1 m1 n1 r1 s1 a moves b c) = cc
 
-  retaken : (step : Step Read) (n : Expander) (t : Reader) → StepsTaking h (of_source s) step n t → StepsTaking m r step n t
+  retaken : (step : PlacedStep Read) (n : Expander) (t : Reader) → StepsTaking h (of_source s) step n t → StepsTaking m r step n t
   retaken step n t steps =
       let back = refetched steps.first n t steps.fetches in
       let none : masks n.frames t ≡ [] = ap (λ (k : Expander). masks k.frames t) back.1 ∙ ap (masks h.frames) back.2
@@ -63,7 +64,7 @@ module _ (m h : Expander) (r : Reader) (s : Source) (read : Read) (takes : Steps
       ∙ ap (λ (names : List Name). painted_step names (Ok read)) none ∙ painted_nothing (Ok read) in
       rw (same, back.1, back.2) takes
 
-  returned : (step : Step Taken) (n : Expander) (t : Reader) → TurnsTo h (of_source s) step n t → TurnsTo m r step n t
+  returned : (step : PlacedStep Taken) (n : Expander) (t : Reader) → TurnsTo h (of_source s) step n t → TurnsTo m r step n t
   returned step n t (passes exit step1 m1 n1 r1 s1 steps is) = passes exit step m n r t (retaken (Err exit) n t steps) is
   returned step n t (gives other step1 m1 n1 r1 s1 steps none is) = gives other step m n r t (retaken (Ok other) n t steps) none is
   returned step p t (object other opened step1 m1 n p1 r1 s1 steps some plain is at) =
@@ -73,11 +74,11 @@ module _ (m h : Expander) (r : Reader) (s : Source) (read : Read) (takes : Steps
 
 module _ (levels : ℕ) (r s : Source) where
   -- where no macro is open, what comes first is taken as it is
-  takes_first : (step : Step Read) → StepsFetching idle (of_source r) step idle (of_source s) → StepsTaking idle (of_source r) step idle (of_source s)
+  takes_first : (step : PlacedStep Read) → StepsFetching idle (of_source r) step idle (of_source s) → StepsTaking idle (of_source r) step idle (of_source s)
   takes_first step fetches = record { first = step; fetches = fetches; paints = sym (painted_nothing step) }
 
   -- a step as which the word is taken
-  shown : (word : Token) (step : Step Read) → StepsReporting r (Ok word) s → step ≡ taken_as (Ok (unpainted word)) [] (of_source s)
+  shown : (word : Token) (step : PlacedStep Read) → StepsReporting r (Ok word) s → step ≡ taken_as (Ok (unpainted word)) [] (of_source s)
       → StepsTaking idle (of_source r) step idle (of_source s)
   shown word step reads is = takes_first step (fetches_step idle None None [] [] (Ok (unpainted word)) step (of_source r) (of_source s)
       refl refl refl (refl, reads_step r s (Ok word) reads) is)
@@ -87,14 +88,14 @@ module _ (levels : ℕ) (r s : Source) where
       → StepsTaking idle (of_source r) (Ok (unpainted token)) idle (of_source s)
   takes_token token reads apart = shown token (Ok (unpainted token)) reads (rw apart refl)
 
-  exits : (exit : StepExit) (step : Step Token) → StepsTaking idle (of_source r) (Err exit) idle (of_source s) → step ≡ Err exit
+  exits : (exit : PlacedExit) (step : PlacedStep Read) → StepsTaking idle (of_source r) (Err exit) idle (of_source s) → step ≡ Err exit
       → StepsOver levels idle r step idle s
   exits exit step takes is =
       let turns = passes exit (Err exit) idle idle (of_source r) (of_source s) takes refl in
       inl (record { taken = Err exit; between = idle; turns = turns; follows = (is, refl) })
 
   -- a pause, a fault or the end of the source
-  pub idle_exit : (m : Expander) (exit : StepExit) (step : Step Token) → m ≡ idle → StepsReporting r (Err exit) s
+  pub idle_exit : (m : Expander) (exit : PlacedExit) (step : PlacedStep Read) → m ≡ idle → StepsReporting r (Err exit) s
       → step ≡ Err exit → StepsOver levels m r step m s
   idle_exit m exit step e reads is =
       let fetches = fetches_step idle None None [] [] (Err exit) (Err exit) (of_source r) (of_source s) refl refl refl
@@ -103,7 +104,7 @@ module _ (levels : ℕ) (r s : Source) where
 
   -- a token that is given as it stands there
   pub idle_token : (m : Expander) (token : Token) → m ≡ idle → StepsReporting r (Ok token) s
-      → gives_itself s.definitions token.value ≡ true → StepsOver levels m r (Ok token) m s
+      → gives_itself s.definitions token.value ≡ true → StepsOver levels m r (Ok (unpainted token)) m s
   idle_token m token e reads itself =
       let read = unpainted token in
       let turns = gives read (Ok (taken.Token read)) idle idle (of_source r) (of_source s)
@@ -113,22 +114,22 @@ module _ (levels : ℕ) (r s : Source) where
   -- the name of a macro without parentheses, which opens
   pub idle_opens : (m n : Expander) (token : Token) (opened : Macro) → m ≡ idle → StepsReporting r (Ok token) s
       → is_identifier line_name token.value ≡ false → Opens (of_source s) (unpainted token) opened
-      → opened.definition.function_like ≡ false → n ≡ record m { frames = new_frame opened (bare_call token.location) [] ∷ m.frames }
+      → opened.definition.function_like ≡ false → n ≡ record m { frames = new_frame opened (bare_call source_text token.location) [] ∷ m.frames }
       → StepsOver levels m r (Err Continue) n s
   idle_opens m n token opened e reads apart opens bare is =
-      let after : Expander = record { held = None; frames = new_frame opened (bare_call token.location) [] ∷ [] } in
+      let after : Expander = record { held = None; frames = new_frame opened (bare_call source_text token.location) [] ∷ [] } in
       let turns = object (unpainted token) opened (Err Continue) idle idle after (of_source r) (of_source s)
       (takes_token token reads apart) opens bare refl refl in
       rw (is, e) (inl (record { taken = Err Continue; between = after; turns = turns; follows = (refl, refl) }))
 
   -- `__LINE__` out of range
-  pub idle_fault : (m n : Expander) (word : Token) (exit : StepExit) (step : Step Token) → m ≡ idle
+  pub idle_fault : (m n : Expander) (word : Token) (exit : PlacedExit) (step : PlacedStep Read) → m ≡ idle
       → StepsReporting r (Ok word) s → HoldsWord word s m (Err exit) n → step ≡ Err exit → StepsOver levels m r step n s
   idle_fault m n word exit step e reads fault is =
       rw (fault.2, e) (exits exit step (shown word (Err exit) reads (ap Err fault.0 ∙ ap step_of_outcome (sym fault.1))) is)
 
   -- a word that is held goes on to what it goes on to as it is read
-  pub idle_word : (m h n : Expander) (t : Source) (word : Token) (step : Step Token) → m ≡ idle
+  pub idle_word : (m h n : Expander) (t : Source) (word : Token) (step : PlacedStep Read) → m ≡ idle
       → StepsReporting r (Ok word) s → IsHeld word s m h → StepsOver levels h s step n t → StepsOver levels m r step n t
   idle_word m h n t word step e reads w steps = rw e (goes (rw (w.holds, e) at steps))
     where

@@ -1,57 +1,46 @@
 -- What a step of a preprocessor means for the runs of the definitions: what they give from the state after the step
 -- they also give from the state before it.
-use Rattle.std.proofs.Common.{◌≡◌, ◌∙◌, sym, ℕ, Option}
+use Rattle.std.proofs.Common.{◌≡◌, ◌∙◌, sym, Option}
 use Rattle.std.specs.Prelude.{Ok, Err}
-use Rattle.pp_lexer.specs.declared.token.Token.{Token}
+use Rattle.pp_model.specs.declared.read.Read.{Read}
 use Rattle.pp_model.specs.Reading.{Expander}
 use Rattle.pp_model.specs.Calls.{Answers}
 use Rattle.pp_model.specs.ItemCall.{item_call}
 use Rattle.pp_model.specs.Emitting.{Emits}
-use Rattle.pp_model.specs.Painting.{item_of}
 use Rattle.pp_model.specs.SourceReader.{SourceReader}
-use Rattle.pp_model.specs.declared.outcome.Outcome.{Outcome}
-use Rattle.pp_model.specs.declared.outcome.Outcome.TheVariants as outcome
-use Rattle.pp_model.specs.declared.read.Taken.{Taken}
+use Rattle.pp_model.specs.declared.read.Taken.TheVariants as taken
 use Rattle.pp_model.specs.declared.splice.CallPlace.{CallPlace}
-use Rattle.pp_macros.specs.Item.{Step}
+use Rattle.pp_macros.specs.Item.{PlacedStep}
 use Rattle.pp_macros.proofs.taking.PauseLemmas.{EmitsLater}
 use Rattle.pp_rs.specs.Comes.{source_rules}
 use Rattle.pp_rs.specs.Kept.{kept_call}
 use Rattle.pp_macros.specs.inner.Source.{Source}
 use Rattle.pp_macros.specs.inner.Expander as kept
 use Rattle.pp_rs.specs.inner.Stands.{StandsFor}
-use Rattle.pp_macros.specs.declared.step.StepExit.TheVariants.{Error, Continue, Finished}
-
--- this is the next item, without its paint
-pub record GivesItem (A : Answers) (e : Expander SourceReader) (o : Outcome) (f : Expander SourceReader) : Type 0 where
-  pub taken : Taken
-  pub emits : Emits source_rules A e taken f
-  pub is : o ≡ item_of taken
+use Rattle.pp_macros.specs.declared.step.PlacedExit.TheVariants.{Error, Continue, Finished}
 
 -- What a step of an expander is to the state that it stands for: it gives the next item, or pauses and keeps that. Before
 -- the step the outermost macro was called there.
-abbrev pub LeadsFrom : Answers → Expander SourceReader → Step Token → Option CallPlace → kept.Expander → Source → Type 0
-LeadsFrom A e (Ok token) call expander source = (f : Expander SourceReader) × (item : GivesItem A e (outcome.Token token) f)
-    × StandsFor expander source f × (kept_call expander.held call expander.frames ≡ item_call item.emits)
+abbrev pub LeadsFrom : Answers → Expander SourceReader → PlacedStep Read → Option CallPlace → kept.Expander → Source → Type 0
+LeadsFrom A e (Ok read) call expander source = (f : Expander SourceReader) × (emits : Emits source_rules A e (taken.Token read) f)
+    × StandsFor expander source f × (kept_call expander.held call expander.frames ≡ item_call emits)
 LeadsFrom A e (Err Continue) call expander source = (f : Expander SourceReader) × StandsFor expander source f × EmitsLater source_rules A e f
-LeadsFrom A e (Err Finished) call expander source = (f : Expander SourceReader) × (item : GivesItem A e outcome.End f)
-    × StandsFor expander source f × (kept_call expander.held call expander.frames ≡ item_call item.emits)
-LeadsFrom A e (Err (Error fault)) call expander source = (f : Expander SourceReader) × (item : GivesItem A e (outcome.Fault fault) f)
-    × (kept_call expander.held call expander.frames ≡ item_call item.emits)
+LeadsFrom A e (Err Finished) call expander source = (f : Expander SourceReader) × (emits : Emits source_rules A e taken.End f)
+    × StandsFor expander source f × (kept_call expander.held call expander.frames ≡ item_call emits)
+LeadsFrom A e (Err (Error fault)) call expander source = (f : Expander SourceReader) × (emits : Emits source_rules A e (taken.Fault fault) f)
+    × (kept_call expander.held call expander.frames ≡ item_call emits)
 
 -- the same of each state that the expander and the source stand for; one step, or many that pause before it
-pub record Leads (A : Answers) (expander : kept.Expander) (source : Source) (step : Step Token) (call : Option CallPlace)
+pub record Leads (A : Answers) (expander : kept.Expander) (source : Source) (step : PlacedStep Read) (call : Option CallPlace)
     (expander_then : kept.Expander) (source_then : Source) : Type 0 where
   pub from : (e : Expander SourceReader) → StandsFor expander source e → LeadsFrom A e step call expander_then source_then
 
 -- what comes from the state after a pause comes from the one before it
-abbrev item_kept : (A : Answers) (e f g : Expander SourceReader) (o : Outcome) → EmitsLater source_rules A e f → GivesItem A f o g → GivesItem A e o g
-item_kept A e f g o keeps item = record { taken = item.taken; emits = (keeps item.taken g item.emits).0; is = item.is }
-
-leads_on : (A : Answers) (e f : Expander SourceReader) (step : Step Token) (call : Option CallPlace) (expander : kept.Expander) (source : Source)
+leads_on : (A : Answers) (e f : Expander SourceReader) (step : PlacedStep Read) (call : Option CallPlace) (expander : kept.Expander) (source : Source)
     → EmitsLater source_rules A e f → LeadsFrom A f step call expander source → LeadsFrom A e step call expander source
-leads_on A e f (Ok token) call expander source keeps leads =
-    (leads.0, item_kept A e f leads.0 (outcome.Token token) keeps leads.1, leads.2, leads.3 ∙ sym (keeps leads.1.taken leads.0 leads.1.emits).1)
+leads_on A e f (Ok read) call expander source keeps leads =
+    let first = keeps (taken.Token read) leads.0 leads.1 in
+    (leads.0, first.0, leads.2, leads.3 ∙ sym first.1)
 leads_on A e f (Err Continue) call expander source keeps leads = (
   leads.0,
   leads.1,
@@ -61,12 +50,14 @@ leads_on A e f (Err Continue) call expander source keeps leads = (
       (first.0, first.1 ∙ later.1),
 )
 leads_on A e f (Err Finished) call expander source keeps leads =
-    (leads.0, item_kept A e f leads.0 outcome.End keeps leads.1, leads.2, leads.3 ∙ sym (keeps leads.1.taken leads.0 leads.1.emits).1)
+    let first = keeps taken.End leads.0 leads.1 in
+    (leads.0, first.0, leads.2, leads.3 ∙ sym first.1)
 leads_on A e f (Err (Error fault)) call expander source keeps leads =
-    (leads.0, item_kept A e f leads.0 (outcome.Fault fault) keeps leads.1, leads.2 ∙ sym (keeps leads.1.taken leads.0 leads.1.emits).1)
+    let first = keeps (taken.Fault fault) leads.0 leads.1 in
+    (leads.0, first.0, leads.2 ∙ sym first.1)
 
 -- a pause, and then a step
-pub leads_then : (A : Answers) (expander expander_then expander_last : kept.Expander) (source source_then source_last : Source) (step : Step Token)
+pub leads_then : (A : Answers) (expander expander_then expander_last : kept.Expander) (source source_then source_last : Source) (step : PlacedStep Read)
     (paused call : Option CallPlace) → Leads A expander source (Err Continue) paused expander_then source_then
     → Leads A expander_then source_then step call expander_last source_last → Leads A expander source step call expander_last source_last
 leads_then A expander expander_then expander_last source source_then source_last step paused call pauses leads =

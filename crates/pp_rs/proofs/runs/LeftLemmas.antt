@@ -8,7 +8,7 @@ use Rattle.pp_model.specs.Names.{Name}
 use Rattle.pp_model.specs.declared.read.Read.{Read}
 use Rattle.pp_macros.specs.inner.CallTurns.{TakesSomething}
 use Rattle.pp_macros.specs.inner.Frames.{Frame}
-use Rattle.pp_macros.specs.Item.{Step}
+use Rattle.pp_macros.specs.Item.{PlacedStep}
 use Rattle.pp_macros.specs.inner.Left.{work_of, regions, regions_of, most_open, most_bodies, holding_step}
 use Rattle.pp_macros.specs.inner.Expander.{Expander, StepsFetching, held, moved, taken_as}
 use Rattle.pp_macros.specs.declared.blocks.OpenBlock.{OpenBlock}
@@ -18,13 +18,13 @@ use Rattle.pp_macros.specs.inner.Source.{Source, StepsSource}
 use Rattle.pp_macros.specs.inner.Reading.{unpainted_step, painted_step}
 use Rattle.pp_macros.specs.inner.Turns.{Moves, masks}
 use Rattle.pp_macros.specs.inner.Work.{is_end, most_reads}
-use Rattle.pp_macros.specs.declared.step.StepExit.TheVariants.{Finished}
+use Rattle.pp_macros.specs.declared.step.PlacedExit.TheVariants.{Finished}
 use Rattle.pp_macros.proofs.open_frames.AdvanceLemmas.{some_steps_left}
 use Rattle.pp_macros.proofs.work.ReachLemmas.{through_up}
 use Rattle.pp_macros.proofs.work.SpendLemmas.{total_one_more}
 
 -- something is held that isn't the end
-abbrev pub HoldsMore : Option (Step Read) → Type 0
+abbrev pub HoldsMore : Option (PlacedStep Read) → Type 0
 HoldsMore None = ⊥
 HoldsMore (Some step) = is_end step ≡ false
 
@@ -33,13 +33,13 @@ abbrev pub SomethingLeft : Expander → Source → Type 0
 SomethingLeft expander source = HoldsMore expander.held ⊎ (expander.frames ≢ []) ⊎ (source.rest ≢ []) ⊎ (source.blocks ≢ [])
 
 -- a source with nothing left is at its end
-empty_source : (old : Source) (dead : Bool) (new : Source) (step : Step Token)
+empty_source : (old : Source) (dead : Bool) (new : Source) (step : PlacedStep Token)
     → StepsSource (record old { rest = []; blocks = []; spent = false; dead_for_good = dead }) step new → step ≡ Err Finished
 empty_source old dead new step (inl h) = absurd (h.some_left refl)
 empty_source old true new step (inr h) = h.0
 empty_source old false new step (inr h) = h.0
 
-read_before : (old : Source) (rest : List Seen) (blocks : List OpenBlock) (s : Reader) (step : Step Read)
+read_before : (old : Source) (rest : List Seen) (blocks : List OpenBlock) (s : Reader) (step : PlacedStep Read)
     → Reads (of_source (record old { rest = rest; blocks = blocks; spent = false })) step s → (step ≡ Err Finished → ⊥)
     → (rest ≢ []) ⊎ (blocks ≢ [])
 read_before old (x ∷ rest) blocks s step h goes = inl (λ e. cc)
@@ -48,7 +48,7 @@ read_before old [] [] (of_source new) step h goes =
     absurd (goes (h.is ∙ ap unpainted_step (empty_source old old.dead_for_good new h.given h.steps)))
 read_before old [] [] (of_list new) step h goes = absurd h
 
-left_in_source : (old : Source) (s : Reader) (step : Step Read) → old.spent ≡ false → Reads (of_source old) step s → (step ≡ Err Finished → ⊥)
+left_in_source : (old : Source) (s : Reader) (step : PlacedStep Read) → old.spent ≡ false → Reads (of_source old) step s → (step ≡ Err Finished → ⊥)
     → (old.rest ≢ []) ⊎ (old.blocks ≢ [])
 left_in_source old s step unspent h goes =
     read_before old old.rest old.blocks s step (subst (λ (b : Bool). Reads (of_source (record old { spent = b })) step s) unspent h) goes
@@ -57,26 +57,26 @@ reads_more : (frames : List Frame) (old : Source) → (old.rest ≢ []) ⊎ (old
 reads_more frames old (inl h) = inr (inl h)
 reads_more frames old (inr h) = inr (inr h)
 
-moved_left : (frames after : List Frame) (old : Source) (s : Reader) (step : Step Read) → old.spent ≡ false
+moved_left : (frames after : List Frame) (old : Source) (s : Reader) (step : PlacedStep Read) → old.spent ≡ false
     → Moves frames (of_source old) step after s → (step ≡ Err Finished → ⊥) → (frames ≢ []) ⊎ (old.rest ≢ []) ⊎ (old.blocks ≢ [])
 moved_left (f ∷ fs) after old s step unspent moves goes = inl (λ e. cc)
 moved_left [] after old s step unspent moves goes = reads_more [] old (left_in_source old s step unspent moves.1 goes)
 
-fetching_left : (m n : Expander) (old : Source) (s : Reader) (step : Step Read) → old.spent ≡ false → StepsFetching m (of_source old) step n s
+fetching_left : (m n : Expander) (old : Source) (s : Reader) (step : PlacedStep Read) → old.spent ≡ false → StepsFetching m (of_source old) step n s
     → is_end step ≡ false → SomethingLeft m old
 fetching_left m n old s step unspent (held step1 m1 n1 r1 s1 is at same) goes = inl (subst HoldsMore (sym is) goes)
 fetching_left m n old s step unspent (moved move step1 m1 n1 r1 s1 free moves is none) goes =
     more (moved_left m.frames n.frames old s move unspent moves (λ e. absurd (ends e)))
   where
     ends : move ≡ Err Finished → ⊥
-    ends e = let bad : is_end step ≡ true = ap is_end (is ∙ ap (λ (x : Step Read). taken_as x n.frames s) e) in cc
+    ends e = let bad : is_end step ≡ true = ap is_end (is ∙ ap (λ (x : PlacedStep Read). taken_as x n.frames s) e) in cc
 
     more : (m.frames ≢ []) ⊎ (old.rest ≢ []) ⊎ (old.blocks ≢ []) → SomethingLeft m old
     more (inl h) = inr (inl h)
     more (inr (inl h)) = inr (inr (inl h))
     more (inr (inr h)) = inr (inr (inr h))
 
-painted_goes : (names : List Name) (first : Step Read) → is_end (painted_step names first) ≡ is_end first
+painted_goes : (names : List Name) (first : PlacedStep Read) → is_end (painted_step names first) ≡ is_end first
 painted_goes names (Ok read) = refl
 painted_goes names (Err exit) = refl
 
@@ -96,11 +96,11 @@ frames_some [] reads (inl left) = absurd (left refl)
 frames_some [] reads (inr left) = omega arith
 frames_some (f ∷ fs) reads left = omega (arith, some_steps_left f)
 
-holding_some : (o : Option (Step Read)) (xs : List ℕ) → HoldsMore o → 0 < total (holding_step o xs)
+holding_some : (o : Option (PlacedStep Read)) (xs : List ℕ) → HoldsMore o → 0 < total (holding_step o xs)
 holding_some None xs h = absurd h
 holding_some (Some step) xs h = rw h (omega (arith, total_one_more xs))
 
-holding_more : (o : Option (Step Read)) (xs : List ℕ) → 0 < total xs → 0 < total (holding_step o xs)
+holding_more : (o : Option (PlacedStep Read)) (xs : List ℕ) → 0 < total xs → 0 < total (holding_step o xs)
 holding_more None xs h = h
 holding_more (Some step) xs h = go (is_end step) refl
   where
@@ -130,7 +130,7 @@ pub no_work : (levels : ℕ) (m : Expander) (source : Source) → m.held ≡ Non
 no_work levels m source free closed e f =
     let r = of_source source in
     let reads : most_reads source ≡ 0 = omega (arith, ap length e, ap length f) in
-    let xs : regions m r ≡ 0 ∷ [] = ap (λ (o : Option (Step Read)). holding_step o (regions_of m.frames (most_reads source))) free
+    let xs : regions m r ≡ 0 ∷ [] = ap (λ (o : Option (PlacedStep Read)). holding_step o (regions_of m.frames (most_reads source))) free
     ∙ ap (λ (fs : List Frame). regions_of fs (most_reads source)) closed ∙ ap (λ (k : ℕ). k ∷ []) reads in
     ap (work_in (frame_steps (most_bodies r) (most_open r) levels) (most_open r)) xs
 

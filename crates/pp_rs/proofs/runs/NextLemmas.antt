@@ -4,18 +4,18 @@ use Rattle.std.specs.Prelude.{Ok, Err, MatchBool, unwrap_or}
 use Rattle.pp_lexer.specs.PreprocessorError.{out_of_memory}
 use Rattle.pp_lexer.specs.declared.rules.Rules.{Rules}
 use Rattle.pp_lexer.specs.declared.token.Location.{Location}
-use Rattle.pp_lexer.specs.declared.token.Token.{Token}
+use Rattle.pp_model.specs.Places.{PlacedFault, unplaced}
 use Rattle.pp_model.specs.declared.read.Read.{Read}
-use Rattle.pp_model.specs.Emitting.{answers_at, expansion_limit}
-use Rattle.pp_model.specs.Calls.{Fault}
+use Rattle.pp_model.specs.Emitting.{Emits, answers_at, expansion_limit}
+use Rattle.pp_model.specs.Painting.{item_of}
+use Rattle.pp_model.specs.declared.read.Taken.{Taken}
 use Rattle.pp_model.specs.Reading.{Expander}
 use Rattle.pp_model.specs.SourceReader.{SourceReader}
-use Rattle.pp_model.specs.declared.outcome.Outcome.{Outcome}
 use Rattle.pp_model.specs.declared.splice.CallPlace.{CallPlace}
-use Rattle.pp_rs.specs.Comes.{Comes}
+use Rattle.pp_rs.specs.Comes.{Comes, source_rules}
 use Rattle.pp_rs.specs.inner.Fit.{IsFit, IsReported}
 use Rattle.pp_macros.specs.Held.{HoldsOrdinary}
-use Rattle.pp_macros.specs.Item.{Item, Step, is_out_of_memory, wants_memory}
+use Rattle.pp_macros.specs.Item.{Item, PlacedStep, is_out_of_memory, wants_memory}
 use Rattle.pp_macros.specs.inner.CallTurns.{TakesSomething}
 use Rattle.pp_macros.specs.inner.Left.{work_of}
 use Rattle.pp_macros.specs.LexerErrors.{ErrorAt, PassesErrors}
@@ -25,19 +25,19 @@ use Rattle.pp_macros.specs.inner.Reader.{of_source}
 use Rattle.pp_macros.specs.inner.Source.{Source, unreported_of}
 use Rattle.pp_rs.specs.inner.SourceTurns.{TurnsSource, StepsOver}
 use Rattle.pp_rs.specs.inner.Stands.{StandsFor}
-use Rattle.pp_rs.specs.Kept.{Preprocessing, Stands, is_spent, most_items, errors_left, error_place, kept_call, call_place, rules_of}
+use Rattle.pp_rs.specs.Kept.{Preprocessing, Stands, is_spent, most_items, errors_left, error_place, kept_call, call_place, item_text, rules_of}
 use Rattle.pp_rs.specs.Preprocessing.{IsLessLeft, IsErrorAt, of_lexer, of_its_own, IsRefusedItem, IsGivenItem, IsNextItem}
 use Rattle.pp_macros.specs.inner.Unreported.{with_read}
-use Rattle.pp_macros.specs.declared.step.StepExit.TheVariants.{Error, Continue, Finished}
+use Rattle.pp_macros.specs.declared.step.PlacedExit.TheVariants.{Error, Continue, Finished}
 use Rattle.pp_directives.proofs.PassedErrorsLemmas.{passes_none}
-use Rattle.pp_rs.proofs.runs.Leads.{GivesItem, LeadsFrom, Leads, leads_then}
+use Rattle.pp_rs.proofs.runs.Leads.{LeadsFrom, Leads, leads_then}
 use Rattle.pp_rs.proofs.runs.LeftLemmas.{SomethingLeft, some_left, left_is_work, no_work}
 use Rattle.pp_rs.proofs.runs.UnreportedTurnLemmas.{errors_of, ErrorsLeft, left_then, turn_errors}
 use Rattle.pp_rs.proofs.runs.SourceTurnLemmas.{turned_source, source_fits, source_lowers, source_ends, source_some, source_turn_leads}
 
 -- what is given next comes next
-abbrev comes : (e f : Expander SourceReader) (o : Outcome) → GivesItem (answers_at expansion_limit) e o f → Comes e o f
-comes e f o item = record { taken = item.taken; emits = item.emits; is = item.is }
+abbrev comes : (e f : Expander SourceReader) (x : Taken) → Emits source_rules (answers_at expansion_limit) e x f → Comes e (item_of x) f
+comes e f x emits = record { taken = x; emits = emits; is = refl }
 
 -- a state from which the same comes next as from the first, by these rules
 pub record Reached (rules : Rules) (expander : kept.Expander) (source : Source) (expander_now : kept.Expander) (source_now : Source) : Type 0 where
@@ -62,36 +62,36 @@ reached_first {rules} expander now source source_now e f fit = rw (e, f) (record
 
 module _ {rules : Rules} (expander now after : kept.Expander) (source source_now source_after : Source) (r : Reached rules expander source now source_now) where
   -- what is kept after the turn
-  abbrev pub kept_with : Source → Bool → Location → Option CallPlace → Preprocessing
-  kept_with source spent place call =
-      record { expander = after; source = source; spent = spent; place = place; name_call = call; rules = rules }
+  abbrev pub kept_with : Source → Bool → Location → ℕ → Option CallPlace → Preprocessing
+  kept_with source spent place text call =
+      record { expander = after; source = source; spent = spent; place = place; text = text; name_call = call; rules = rules }
 
-  abbrev pub Over : Step Token → Type 0
+  abbrev pub Over : PlacedStep Read → Type 0
   Over step = StepsOver expansion_limit now source_now step after source_after
 
-  turned : (step : Step Token) → Over step → wants_memory step ≡ false → TurnsSource expansion_limit now source_now step after source_after
+  turned : (step : PlacedStep Read) → Over step → wants_memory step ≡ false → TurnsSource expansion_limit now source_now step after source_after
   turned step h reported = turned_source expansion_limit now after source_now source_after step h reported
 
-  falls : (step : Step Token) → Over step → wants_memory step ≡ false → (step ≡ Err Finished → ⊥)
+  falls : (step : PlacedStep Read) → Over step → wants_memory step ≡ false → (step ≡ Err Finished → ⊥)
       → work_of expansion_limit after (of_source source_after) < work_of expansion_limit now (of_source source_now)
   falls step h reported goes = source_lowers expansion_limit now source_now source_after r.fit step after (turned step h reported) reported goes
 
-  fits : (step : Step Token) → Over step → wants_memory step ≡ false → IsFit after source_after
+  fits : (step : PlacedStep Read) → Over step → wants_memory step ≡ false → IsFit after source_after
   fits step h reported = source_fits expansion_limit now source_now source_after r.fit step after (turned step h reported) reported
 
   -- where a turn isn't the end, something was left at first
-  left_now : (step : Step Token) → Over step → (step ≡ Err Finished → ⊥) → SomethingLeft expander source
+  left_now : (step : PlacedStep Read) → Over step → (step ≡ Err Finished → ⊥) → SomethingLeft expander source
   left_now step (inl h) goes = r.left (some_left now source_now r.fit.unspent (source_some expansion_limit now after source_now source_after step h goes))
   left_now step (inr h) goes = r.left (some_left now source_now r.fit.unspent h.some)
 
-  leads_last : (step : Step Token) → Over step → wants_memory step ≡ false
+  leads_last : (step : PlacedStep Read) → Over step → wants_memory step ≡ false
       → Leads (answers_at expansion_limit) expander source step (outermost_frame_call now.frames) after source_after
   leads_last step h reported =
       leads_then (answers_at expansion_limit) expander now after source source_now source_after step None (outermost_frame_call now.frames) r.leads
       (source_turn_leads expansion_limit now after source_now source_after step r.fit (turned step h reported) reported)
 
   -- what a turn leaves of the errors of the lexer
-  errors_last : (step : Step Token) → Over step → wants_memory step ≡ false → ErrorsLeft rules step (errors_of expander source) after source_after
+  errors_last : (step : PlacedStep Read) → Over step → wants_memory step ≡ false → ErrorsLeft rules step (errors_of expander source) after source_after
   errors_last step h reported =
       left_then rules step _ _ after source_after r.errors
       (turn_errors rules expansion_limit now after source_now source_after step (turned step h reported) reported r.reported)
@@ -113,13 +113,13 @@ module _ {rules : Rules} (expander now after : kept.Expander) (source source_now
   falls_more h = falls (Err Continue) h refl (λ e. cc)
 
   -- what holds after a token, after the end and after a fault, whose place was taken
-  pub token_fits : (token : Token) → Over (Ok token) → IsFit after source_after × IsReported rules after source_after
-  token_fits token h = (fits (Ok token) h refl, (errors_last (Ok token) h refl).0)
+  pub token_fits : (read : Read) → Over (Ok read) → IsFit after source_after × IsReported rules after source_after
+  token_fits read h = (fits (Ok read) h refl, (errors_last (Ok read) h refl).0)
 
   pub end_fits : Over (Err Finished) → IsFit after source_after × IsReported rules after source_after
   end_fits h = (fits (Err Finished) h refl, (errors_last (Err Finished) h refl).0)
 
-  pub fault_fits : (fault : Fault) (reported_source : Source) → reported_source ≡ record source_after { error_place = None }
+  pub fault_fits : (fault : PlacedFault) (reported_source : Source) → reported_source ≡ record source_after { error_place = None }
       → Over (Err (Error fault)) → is_out_of_memory fault.0 ≡ false → IsFit after reported_source × IsReported rules after reported_source
   fault_fits fault reported_source is h reported =
       let fit = fits (Err (Error fault)) h reported in
@@ -150,10 +150,10 @@ module _ {rules : Rules} (expander now after : kept.Expander) (source source_now
     }
 
     -- less is left after a token or a fault
-    less_last : (step : Step Token) (place : Location) (call : Option CallPlace) → Over step → wants_memory step ≡ false → (step ≡ Err Finished → ⊥)
-        → most_items (kept_with source_after false place call) < most_items old
+    less_last : (step : PlacedStep Read) (place : Location) (text : ℕ) (call : Option CallPlace) → Over step → wants_memory step ≡ false → (step ≡ Err Finished → ⊥)
+        → most_items (kept_with source_after false place text call) < most_items old
     unfolding most_items
-    less_last step place call turn reported goes =
+    less_last step place text call turn reported goes =
         let lower = falls step turn reported goes in
         omega (arith, lower, r.less, most_first)
 
@@ -169,27 +169,28 @@ module _ {rules : Rules} (expander now after : kept.Expander) (source source_now
         subst (λ (rs : Rules). PassesErrors rs.passes_dead_errors (errors_left old) left) ruled
         (subst (λ (es : List ErrorAt). PassesErrors rules.passes_dead_errors es left) (sym errors_first) h)
 
-    pub next_token : (token : Token) (spent : Bool) (place : Location) (call : Option CallPlace) → spent ≡ false → place ≡ old.place
-        → kept_call after.held call after.frames ≡ kept_call after.held (outermost_frame_call now.frames) after.frames → Over (Ok token)
-        → HoldsOrdinary token.value
-        → IsNextItem old (Some (Ok token)) (kept_with source_after spent place call)
-    unfolding Stands is_spent errors_left error_place call_place
-    next_token token true place call fresh_now same kept turn holds = cc
-    next_token token false place call fresh_now same kept turn holds =
-        as_next (Some (Ok token)) (kept_with source_after false place call) (inr (record {
+    pub next_token : (read : Read) (spent : Bool) (place : Location) (text : ℕ) (call : Option CallPlace) → spent ≡ false → place ≡ old.place
+        → text ≡ read.text
+        → kept_call after.held call after.frames ≡ kept_call after.held (outermost_frame_call now.frames) after.frames → Over (Ok read)
+        → HoldsOrdinary read.token.value
+        → IsNextItem old (Some (Ok read.token)) (kept_with source_after spent place text call)
+    unfolding Stands is_spent errors_left error_place call_place item_text
+    next_token read true place text call fresh_now same of kept turn holds = cc
+    next_token read false place text call fresh_now same of kept turn holds =
+        as_next (Some (Ok read.token)) (kept_with source_after false place text call) (inr (record {
           item = λ e stands.
-              let leads : LeadsFrom (answers_at expansion_limit) e (Ok token) (outermost_frame_call now.frames) after source_after =
-              (leads_last (Ok token) turn refl).from e (stands_first e stands) in
-              record { after = leads.0; emits = comes e leads.0 _ leads.1; call = kept ∙ leads.3; goes_on = leads.2 };
+              let leads : LeadsFrom (answers_at expansion_limit) e (Ok read) (outermost_frame_call now.frames) after source_after =
+              (leads_last (Ok read) turn refl).from e (stands_first e stands) in
+              record { after = leads.0; emits = comes e leads.0 _ leads.1; text = of; call = kept ∙ leads.3; goes_on = leads.2 };
           no_refusal = refl;
           holds = holds;
           reports = record {
             left = errors_of after source_after;
-            passes = passes_first (errors_of after source_after) (errors_last (Ok token) turn refl).1;
+            passes = passes_first (errors_of after source_after) (errors_last (Ok read) turn refl).1;
             reports = (refl, same);
           };
           spent = refl;
-        })) (less_last (Ok token) place call turn refl (λ e. cc)) ruled
+        })) (less_last (Ok read) place text call turn refl (λ e. cc)) ruled
 
     -- memory is refused, and there was something to take
     pub next_refused : TakesSomething now (of_source source_now) → (new : Preprocessing) → new.spent ≡ true → new.rules ≡ old.rules
@@ -201,19 +202,19 @@ module _ {rules : Rules} (expander now after : kept.Expander) (source source_now
         (rw spent (omega (arith, left_is_work expansion_limit expander source left, most_first))) same
 
     -- less is left after a pause
-    pub less_more : (spent : Bool) (place : Location) (call : Option CallPlace) → spent ≡ false → Over (Err Continue)
-        → most_items (record { expander = after; source = source_after; spent = spent; place = place; name_call = call; rules = rules }) < most_items old
-    less_more true place call fresh_now turn = cc
-    less_more false place call fresh_now turn = less_last (Err Continue) place call turn refl (λ e. cc)
+    pub less_more : (spent : Bool) (place : Location) (text : ℕ) (call : Option CallPlace) → spent ≡ false → Over (Err Continue)
+        → most_items (record { expander = after; source = source_after; spent = spent; place = place; text = text; name_call = call; rules = rules }) < most_items old
+    less_more true place text call fresh_now turn = cc
+    less_more false place text call fresh_now turn = less_last (Err Continue) place text call turn refl (λ e. cc)
 
     -- before a pause something is left
     pub some_items : Over (Err Continue) → 0 < most_items old
     some_items turn = omega (arith, falls_more turn, r.less, most_first)
 
-    end_last : (place : Location) (call : Option CallPlace) → Over (Err Finished)
-        → most_items (kept_with source_after false place call) ≡ 0
+    end_last : (place : Location) (text : ℕ) (call : Option CallPlace) → Over (Err Finished)
+        → most_items (kept_with source_after false place text call) ≡ 0
     unfolding most_items
-    end_last place call turn =
+    end_last place text call turn =
         let e = source_ends expansion_limit now source_now source_after r.fit after (turned (Err Finished) turn refl) in
         no_work expansion_limit after source_after e.0 e.1 e.2 e.3
 
@@ -224,25 +225,26 @@ module _ {rules : Rules} (expander now after : kept.Expander) (source source_now
         rw (e.0, e.2) refl
 
     -- if nothing is held, no call is kept for it
-    pub free_kept_call : (o : Option (Step Read)) (call : Option CallPlace) → o ≡ None
+    pub free_kept_call : (o : Option (PlacedStep Read)) (call : Option CallPlace) → o ≡ None
         → kept_call o call after.frames ≡ kept_call o (outermost_frame_call now.frames) after.frames
     free_kept_call o call free = rw free refl
 
     end_free : Over (Err Finished) → after.held ≡ None
     end_free turn = (source_ends expansion_limit now source_now source_after r.fit after (turned (Err Finished) turn refl)).0
 
-    pub next_end : (spent : Bool) (place : Location) (call : Option CallPlace) → spent ≡ false → place ≡ old.place → Over (Err Finished)
-        → IsNextItem old None (kept_with source_after spent place call)
+    pub next_end : (spent : Bool) (place : Location) (text : ℕ) (call : Option CallPlace) → spent ≡ false → place ≡ old.place → Over (Err Finished)
+        → IsNextItem old None (kept_with source_after spent place text call)
     unfolding Stands is_spent errors_left error_place call_place
-    next_end true place call fresh_now same turn = cc
-    next_end false place call fresh_now same turn =
-        as_next None (kept_with source_after false place call) (inr (record {
+    next_end true place text call fresh_now same turn = cc
+    next_end false place text call fresh_now same turn =
+        as_next None (kept_with source_after false place text call) (inr (record {
           item = λ e stands.
               let leads : LeadsFrom (answers_at expansion_limit) e (Err Finished) (outermost_frame_call now.frames) after source_after =
               (leads_last (Err Finished) turn refl).from e (stands_first e stands) in
               record {
                 after = leads.0;
                 emits = comes e leads.0 _ leads.1;
+                text = tt;
                 call = free_kept_call after.held call (end_free turn) ∙ leads.3;
                 goes_on = leads.2;
               };
@@ -254,47 +256,49 @@ module _ {rules : Rules} (expander now after : kept.Expander) (source source_now
             reports = (none_unreported turn, none_unreported turn, same);
           };
           spent = refl;
-        })) (end_last place call turn) ruled
+        })) (end_last place text call turn) ruled
 
     -- a fault is reported where it stands: the place that was taken is that of an error of the lexer
-    module _ (fault : Fault) (reported_source : Source) (place : Location) (call : Option CallPlace) (is : reported_source ≡ record source_after { error_place = None }) where
+    module _ (fault : PlacedFault) (reported_source : Source) (place : Location) (text : ℕ) (call : Option CallPlace) (is : reported_source ≡ record source_after { error_place = None }) where
       error_reported : (taken : Option Location) (left : List ErrorAt)
-          → place ≡ unwrap_or taken fault.1 → errors_left (kept_with reported_source false place call) ≡ left
-          → IsErrorAt fault (with_read fault taken left) (kept_with reported_source false place call)
+          → place ≡ unwrap_or taken fault.1.location → errors_left (kept_with reported_source false place text call) ≡ left
+          → IsErrorAt (unplaced fault) (with_read (unplaced fault) taken left) (kept_with reported_source false place text call)
       unfolding error_place
-      error_reported (Some there) left at same = of_lexer (ap (λ (es : List ErrorAt). record { item = fault; place = there } ∷ es) (sym same)
-          ∙ ap (λ (p : Location). record { item = fault; place = p } ∷ errors_left
-          (kept_with reported_source false place call)) (sym at))
+      error_reported (Some there) left at same = of_lexer (ap (λ (es : List ErrorAt). record { item = unplaced fault; place = there } ∷ es) (sym same)
+          ∙ ap (λ (p : Location). record { item = unplaced fault; place = p } ∷ errors_left
+          (kept_with reported_source false place text call)) (sym at))
       error_reported None left at same = of_its_own at same
 
       errors_now : Over (Err (Error fault)) → is_out_of_memory fault.0 ≡ false
-          → errors_left (kept_with reported_source false place call) ≡ (unreported_of source_after).later
+          → errors_left (kept_with reported_source false place text call) ≡ (unreported_of source_after).later
       unfolding errors_left
       errors_now turn reported = rw (is, (errors_last (Err (Error fault)) turn reported).0) refl
 
       less_now : Over (Err (Error fault)) → is_out_of_memory fault.0 ≡ false
-          → most_items (kept_with reported_source false place call) < most_items old
+          → most_items (kept_with reported_source false place text call) < most_items old
       unfolding most_items
-      less_now turn reported = rw is (less_last (Err (Error fault)) place call turn reported (λ e. cc))
+      less_now turn reported = rw is (less_last (Err (Error fault)) place text call turn reported (λ e. cc))
 
-      next_fault : Over (Err (Error fault)) → is_out_of_memory fault.0 ≡ false → place ≡ unwrap_or source_after.error_place fault.1
-          → IsNextItem old (Some (Err fault)) (kept_with reported_source false place call)
-      unfolding is_spent call_place
-      next_fault turn reported at =
-          as_next (Some (Err fault)) (kept_with reported_source false place call) (inr (record {
+      next_fault : Over (Err (Error fault)) → is_out_of_memory fault.0 ≡ false → place ≡ unwrap_or source_after.error_place fault.1.location
+          → text ≡ fault.1.text
+          → IsNextItem old (Some (Err (unplaced fault))) (kept_with reported_source false place text call)
+      unfolding is_spent call_place item_text
+      next_fault turn reported at of =
+          as_next (Some (Err (unplaced fault))) (kept_with reported_source false place text call) (inr (record {
             item = λ e stands.
                 let leads : LeadsFrom (answers_at expansion_limit) e (Err (Error fault)) (outermost_frame_call now.frames) after source_after =
                 (leads_last (Err (Error fault)) turn reported).from e (stands_first e stands) in
                 record {
                   after = leads.0;
                   emits = comes e leads.0 _ leads.1;
+                  text = of;
                   call = free_kept_call after.held call (errors_last (Err (Error fault)) turn reported).0 ∙ leads.2;
                   goes_on = tt;
                 };
             no_refusal = reported;
             holds = tt;
             reports = record {
-              left = with_read fault source_after.error_place (unreported_of source_after).later;
+              left = with_read (unplaced fault) source_after.error_place (unreported_of source_after).later;
               passes = passes_first _ (errors_last (Err (Error fault)) turn reported).1;
               reports = error_reported source_after.error_place (unreported_of source_after).later at (errors_now turn reported);
             };
@@ -302,19 +306,20 @@ module _ {rules : Rules} (expander now after : kept.Expander) (source source_now
           })) (less_now turn reported) ruled
 
       next_refusal : Over (Err (Error fault)) → IsNextItem old (Some (Err out_of_memory))
-          (kept_with reported_source true place call)
+          (kept_with reported_source true place text call)
       unfolding is_spent most_items
       next_refusal turn =
           let left : SomethingLeft expander source = left_now (Err (Error fault)) turn (λ e. cc) in
-          as_next (Some (Err out_of_memory)) (kept_with reported_source true place call)
+          as_next (Some (Err out_of_memory)) (kept_with reported_source true place text call)
           (inl (record { item = refl; spent = refl })) (omega (arith, left_is_work expansion_limit expander source left, most_first)) ruled
 
       pub next_error : (want : Bool) → is_out_of_memory fault.0 ≡ want → Over (Err (Error fault))
-          → place ≡ unwrap_or source_after.error_place (if want then out_of_memory else fault).1
-          → IsNextItem old (Some (Err (if want then out_of_memory else fault)))
-          (kept_with reported_source want place call)
-      next_error true e turn at = next_refusal turn
-      next_error false e turn at = next_fault turn e at
+          → place ≡ unwrap_or source_after.error_place (if want then out_of_memory else unplaced fault).1
+          → text ≡ fault.1.text
+          → IsNextItem old (Some (Err (if want then out_of_memory else unplaced fault)))
+          (kept_with reported_source want place text call)
+      next_error true e turn at of = next_refusal turn
+      next_error false e turn at of = next_fault turn e at of
 
 -- once memory was refused
 pub next_none : (old : Preprocessing) → old.spent ≡ true → IsNextItem old None old

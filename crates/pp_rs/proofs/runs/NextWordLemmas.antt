@@ -6,10 +6,13 @@ use Rattle.pp_lexer.specs.declared.token.Location.{Location}
 use Rattle.pp_lexer.specs.declared.token.Token.{Token}
 use Rattle.pp_macros.specs.Item.{Item}
 use Rattle.pp_macros.specs.LexerErrors.{ErrorAt, PassesErrors}
-use Rattle.pp_rs.specs.Kept.{Preprocessing, is_spent, most_items, errors_left, error_place, rules_of}
+use Rattle.pp_rs.specs.Kept.{Preprocessing, is_spent, most_items, errors_left, error_place, rules_of, item_text}
 use Rattle.pp_rs.specs.inner.NextWord.{IsPassed}
 use Rattle.pp_rs.specs.Preprocessing.{IsNextItem, IsRefusedItem, IsGivenItem, IsLessLeft, ReportsAnswer, ReportsError}
 use Rattle.pp_rs.proofs.runs.PassedErrorsLemmas.{passes_then}
+use Rattle.std.specs.Prelude.{IfSome}
+use Rattle.pp_model.specs.ItemCall.{text_of}
+use Rattle.pp_model.specs.declared.read.Taken.{Taken}
 
 -- what is passed goes by the same rules
 passes_over : (old mid : Preprocessing) (before after : List ErrorAt) → rules_of mid ≡ rules_of old
@@ -52,6 +55,7 @@ passed_next old mid new answer fresh p next =
           record {
             after = emitted.after;
             emits = between.comes _ _ emitted.emits;
+            text = subst (λ (x : Taken). IfSome (text_of x) (λ text. item_text new ≡ text)) (sym (between.same _ _ emitted.emits)) emitted.text;
             call = emitted.call ∙ sym (between.calls _ _ emitted.emits);
             goes_on = emitted.goes_on;
           };
@@ -89,6 +93,7 @@ passed_again old mid new p q = record {
         between = second.between;
         stands = second.stands;
         comes = λ o f c. first.comes o f (second.comes o f c);
+        same = λ o f c. first.same o f (second.comes o f c) ∙ second.same o f c;
         calls = λ o f c. first.calls o f (second.comes o f c) ∙ second.calls o f c;
       };
   spent = q.spent ∙ p.spent;

@@ -2,6 +2,7 @@
 use Rattle.std.proofs.Common.{◌≡◌, true, false, ℕ, [], ◌∷◌, refl, ap, sym, Option, Some, None, Err}
 use Rattle.std.specs.Prelude.{unwrap_or}
 use Rattle.std.proofs.lemmas.Bool.{not-true}
+use Rattle.pp_model.specs.Places.{source_text}
 use Rattle.pp_model.specs.Definitions.{Definition}
 use Rattle.pp_model.specs.Emitting.{expansion_limit}
 use Rattle.pp_model.specs.Names.{Name, is_identifier, line_name}
@@ -13,7 +14,7 @@ use Rattle.pp_macros.specs.inner.Idle.{is_idle}
 use Rattle.pp_macros.specs.inner.Reader.{of_source}
 use Rattle.pp_macros.specs.inner.Source.{Source}
 use Rattle.pp_macros.specs.inner.Turns.{Opens}
-use Rattle.pp_macros.specs.declared.step.StepExit.TheVariants.{Continue}
+use Rattle.pp_macros.specs.declared.step.PlacedExit.TheVariants.{Continue}
 use Rattle.pp_macros.proofs.taking.ExpanderLemmas.{is_idle-idle}
 use Rattle.pp_lexer.specs.declared.lexer.plain_item.PlainItem.{PlainItem}
 use Rattle.pp_directives.specs.WordTokens.{word_token}
@@ -47,7 +48,7 @@ module _ (m n : Expander) (r s : Source) (word : PlainItem) (id : ℕ) (takes : 
   opens : Opens (of_source s) (unpainted (word_token word)) opened
   opens = record { is = rw takes.does.0 (sym found); numbered = numbered }
 
-  opens_over : is_idle m ≡ true → n ≡ record m { frames = new_frame opened (bare_call word.location) [] ∷ m.frames }
+  opens_over : is_idle m ≡ true → n ≡ record m { frames = new_frame opened (bare_call source_text word.location) [] ∷ m.frames }
       → StepsOver expansion_limit m r (Err Continue) n s
   opens_over idle is =
       idle_opens expansion_limit r s m n (word_token word) opened (is_idle-idle m idle) (takes.step.reads, takes.step.errors) apart opens
@@ -64,5 +65,5 @@ module _ (m : Expander) (r s : Source) (word : PlainItem) (id : ℕ) (idle : is_
   bare_would =
       let definition = there (meaning_of s.definitions word.spelling.now) takes.does.1.bare in
       let opened : Macro = record { name = word.spelling.now; number = id; definition = definition.0; noted = [] } in
-      let after : Expander = record m { frames = new_frame opened (bare_call word.location) [] ∷ m.frames } in
+      let after : Expander = record m { frames = new_frame opened (bare_call source_text word.location) [] ∷ m.frames } in
       (after, opens_over m after r s word id takes opened (ap (λ (o : Option Definition). opened_by word.spelling.now o) (sym definition.1)) (takes.does.1.number, tt) idle refl)

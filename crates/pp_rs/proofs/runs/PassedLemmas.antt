@@ -6,13 +6,17 @@ use Rattle.pp_lexer.specs.declared.token.Location.{Location}
 use Rattle.pp_lexer.specs.declared.token.Token.{Token}
 use Rattle.pp_model.specs.Emitting.{answers_at, expansion_limit}
 use Rattle.pp_model.specs.declared.splice.CallPlace.{CallPlace}
-use Rattle.pp_macros.specs.inner.Giving.{GivesAhead, passed, token_ahead}
+use Rattle.pp_model.specs.Painting.{unpainted}
+use Rattle.pp_model.specs.declared.read.Read.{Read}
+use Rattle.std.specs.Prelude.{IsSome}
+use Rattle.pp_macros.specs.inner.Ahead.{painted_as, given_next, token_given}
+use Rattle.pp_macros.specs.inner.Giving.{GivesAhead, passed}
 use Rattle.pp_macros.specs.inner.Idle.{is_idle}
 use Rattle.pp_macros.specs.inner.Reader.{of_source}
 use Rattle.pp_macros.specs.inner.Plain.{gives_itself}
 use Rattle.pp_macros.specs.inner.Expander.{Expander}
 use Rattle.pp_macros.specs.inner.Source.{Source}
-use Rattle.pp_macros.specs.declared.step.StepExit.TheVariants.{Continue}
+use Rattle.pp_macros.specs.declared.step.PlacedExit.TheVariants.{Continue}
 use Rattle.pp_directives.specs.inner.PlainText.{IsStep}
 use Rattle.pp_rs.specs.Kept.{Preprocessing, Stands, IsAhead, is_spent, most_items, errors_left, error_place, kept_call, rules_of}
 use Rattle.pp_rs.specs.inner.NextWord.{IsPassed}
@@ -34,7 +38,7 @@ newline_over m r s idle step = idle_exit expansion_limit r s m Continue (Err Con
 
 -- so is a word
 pub word_over : (m : Expander) (r s : Source) (token : Token) → is_idle m ≡ true → IsStep r (Ok token) s → gives_itself s.definitions token.value ≡ true
-    → StepsOver expansion_limit m r (Ok token) m s
+    → StepsOver expansion_limit m r (Ok (unpainted token)) m s
 word_over m r s token idle step itself = idle_token expansion_limit r s m token (is_idle-idle m idle) (step.reads, step.errors) itself
 
 -- while no macro is open, no call is kept
@@ -44,52 +48,95 @@ idle_call m call other idle =
     rw free refl
 
 -- a token that is ahead
-pub token_ahead_is : (p : Preprocessing) → p.spent ≡ false → (token : Token) → IsTrue (is_ordinary token.value) → (painted : Bool)
-    → GivesAhead (of_source p.source) p.expander token painted → IsAhead p token
+pub token_ahead_is : (p : Preprocessing) → p.spent ≡ false → (read : Read) → IsTrue (is_ordinary read.token.value) → (painted : Bool)
+    → GivesAhead (of_source p.source) p.expander painted read → IsAhead p read
 unfolding IsAhead
-token_ahead_is p fresh token ordinary painted gives = (fresh, ordinary, painted, gives)
+token_ahead_is p fresh read ordinary painted gives = (fresh, ordinary, painted, gives)
 
-pub same_token : (o : Option Token) (a b : Token) → Some a ≡ o → o ≡ Some b → a ≡ b
-same_token o a b first second = let same : Some a ≡ Some b = first ∙ second in cc
+-- the token of what is ahead
+pub token_own : (painted : Bool) (given : Option Read) (token : Token) (read : Read) → Some token ≡ token_given given → painted_as painted given ≡ Some read
+    → token ≡ read.token
+token_own painted None token read first second = cc
+token_own painted (Some own) token read first second =
+    let same : token ≡ own.token = cc in
+    let shown : record own { painted = painted } ≡ read = cc in
+    same ∙ ap (λ (r : Read). r.token) shown
 
-pub ahead_there : (p : Preprocessing) (token : Token) → IsAhead p token → token_ahead p.expander ≡ Some token
+-- what is ahead, but for its paint
+pub record IsOwn (own read : Read) : Type 0 where
+  pub token : own.token ≡ read.token
+  pub text : own.text ≡ read.text
+
+own_painted : (painted : Bool) (given : Option Read) (own read : Read) → Some own ≡ given → painted_as painted given ≡ Some read → IsOwn own read
+own_painted painted None own read first second = cc
+own_painted painted (Some other) own read first second =
+    let same : own ≡ other = cc in
+    let shown : record other { painted = painted } ≡ read = cc in
+    record {
+      token = ap (λ (r : Read). r.token) same ∙ ap (λ (r : Read). r.token) shown;
+      text = ap (λ (r : Read). r.text) same ∙ ap (λ (r : Read). r.text) shown;
+    }
+
+pub ahead_own : (p : Preprocessing) (own read : Read) → IsAhead p read → Some own ≡ given_next p.expander.frames → IsOwn own read
 unfolding IsAhead
-ahead_there p token is = is.3.ahead
+ahead_own p own read is first = own_painted is.2 (given_next p.expander.frames) own read first is.3.ahead
 
-pub ahead_ordinary : (p : Preprocessing) (token : Token) → IsAhead p token → IsTrue (is_ordinary token.value)
-unfolding IsAhead
-ahead_ordinary p token is = is.1
+some_painted : (painted : Bool) (given : Option Read) (read : Read) → painted_as painted given ≡ Some read → IsSome given
+some_painted painted None read e = cc
+some_painted painted (Some own) read e = refl
 
-pub fresh_ahead : (p : Preprocessing) (token : Token) → IsAhead p token → p.spent ≡ false
+pub ahead_given : (p : Preprocessing) (read : Read) → IsAhead p read → IsSome (given_next p.expander.frames)
 unfolding IsAhead
-fresh_ahead p token ahead = ahead.0
+ahead_given p read is = some_painted is.2 (given_next p.expander.frames) read is.3.ahead
+
+same_painted : (given : Option Read) (one other : Bool) (a b : Read) → painted_as one given ≡ Some a → painted_as other given ≡ Some b → a.text ≡ b.text
+same_painted None one other a b first second = cc
+same_painted (Some own) one other a b first second =
+    let x : record own { painted = one } ≡ a = cc in
+    let y : record own { painted = other } ≡ b = cc in
+    sym (ap (λ (r : Read). r.text) x) ∙ ap (λ (r : Read). r.text) y
+
+-- the text of what is ahead
+pub same_text : (p : Preprocessing) (a b : Read) → IsAhead p a → IsAhead p b → a.text ≡ b.text
+unfolding IsAhead
+same_text p a b first second = same_painted (given_next p.expander.frames) first.2 second.2 a b first.3.ahead second.3.ahead
+
+pub ahead_ordinary : (p : Preprocessing) (read : Read) → IsAhead p read → IsTrue (is_ordinary read.token.value)
+unfolding IsAhead
+ahead_ordinary p read is = is.1
+
+pub fresh_ahead : (p : Preprocessing) (read : Read) → IsAhead p read → p.spent ≡ false
+unfolding IsAhead
+fresh_ahead p read ahead = ahead.0
 
 module _ {rules : Rules} (p : Preprocessing) (now : Expander) (source_now : Source) (is : p.expander ≡ now) (same : p.source ≡ source_now)
-    (fit : IsFit now source_now × IsReported rules now source_now) (token : Token) (ahead : IsAhead p token) where
-  over : StepsOver expansion_limit now source_now (Ok token) (passed now) source_now
+    (fit : IsFit now source_now × IsReported rules now source_now) (read : Read) (ahead : IsAhead p read) where
+  over : StepsOver expansion_limit now source_now (Ok read) (passed now) source_now
   unfolding IsAhead
-  over = subst (λ (m : Expander). StepsOver expansion_limit m source_now (Ok token) (passed m) source_now) is
-      (subst (λ (r : Source). StepsOver expansion_limit p.expander r (Ok token) (passed p.expander) r) same
-      (given_over p.expander (passed p.expander) p.source token ahead.2 ahead.3 refl))
+  over = subst (λ (m : Expander). StepsOver expansion_limit m source_now (Ok read) (passed m) source_now) is
+      (subst (λ (r : Source). StepsOver expansion_limit p.expander r (Ok read) (passed p.expander) r) same
+      (given_over p.expander (passed p.expander) p.source read ahead.2 ahead.3 refl))
 
   reached : Reached rules p.expander p.source now source_now
   reached = reached_first p.expander now p.source source_now (sym is) (sym same) fit
 
   pub pass_fits : IsFit (passed now) source_now × IsReported rules (passed now) source_now
-  pass_fits = token_fits p.expander now (passed now) p.source source_now source_now reached token over
+  pass_fits = token_fits p.expander now (passed now) p.source source_now source_now reached read over
 
-  pub ahead_passes : (spent : Bool) (place : Location) (call : Option CallPlace) → spent ≡ false → place ≡ p.place → rules ≡ p.rules
-      → IsNextItem p (Some (Ok token)) (record { expander = passed now; source = source_now; spent = spent; place = place; name_call = call; rules = rules })
+  pub ahead_passes : (spent : Bool) (place : Location) (text : ℕ) (call : Option CallPlace) → spent ≡ false → place ≡ p.place → text ≡ read.text
+      → rules ≡ p.rules
+      → IsNextItem p (Some (Ok read.token))
+      (record { expander = passed now; source = source_now; spent = spent; place = place; text = text; name_call = call; rules = rules })
   unfolding IsAhead
-  ahead_passes spent place call fresh at ruled =
-      next_token p.expander now (passed now) p.source source_now source_now reached p ahead.0 refl refl ruled token spent place call fresh at
+  ahead_passes spent place text call fresh at of ruled =
+      next_token p.expander now (passed now) p.source source_now source_now reached p ahead.0 refl refl ruled read spent place text call fresh at of
       (free_kept_call p.expander now (passed now) p.source source_now source_now reached p ahead.0 refl refl ruled now.held call
       (ap (λ (m : Expander). m.held) (sym is) ∙ ahead.3.free)) over ahead.3.holds
 
 -- nothing was passed
 pub passed_nothing : (p : Preprocessing) → IsPassed p p
 passed_nothing p = record {
-  item = λ state stands. record { between = state; stands = stands; comes = λ o f c. c; calls = λ o f c. refl };
+  item = λ state stands. record { between = state; stands = stands; comes = λ o f c. c; same = λ o f c. refl; calls = λ o f c. refl };
   spent = refl;
   errors = passes_none (rules_of p).passes_dead_errors _ _ refl;
   place = refl;
@@ -98,17 +145,18 @@ passed_nothing p = record {
 }
 
 -- only pauses were
-pub passed_pauses : (old : Preprocessing) (now : Expander) (source_now : Source) (spent : Bool) (place : Location) (call : Option CallPlace) (rules : Rules)
+pub passed_pauses : (old : Preprocessing) (now : Expander) (source_now : Source) (spent : Bool) (place : Location) (text : ℕ) (call : Option CallPlace) (rules : Rules)
     → Reached rules old.expander old.source now source_now → old.spent ≡ false → spent ≡ false → place ≡ old.place → rules ≡ old.rules
-    → IsPassed old (record { expander = now; source = source_now; spent = spent; place = place; name_call = call; rules = rules })
+    → IsPassed old (record { expander = now; source = source_now; spent = spent; place = place; text = text; name_call = call; rules = rules })
 unfolding Stands is_spent errors_left error_place most_items rules_of
-passed_pauses old now source_now spent place call rules r fresh same at ruled = record {
+passed_pauses old now source_now spent place text call rules r fresh same at ruled = record {
   item = λ state stands.
       let leads : LeadsFrom (answers_at expansion_limit) state (Err Continue) None now source_now = r.leads.from state stands in
       record {
         between = leads.0;
         stands = leads.1;
         comes = λ o f c. record { taken = c.taken; emits = (leads.2 c.taken f c.emits).0; is = c.is };
+        same = λ o f c. refl;
         calls = λ o f c. (leads.2 c.taken f c.emits).1;
       };
   spent = same ∙ sym fresh;

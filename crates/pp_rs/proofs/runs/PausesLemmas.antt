@@ -1,7 +1,7 @@
 -- The loop of `next` may pass any number of pauses of the open macros at once.
 use Rattle.std.proofs.Common.{◌≡◌, ◌≤◌, Bool, inl, refl, arith, Ok, Err}
 use Rattle.pp_lexer.specs.declared.rules.Rules.{Rules}
-use Rattle.pp_lexer.specs.declared.token.Token.{Token}
+use Rattle.pp_model.specs.declared.read.Read.{Read}
 use Rattle.pp_model.specs.Emitting.{expansion_limit}
 use Rattle.pp_macros.specs.inner.CallTurns.{TurnsTo}
 use Rattle.pp_macros.specs.inner.Giving.{PausesEach, at_once, after, GivesAhead, passed}
@@ -10,7 +10,7 @@ use Rattle.pp_macros.specs.inner.Expander.{Expander}
 use Rattle.pp_macros.specs.inner.Reader.{of_source}
 use Rattle.pp_macros.specs.inner.Source.{Source}
 use Rattle.pp_macros.specs.declared.calls.Taken.TheVariants as taken
-use Rattle.pp_macros.specs.declared.step.StepExit.TheVariants.{Continue}
+use Rattle.pp_macros.specs.declared.step.PlacedExit.TheVariants.{Continue}
 use Rattle.pp_rs.specs.inner.SourceTurns.{StepsOver}
 use Rattle.pp_rs.proofs.runs.NextLemmas.{Reached, reached_more, falls_more}
 
@@ -34,10 +34,10 @@ reached_on expander now source source_now r then (after between p pauses turns) 
     record { reached = reached_more expander between then source source_now source_now h.reached over; least = omega (arith, h.least, lower) }
 
 -- a token that an open macro gives as its list has it is a turn too
-pub given_over : (now then : Expander) (source : Source) (token : Token) (painted : Bool) → GivesAhead (of_source source) now token painted
-    → then ≡ passed now → StepsOver expansion_limit now source (Ok token) then source
-given_over now then source token painted gives is = rw is (inl (record {
-  taken = Ok (taken.Token (record { token = token; painted = painted }));
+pub given_over : (now then : Expander) (source : Source) (read : Read) (painted : Bool) → GivesAhead (of_source source) now painted read
+    → then ≡ passed now → StepsOver expansion_limit now source (Ok read) then source
+given_over now then source read painted gives is = rw is (inl (record {
+  taken = Ok (taken.Token read);
   between = passed now;
   turns = gives.turns;
   follows = (refl, refl);

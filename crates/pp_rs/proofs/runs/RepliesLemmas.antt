@@ -5,7 +5,7 @@ use Rattle.std.proofs.lemmas.List.{take_more, take-append-drop, map-append}
 use Rattle.pp_lexer.specs.declared.rules.Rules.{Rules}
 use Rattle.pp_lexer.specs.PreprocessorError.{out_of_memory}
 use Rattle.pp_lexer.specs.declared.token.Token.{Token}
-use Rattle.pp_model.specs.Calls.{Fault}
+use Rattle.pp_model.specs.Places.{Fault}
 use Rattle.pp_model.specs.Run.{Call, call_of, add_define, next, with_added, ends_run}
 use Rattle.pp_model.specs.RunChains.{AnswersIn, adds, refuses, gives, Chain, none, one_more}
 use Rattle.pp_model.specs.declared.call.Call.{Call as Called}

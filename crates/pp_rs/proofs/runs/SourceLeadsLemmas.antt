@@ -8,11 +8,10 @@ use Rattle.pp_model.specs.Reading.{Expander}
 use Rattle.pp_model.specs.Calls.{Answers}
 use Rattle.pp_model.specs.SourceReader.{SourceReader}
 use Rattle.pp_model.specs.Painting.{unpainted}
-use Rattle.pp_model.specs.declared.outcome.Outcome.TheVariants as outcome
 use Rattle.pp_model.specs.declared.read.Read.{Read}
 use Rattle.pp_model.specs.declared.read.Taken.TheVariants as given
 use Rattle.pp_macros.specs.inner.CallTurns.{TurnsTo}
-use Rattle.pp_macros.specs.Item.{Step, wants_memory}
+use Rattle.pp_macros.specs.Item.{PlacedStep, wants_memory}
 use Rattle.pp_macros.specs.inner.Expander as kept
 use Rattle.pp_macros.specs.inner.Reader.{Reader, of_source, of_list, Reads, hidden_of, shown_line, visible}
 use Rattle.pp_macros.specs.inner.Reading.{unpainted_step}
@@ -21,7 +20,7 @@ use Rattle.pp_rs.specs.Comes.{source_rules}
 use Rattle.pp_macros.specs.inner.Source.{Source}
 use Rattle.pp_rs.specs.inner.Stands.{StandsForReader}
 use Rattle.pp_macros.specs.declared.calls.Taken.{Taken}
-use Rattle.pp_macros.specs.declared.step.StepExit.TheVariants.{Error, Continue, Finished}
+use Rattle.pp_macros.specs.declared.step.PlacedExit.TheVariants.{Error, Continue, Finished}
 use Rattle.pp_macros.proofs.open_frames.ReportedLemmas.{wants_taken}
 use Rattle.pp_macros.proofs.taking.SearchSimulates.{ReadsTo, StandsIn}
 use Rattle.pp_rs.proofs.source.Simulates.{Simulates}
@@ -33,14 +32,14 @@ abbrev pub IsSource : Reader → SourceReader → Type 0
 IsSource (of_source source) x = StandsForReader source x
 IsSource (of_list l) x = ⊥
 
-pub reads_source : (old new : Source) (x : SourceReader) (step : Step Token) → Simulates step x new
+pub reads_source : (old new : Source) (x : SourceReader) (step : PlacedStep Token) → Simulates step x new
     → ReadsTo source_rules IsSource [] (unpainted_step step) x (of_source new)
-reads_source old new x (Ok token) h = (h.after, here (outcome.Token token) (given.Token (unpainted token)) x h.after h.steps refl, h.stands)
+reads_source old new x (Ok token) h = (h.after, here (given.Token (unpainted token)) x h.after h.steps, h.stands)
 reads_source old new x (Err Continue) h = (h.after, h.stands, λ o z reads. later o x h.after z h.steps reads)
-reads_source old new x (Err Finished) h = (h.after, here outcome.End given.End x h.after h.steps refl, h.stands)
-reads_source old new x (Err (Error fault)) h = (h.after, here (outcome.Fault fault) (given.Fault fault) x h.after h.steps refl)
+reads_source old new x (Err Finished) h = (h.after, here given.End x h.after h.steps, h.stands)
+reads_source old new x (Err (Error fault)) h = (h.after, here (given.Fault fault) x h.after h.steps)
 
-pub sources_simulate : (r s : Reader) (x : SourceReader) (step : Step Read) → IsSource r x → Reads r step s → wants_memory step ≡ false
+pub sources_simulate : (r s : Reader) (x : SourceReader) (step : PlacedStep Read) → IsSource r x → Reads r step s → wants_memory step ≡ false
     → ReadsTo source_rules IsSource [] step x s
 sources_simulate (of_source old) (of_source new) x step stands h reported =
     rw h.is (reads_source old new x h.given (source_simulates old new x h.given stands h.steps (unpainted_reported h.given (rw h.is at reported))))
@@ -61,7 +60,7 @@ source_sees (of_source source) y name stands = ap (λ (d : Definitions). d name)
 source_sees (of_list l) y name stands = absurd stands
 
 -- one turn over a source
-pub source_leads : (A : Answers) (m n : kept.Expander) (r s : Reader) (step : Step Taken) (e : Expander SourceReader)
+pub source_leads : (A : Answers) (m n : kept.Expander) (r s : Reader) (step : PlacedStep Taken) (e : Expander SourceReader)
     → StandsIn source_rules IsSource [] m r e → TurnsTo m r step n s → wants_taken step ≡ false
     → LeadsTo source_rules IsSource [] sources_simulate source_shows source_hides source_sees A step e n s
 source_leads A m n r s step e stands turns reported = turn_leads source_rules IsSource

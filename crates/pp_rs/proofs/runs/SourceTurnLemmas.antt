@@ -1,19 +1,14 @@
 -- A turn over a source, after which a call is finished: what holds after it, how much is left, and what it means for
 -- the definitions' expander.
 use Rattle.std.proofs.Common.{◌≡◌, ◌∙◌, ◌⊎◌, inl, inr, ℕ, zero, suc, ◌-◌, ◌<◌, ◌≤◌, true, false, List, [], ◌∷◌, ◌++◌, length, refl, ap, sym, subst, arith, Option, Some, None, Ok, Err, All}
-use Rattle.pp_lexer.specs.PreprocessorError.{out_of_memory}
-use Rattle.pp_lexer.specs.declared.token.Token.{Token}
 use Rattle.pp_model.specs.Calls.{Site, site_of}
-use Rattle.pp_model.specs.Emitting.{Emits, answers_at}
+use Rattle.pp_model.specs.Emitting.{answers_at}
 use Rattle.pp_model.proofs.LevelLemmas.{none_at_limit}
 use Rattle.pp_model.specs.Names.{Name}
-use Rattle.pp_model.specs.Painting.{item_of}
 use Rattle.pp_model.specs.Reading.{Expander, masked_names}
 use Rattle.pp_model.specs.SourceReader.{SourceReader}
 use Rattle.pp_model.specs.SpliceList.{open_names, macro_before, outermost_call}
 use Rattle.pp_model.specs.declared.read.Read.{Read}
-use Rattle.pp_model.specs.declared.read.Taken.{Taken as Given}
-use Rattle.pp_model.specs.declared.read.Taken.TheVariants as given
 use Rattle.pp_model.specs.declared.splice.Entry.{Entry}
 use Rattle.pp_macros.specs.inner.Calling.{MacroCall}
 use Rattle.pp_macros.specs.inner.CallTurns.{TurnsTo, TurnsOrRefuses, TakesSomething}
@@ -22,7 +17,7 @@ use Rattle.pp_macros.specs.inner.Finishing.{site_at, Finishes, IsOpened}
 use Rattle.pp_rs.specs.inner.Fit.{EndIsLast, IsFit}
 use Rattle.pp_macros.specs.inner.Frames.{Frame, new_frame, flat, names_of, outermost_frame_call}
 use Rattle.pp_macros.specs.Halting.{exit_of}
-use Rattle.pp_macros.specs.Item.{Step, wants_memory}
+use Rattle.pp_macros.specs.Item.{PlacedStep, wants_memory, no_memory}
 use Rattle.pp_macros.specs.inner.Left.{work_of, most_alone, most_bodies, most_open, reads_left, regions, regions_of, one_more, holding_step, IsSound}
 use Rattle.pp_macros.specs.inner.Expander as kept
 use Rattle.pp_macros.specs.inner.Reader.{of_source}
@@ -33,13 +28,13 @@ use Rattle.pp_rs.specs.inner.SourceTurns.{FollowsCall, opened, refused, FollowsT
 use Rattle.pp_rs.specs.inner.Stands.{StandsForReader, StandsForHeld, StandsFor}
 use Rattle.pp_macros.specs.declared.calls.Taken.{Taken}
 use Rattle.pp_macros.specs.declared.calls.Taken.TheVariants as taken
-use Rattle.pp_macros.specs.declared.halt.Halt.{Halt}
-use Rattle.pp_macros.specs.declared.halt.Halt.TheVariants as halt
-use Rattle.pp_macros.specs.declared.step.StepExit.{StepExit}
-use Rattle.pp_macros.specs.declared.step.StepExit.TheVariants.{Error, Continue, Finished}
+use Rattle.pp_macros.specs.declared.halt.PlacedHalt.{PlacedHalt}
+use Rattle.pp_macros.specs.declared.halt.PlacedHalt.TheVariants as halt
+use Rattle.pp_macros.specs.declared.step.PlacedExit.{PlacedExit}
+use Rattle.pp_macros.specs.declared.step.PlacedExit.TheVariants.{Error, Continue, Finished}
 use Rattle.pp_macros.proofs.work.CallFallsLemmas.{IsLess, IsPending, turn_falls, pending_opens}
 use Rattle.pp_macros.proofs.open_frames.FlatLemmas.{open_flat, outermost_flat}
-use Rattle.pp_rs.proofs.runs.Leads.{GivesItem, LeadsFrom, Leads}
+use Rattle.pp_rs.proofs.runs.Leads.{LeadsFrom, Leads}
 use Rattle.pp_macros.proofs.open_frames.OpenSoundLemmas.{sound_rest}
 use Rattle.pp_macros.proofs.open_frames.ReportedLemmas.{wants_taken}
 use Rattle.pp_macros.proofs.work.ReachLemmas.{frame_steps_level}
@@ -54,56 +49,56 @@ use Rattle.pp_model.specs.declared.numbering.Numbering.{Numbering}
 
 -- what follows of a call that is not finished, unless memory is refused
 pub follows_halt : (levels l : ℕ) (source : Source) (numbering : Numbering) (definitions : List Defined) (hidden : List Name) (c : MacroCall)
-    (m n : kept.Expander) (h : Halt) (step : Step Token) → l ≡ levels → numbering ≡ list_numbering source.rules source.line_offset
+    (m n : kept.Expander) (h : PlacedHalt) (step : PlacedStep Read) → l ≡ levels → numbering ≡ list_numbering source.rules source.line_offset
     → definitions ≡ source.definitions → hidden ≡ [] → Finishes l numbering definitions hidden c m (Err h) n → step ≡ Err (exit_of h)
-    → FollowsCall levels source c m step n ⊎ (step ≡ Err (Error out_of_memory))
+    → FollowsCall levels source c m step n ⊎ (step ≡ Err (Error no_memory))
 follows_halt levels l source numbering definitions hidden c m n (halt.Fault fault) step e counts d none f is =
     inl (refused fault is (rw (e, counts, d, none) at f.0) f.1)
 follows_halt levels l source numbering definitions hidden c m n halt.OutOfMemory step e counts d none f is = inr is
 
 -- the turns of the code
 module _ (levels : ℕ) (m n : kept.Expander) (r s : Source) where
-  pub goes_token : (read : Read) → TurnsOrRefuses m (of_source r) (Ok (taken.Token read)) n (of_source s) → StepsOver levels m r (Ok read.token) n s
+  pub goes_token : (read : Read) → TurnsOrRefuses m (of_source r) (Ok (taken.Token read)) n (of_source s) → StepsOver levels m r (Ok read) n s
   goes_token read (inl h) = inl (record { taken = Ok (taken.Token read); between = n; turns = h; follows = (refl, refl) })
   goes_token read (inr h) = let bad = h.fault in cc
 
-  exit_as : (exit : StepExit) (step : Step Token) → ◌≡◌ {A = Step Taken} (Err exit) (Err (Error out_of_memory)) → step ≡ Err exit
-      → step ≡ Err (Error out_of_memory)
+  exit_as : (exit : PlacedExit) (step : PlacedStep Read) → ◌≡◌ {A = PlacedStep Taken} (Err exit) (Err (Error no_memory)) → step ≡ Err exit
+      → step ≡ Err (Error no_memory)
   exit_as exit step e is = cc
 
-  pub goes_exit : (exit : StepExit) (step : Step Token) → TurnsOrRefuses m (of_source r) (Err exit) n (of_source s) → step ≡ Err exit
+  pub goes_exit : (exit : PlacedExit) (step : PlacedStep Read) → TurnsOrRefuses m (of_source r) (Err exit) n (of_source s) → step ≡ Err exit
       → StepsOver levels m r step n s
   goes_exit exit step (inl h) is = inl (record { taken = Err exit; between = n; turns = h; follows = (is, refl) })
   goes_exit exit step (inr h) is = inr (record { some = h.some; fault = exit_as exit step h.fault is })
 
   -- a call that is finished at once, unless memory is refused
-  pub goes_follow : (c : MacroCall) (p : kept.Expander) (step : Step Token) → TurnsOrRefuses m (of_source r) (Ok (taken.Call c)) n (of_source s)
-      → FollowsCall levels s c n step p ⊎ (step ≡ Err (Error out_of_memory)) → StepsOver levels m r step p s
+  pub goes_follow : (c : MacroCall) (p : kept.Expander) (step : PlacedStep Read) → TurnsOrRefuses m (of_source r) (Ok (taken.Call c)) n (of_source s)
+      → FollowsCall levels s c n step p ⊎ (step ≡ Err (Error no_memory)) → StepsOver levels m r step p s
   goes_follow c p step (inr t) f = let bad = t.fault in cc
   goes_follow c p step (inl t) (inl f) = inl (record { taken = Ok (taken.Call c); between = n; turns = t; follows = f })
   goes_follow c p step (inl t) (inr is) =
       inr (record { some = turn_some m n (of_source r) (of_source s) (Ok (taken.Call c)) t (λ e. cc); fault = is })
 
   -- but for the end, something was taken
-  pub source_some : (step : Step Token) → TurnsSource levels m r step n s → (step ≡ Err Finished → ⊥) → TakesSomething m (of_source r)
+  pub source_some : (step : PlacedStep Read) → TurnsSource levels m r step n s → (step ≡ Err Finished → ⊥) → TakesSomething m (of_source r)
   source_some step h goes = turn_some m h.between (of_source r) (of_source s) h.taken h.turns (λ e. goes (ends h.taken e h.follows))
     where
-      ends : (t : Step Taken) → t ≡ Err Finished → FollowsTurn levels s t h.between step n → step ≡ Err Finished
+      ends : (t : PlacedStep Taken) → t ≡ Err Finished → FollowsTurn levels s t h.between step n → step ≡ Err Finished
       ends (Ok token) e follows = cc
       ends (Err exit) e follows = let is = follows.0 in cc
 
-  pub turned_source : (step : Step Token) → StepsOver levels m r step n s → wants_memory step ≡ false → TurnsSource levels m r step n s
+  pub turned_source : (step : PlacedStep Read) → StepsOver levels m r step n s → wants_memory step ≡ false → TurnsSource levels m r step n s
   turned_source step (inl h) reported = h
   turned_source step (inr h) reported = absurd (let bad : true ≡ false = rw h.fault at reported in cc)
 
 -- what holds after a turn: less is left, but at the end
-record IsAfter (levels : ℕ) (m : kept.Expander) (old : Source) (step : Step Token) (n : kept.Expander) (new : Source) : Type 0 where
+record IsAfter (levels : ℕ) (m : kept.Expander) (old : Source) (step : PlacedStep Read) (n : kept.Expander) (new : Source) : Type 0 where
   less : (step ≡ Err Finished → ⊥) → work_of levels n (of_source new) < work_of levels m (of_source old)
   sound : IsSound n (of_source new)
   last : EndIsLast n.held n.frames (of_source new)
 
 module _ (levels : ℕ) (m : kept.Expander) (old new : Source) (fit : IsFit m old) where
-  free_last : (o : Option (Step Read)) (n : kept.Expander) → o ≡ None → EndIsLast o n.frames (of_source new)
+  free_last : (o : Option (PlacedStep Read)) (n : kept.Expander) → o ≡ None → EndIsLast o n.frames (of_source new)
   free_last o n e = rw e tt
 
   opened_less : (levels' : ℕ) → levels' ≡ levels → (c : MacroCall) (n p : kept.Expander) → IsPending levels' m (of_source old) c n (of_source new)
@@ -113,10 +108,10 @@ module _ (levels : ℕ) (m : kept.Expander) (old new : Source) (fit : IsFit m ol
       let one : suc lower - 1 ≡ lower = omega arith in
       let least : All (λ (a : List Read). length a ≤ most_alone lower new.definitions (length c.tokens)) o.arguments = rw (← one) o.least in
       let at : p ≡ record { held = None; frames = new_frame c.opened c.call o.arguments ∷ n.frames } = o.opens
-      ∙ ap (λ (h : Option (Step Read)). record { held = h; frames = new_frame c.opened c.call o.arguments ∷ n.frames }) pend.free in
+      ∙ ap (λ (h : Option (PlacedStep Read)). record { held = h; frames = new_frame c.opened c.call o.arguments ∷ n.frames }) pend.free in
       rw at (pending_opens lower m (of_source old) c n (of_source new) o.arguments pend least)
 
-  call_after : (c : MacroCall) (n p : kept.Expander) (step : Step Token) → IsPending levels m (of_source old) c n (of_source new)
+  call_after : (c : MacroCall) (n p : kept.Expander) (step : PlacedStep Read) → IsPending levels m (of_source old) c n (of_source new)
       → FollowsCall levels new c n step p → IsAfter levels m old step p new
   call_after c n p step pend (opened is o) =
       let less = opened_less levels refl c n p pend o in
@@ -135,11 +130,11 @@ module _ (levels : ℕ) (m : kept.Expander) (old new : Source) (fit : IsFit m ol
         last = free_last n.held n pend.free;
       })
 
-  less_after : (step : Step Token) (n p : kept.Expander) → p ≡ n → EndIsLast n.held n.frames (of_source new)
+  less_after : (step : PlacedStep Read) (n p : kept.Expander) → p ≡ n → EndIsLast n.held n.frames (of_source new)
       → IsLess levels m (of_source old) n (of_source new) → IsAfter levels m old step p new
   less_after step n p same last less = rw same (record { less = λ goes. less.falls; sound = less.sound; last = last })
 
-  follows_after : (step : Step Token) (n p : kept.Expander) (t : Step Taken) → TurnsTo m (of_source old) t n (of_source new)
+  follows_after : (step : PlacedStep Read) (n p : kept.Expander) (t : PlacedStep Taken) → TurnsTo m (of_source old) t n (of_source new)
       → FollowsTurn levels new t n step p → wants_memory step ≡ false → IsAfter levels m old step p new
   follows_after step n p (Ok (taken.Call c)) turns follows reported =
       call_after c n p step (turn_falls levels m (of_source old) fit.sound (Ok (taken.Call c)) n (of_source new) turns refl) follows
@@ -157,12 +152,12 @@ module _ (levels : ℕ) (m : kept.Expander) (old new : Source) (fit : IsFit m ol
       less_after step n p follows.1 (turn_last m n (of_source old) (of_source new) t fit.unspent turns)
       (turn_falls levels m (of_source old) fit.sound t n (of_source new) turns refl)
 
-  taken_reported : (step : Step Token) (n p : kept.Expander) (t : Step Taken) → FollowsTurn levels new t n step p → wants_memory step ≡ false
+  taken_reported : (step : PlacedStep Read) (n p : kept.Expander) (t : PlacedStep Taken) → FollowsTurn levels new t n step p → wants_memory step ≡ false
       → wants_taken t ≡ false
   taken_reported step n p (Err (Error fault)) follows reported = rw follows.0 at reported
   taken_reported step n p _ follows reported = refl
 
-  module _ (step : Step Token) (n : kept.Expander) (h : TurnsSource levels m old step n new) (reported : wants_memory step ≡ false) where
+  module _ (step : PlacedStep Read) (n : kept.Expander) (h : TurnsSource levels m old step n new) (reported : wants_memory step ≡ false) where
     after : IsAfter levels m old step n new
     after = follows_after step h.between n h.taken h.turns h.follows reported
 
@@ -180,25 +175,25 @@ module _ (levels : ℕ) (m : kept.Expander) (old new : Source) (fit : IsFit m ol
   pub source_ends : (n : kept.Expander) → TurnsSource levels m old (Err Finished) n new → (n.held ≡ None) × (n.frames ≡ []) × (new.rest ≡ []) × (new.blocks ≡ [])
   source_ends n h = go h.taken h.between h.turns h.follows
     where
-      go : (t : Step Taken) (k : kept.Expander) → TurnsTo m (of_source old) t k (of_source new) → FollowsTurn levels new t k (Err Finished) n
+      go : (t : PlacedStep Taken) (k : kept.Expander) → TurnsTo m (of_source old) t k (of_source new) → FollowsTurn levels new t k (Err Finished) n
           → (n.held ≡ None) × (n.frames ≡ []) × (new.rest ≡ []) × (new.blocks ≡ [])
       go (Ok (taken.Token read)) k turns follows = let bad = follows.0 in cc
       go (Ok (taken.Call c)) k turns (opened is o) = cc
       go (Ok (taken.Call c)) k turns (refused fault is answers same) = cc
       go (Err exit) k turns follows =
           let e : exit ≡ Finished = exit_same exit follows.0 in
-          let last = turn_end m k (of_source old) (of_source new) (Err exit) (ap (λ (x : StepExit). Err x) e) fit.unspent fit.last turns in
+          let last = turn_end m k (of_source old) (of_source new) (Err exit) (ap (λ (x : PlacedExit). Err x) e) fit.unspent fit.last turns in
           rw follows.1 (last.0, last.1, last.2.0, last.2.1)
         where
-          exit_same : (exit : StepExit) → ◌≡◌ {A = Step Token} (Err Finished) (Err exit) → exit ≡ Finished
+          exit_same : (exit : PlacedExit) → ◌≡◌ {A = PlacedStep Read} (Err Finished) (Err exit) → exit ≡ Finished
           exit_same exit e = cc
 
 -- the states that are stood for, as the lemmas on all readers say it
-held_in : (o : Option (Step Read)) (source : Source) (x : SourceReader) → StandsForHeld o source x → StandsHeld source_rules IsSource [] o (of_source source) x
+held_in : (o : Option (PlacedStep Read)) (source : Source) (x : SourceReader) → StandsForHeld o source x → StandsHeld source_rules IsSource [] o (of_source source) x
 held_in (Some (Err (Error fault))) source x h = tt
 held_in _ source x h = h
 
-held_for : (o : Option (Step Read)) (source : Source) (x : SourceReader) → StandsHeld source_rules IsSource [] o (of_source source) x
+held_for : (o : Option (PlacedStep Read)) (source : Source) (x : SourceReader) → StandsHeld source_rules IsSource [] o (of_source source) x
     → StandsForHeld o source x
 held_for (Some (Err (Error fault))) source x h = tt
 held_for _ source x h = h
@@ -213,7 +208,7 @@ stands_for m source e h = record { held = h.holds; list = h.list; reader = held_
 site_same : (c : MacroCall) (n : kept.Expander) (source : Source) (f : Expander SourceReader) → StandsIn source_rules IsSource [] n (of_source source) f
     → n.held ≡ None → site_of source_rules f c.paren c.tokens ≡ site_at c (list_numbering source.rules source.line_offset) source.definitions (names_of n.frames ++ [])
 site_same c n source f stands free =
-    let reader : StandsForReader source f.reader = subst (λ (o : Option (Step Read)). StandsHeld source_rules IsSource [] o
+    let reader : StandsForReader source f.reader = subst (λ (o : Option (PlacedStep Read)). StandsHeld source_rules IsSource [] o
     (of_source source) f.reader) free stands.reader in
     let around : masked_names f ≡ names_of n.frames ++ [] =
     ap (λ (es : List Entry). open_names es ++ f.hidden) stands.list ∙ ap (λ (hs : List Name). open_names (flat n.frames) ++ hs) stands.names
@@ -221,25 +216,21 @@ site_same c n source f stands free =
     rw (reader.definitions, reader.rules, reader.line_offset, around) refl
 
 module _ (levels : ℕ) (m : kept.Expander) (old new : Source) (fit : IsFit m old) (e : Expander SourceReader) (stands : StandsFor m old e) where
-  abbrev LeadsBy : Step Taken → kept.Expander → Type 0
+  abbrev LeadsBy : PlacedStep Taken → kept.Expander → Type 0
   LeadsBy t n = LeadsTo source_rules IsSource [] sources_simulate source_shows source_hides source_sees (answers_at levels) t e n (of_source new)
 
   -- the call of an item, over frames
-  calls_same : (o : Option (Step Read)) (first last : List Entry) (frames left : List Frame) → first ≡ flat frames → last ≡ flat left
+  calls_same : (o : Option (PlacedStep Read)) (first last : List Entry) (frames left : List Frame) → first ≡ flat frames → last ≡ flat left
       → kept_call o (outermost_frame_call frames) left ≡ item_call_after o first last
   calls_same None first last frames left is becomes = sym (ap outermost_call becomes ∙ outermost_flat left)
   calls_same (Some step) first last frames left is becomes = sym (ap outermost_call is ∙ outermost_flat frames)
 
-  free_kept_call : (o : Option (Step Read)) (left : List Frame) → o ≡ None → (after : List Entry) → after ≡ flat left
+  free_kept_call : (o : Option (PlacedStep Read)) (left : List Frame) → o ≡ None → (after : List Entry) → after ≡ flat left
       → kept_call o (outermost_frame_call m.frames) left ≡ outermost_call after
   free_kept_call None left free after becomes = sym (ap outermost_call becomes ∙ outermost_flat left)
   free_kept_call (Some step) left free after becomes = cc
 
-  -- an item without its paint
-  abbrev item : (x : Given) (f : Expander SourceReader) → Emits source_rules (answers_at levels) e x f → GivesItem (answers_at levels) e (item_of x) f
-  item x f emits = record { taken = x; emits = emits; is = refl }
-
-  call_leads : (c : MacroCall) (n p : kept.Expander) (step : Step Token) → n.held ≡ None → LeadsBy (Ok (taken.Call c)) n
+  call_leads : (c : MacroCall) (n p : kept.Expander) (step : PlacedStep Read) → n.held ≡ None → LeadsBy (Ok (taken.Call c)) n
       → FollowsCall levels new c n step p → LeadsFrom (answers_at levels) e step (outermost_frame_call m.frames) p new
   call_leads c n p step free led (opened is o) =
       let f : Expander SourceReader = record led.0 { list = macro_before c.opened.name c.opened.definition c.call o.arguments led.0.list } in
@@ -257,14 +248,14 @@ module _ (levels : ℕ) (m : kept.Expander) (old new : Source) (fit : IsFit m ol
       )
   call_leads c n p step free led (refused fault is answers same) =
       let emitted = led.2 fault (subst (λ (x : Site). answers_at levels c.opened.definition x (Err fault)) (sym (site_same c n new led.0 led.1 free)) answers) in
-      rw (is, same) (led.0, item (given.Fault fault) led.0 emitted.0, free_kept_call n.held n.frames free led.0.list led.1.list ∙ sym emitted.1)
+      rw (is, same) (led.0, emitted.0, free_kept_call n.held n.frames free led.0.list led.1.list ∙ sym emitted.1)
 
-  follows_lead : (step : Step Token) (n p : kept.Expander) (t : Step Taken) → TurnsTo m (of_source old) t n (of_source new) → LeadsBy t n
+  follows_lead : (step : PlacedStep Read) (n p : kept.Expander) (t : PlacedStep Taken) → TurnsTo m (of_source old) t n (of_source new) → LeadsBy t n
       → FollowsTurn levels new t n step p → LeadsFrom (answers_at levels) e step (outermost_frame_call m.frames) p new
   follows_lead step n p (Ok (taken.Token read)) turns led follows =
       rw (follows.0, follows.1) (
         led.0,
-        item (given.Token read) led.0 led.1,
+        led.1,
         stands_for n new led.0 led.2,
         calls_same n.held e.list led.0.list m.frames n.frames stands.list led.2.list ∙ sym led.3,
       )
@@ -276,15 +267,15 @@ module _ (levels : ℕ) (m : kept.Expander) (old new : Source) (fit : IsFit m ol
   follows_lead step n p (Err Finished) turns led follows =
       rw (follows.0, follows.1) (
         led.0,
-        item given.End led.0 led.1,
+        led.1,
         stands_for n new led.0 led.2,
         free_kept_call n.held n.frames led.3 led.0.list led.2.list ∙ sym led.4,
       )
   follows_lead step n p (Err (Error fault)) turns led follows =
-      rw (follows.0, follows.1) (led.0, item (given.Fault fault) led.0 led.1, free_kept_call n.held n.frames led.3 led.0.list led.2 ∙ sym led.4)
+      rw (follows.0, follows.1) (led.0, led.1, free_kept_call n.held n.frames led.3 led.0.list led.2 ∙ sym led.4)
 
 -- One turn: a token, a fault or the end is the next item, and a pause keeps it.
-pub source_turn_leads : (levels : ℕ) (m n : kept.Expander) (old new : Source) (step : Step Token) → IsFit m old → TurnsSource levels m old step n new
+pub source_turn_leads : (levels : ℕ) (m n : kept.Expander) (old new : Source) (step : PlacedStep Read) → IsFit m old → TurnsSource levels m old step n new
     → wants_memory step ≡ false → Leads (answers_at levels) m old step (outermost_frame_call m.frames) n new
 source_turn_leads levels m n old new step fit h reported = record {
   from = λ e stands.

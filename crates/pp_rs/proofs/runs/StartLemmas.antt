@@ -27,9 +27,11 @@ start_by rules text = record {
     has_text = false;
     has_directive = false;
     dead_for_good = false;
+    contents = 0;
   };
   spent = false;
   place = nowhere;
+  text = 0;
   name_call = None;
   rules = rules;
 }
@@ -45,6 +47,7 @@ start_stands rules text = record {
     rest = refl;
     within = omega arith;
     definitions = refl;
+    contents = refl;
     line_offset = refl;
     lined = items_lined rules text;
     ended = start_ended rules (spots_of text);

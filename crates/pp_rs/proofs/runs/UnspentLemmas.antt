@@ -6,16 +6,16 @@ use Rattle.pp_lexer.specs.declared.token.Token.{Token}
 use Rattle.pp_model.specs.Definitions.{Definition}
 use Rattle.pp_model.specs.Sights.{sight_of}
 use Rattle.pp_model.specs.declared.definition.Named.{Named}
-use Rattle.pp_macros.specs.Item.{Step, wants_memory}
+use Rattle.pp_macros.specs.Item.{PlacedStep, wants_memory}
 use Rattle.pp_macros.specs.inner.Defined.{meaning_of}
 use Rattle.pp_macros.specs.inner.Source.{Source, Ends, DefinesOver, HasEffect, IsRefusedStep, MakesMove, Decides, holds, faulty, Renumbers, numbers, unnumbered}
 use Rattle.pp_macros.specs.declared.blocks.OpenBlock.{OpenBlock}
 use Rattle.pp_model.specs.Moves.{Effect, ends, defines, decides, renumbers}
 use Rattle.pp_macros.specs.inner.OpenBlocks.{last_block, BlockChange, block_change_at}
 use Rattle.pp_macros.specs.inner.SourceMoves.{Note, note_of, move_of}
-use Rattle.pp_macros.specs.declared.step.StepExit.TheVariants.{Finished}
+use Rattle.pp_macros.specs.declared.step.PlacedExit.TheVariants.{Finished}
 
-module _ (old new : Source) (step : Step Token) (unspent : old.spent ≡ false) where
+module _ (old new : Source) (step : PlacedStep Token) (unspent : old.spent ≡ false) where
   defines_unspent : (named : Named) (before : Option Definition) (taken : ℕ) (note : Note) → DefinesOver named before taken note old step new
       → new.spent ≡ false
   defines_unspent named None taken note h = h.1.spent

@@ -1,13 +1,13 @@
 -- A number sign without a word after it: passing it is a step of the reader.
 use Rattle.std.proofs.Common.{◌≡◌, ◌∙◌, ℕ, suc, true, false, ◌∷◌, refl, sym, None}
+use Rattle.pp_model.specs.Places.{Fault}
 use Rattle.pp_model.specs.Sights.{sight_of}
 use Rattle.pp_model.specs.Blocks.{line_at}
 use Rattle.pp_model.specs.SourceReader.{SourceReader, is_on_directive_line}
-use Rattle.pp_model.specs.Calls.{Fault}
 use Rattle.pp_model.specs.Acts.{pause_at, advanced_by, act}
 use Rattle.pp_model.specs.declared.sight.Sight.{Sight}
 use Rattle.pp_model.specs.declared.sight.Sight.TheVariants as sight
-use Rattle.pp_macros.specs.Item.{Step}
+use Rattle.pp_macros.specs.Item.{PlacedStep}
 use Rattle.pp_lexer.specs.declared.token.Token.{Token}
 use Rattle.pp_macros.specs.inner.OpenBlocks.{last_block, is_live_in}
 use Rattle.pp_macros.specs.inner.SourceMoves.{Note, unnoted, directive_line, notes_text, notes_directive}
@@ -28,7 +28,7 @@ bare_begins sight.Lone h = refl
 bare_begins (sight.NoWord fault) h = refl
 bare_begins _ h = cc
 
-module _ {old : Source} {r : SourceReader} (s : StandsForReader old r) (move : Step Token) (new : Source) where
+module _ {old : Source} {r : SourceReader} (s : StandsForReader old r) (move : PlacedStep Token) (new : Source) where
   bare_passes : {shown : Sight} (e : sight_of old.rest ≡ shown) → is_bare shown ≡ true → ((position : ℕ) → line_at position shown ≡ None)
       → {note : Note} → notes_text note ≡ false
       → (is_live_in (last_block old.blocks) ≡ true → is_on_directive_line r.items (suc (suc r.position)) ≡ false)

@@ -9,7 +9,7 @@ use Rattle.pp_lexer.specs.declared.lexer.item.TokenValue.{TokenValue as LexerTok
 use Rattle.pp_lexer.specs.declared.lexer.item.TokenValue.TheVariants.{Hash, NewLine}
 use Rattle.pp_lexer.specs.declared.token.Location.{Location}
 use Rattle.pp_lexer.specs.declared.token.Token.{Token}
-use Rattle.pp_model.specs.Calls.{Fault}
+use Rattle.pp_model.specs.Places.{Fault}
 use Rattle.pp_model.specs.Conversions.{is_hash}
 use Rattle.pp_model.specs.Sights.{sight_of, token_sight, is_directive, is_directive_hash}
 use Rattle.pp_model.specs.inner.Sights.{item_sight, text_sight}

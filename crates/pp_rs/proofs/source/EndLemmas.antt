@@ -9,14 +9,14 @@ use Rattle.pp_model.specs.Sights.{sight_of}
 use Rattle.pp_model.specs.declared.directive.Directive.{Directive}
 use Rattle.pp_model.specs.declared.sight.Sight.{Sight}
 use Rattle.pp_model.specs.declared.sight.Sight.TheVariants as sight
-use Rattle.pp_macros.specs.Item.{Step}
+use Rattle.pp_macros.specs.Item.{PlacedStep}
 use Rattle.pp_macros.specs.inner.OpenBlocks.{last_block, facts_among, is_live_among, block_change_at}
 use Rattle.pp_macros.specs.declared.blocks.OpenBlock.{OpenBlock}
 use Rattle.pp_model.specs.Moves.{BlockFacts, failing, passing, directive_move, error_length, move_at}
 use Rattle.pp_model.proofs.MovesLemmas.{directive_holds}
 use Rattle.pp_macros.specs.inner.SourceMoves.{note_of, move_of}
 use Rattle.pp_macros.specs.inner.Source.{Source, Ends, IsRefusedStep, Makes, MakesMove}
-use Rattle.pp_macros.specs.declared.step.StepExit.TheVariants.{Finished}
+use Rattle.pp_macros.specs.declared.step.PlacedExit.TheVariants.{Finished}
 use Rattle.pp_rs.proofs.source.ItemThereLemmas.{item_there}
 use Rattle.pp_rs.proofs.source.StandsAfterLemmas.{no_blocks_kept}
 use Rattle.pp_macros.proofs.work.FinishedLemmas.{is_end_effect, finished_ends}
@@ -73,7 +73,7 @@ makes_end (s ∷ rest) old new e h =
     absurd (let bad : false ≡ true = sym on ∙ off in cc)
 
 pub source_end : (old new : Source) (spent : Bool) → old.spent ≡ spent → spent ≡ false
-    → MatchBool spent ((◌≡◌ {A = Step Token} (Err Finished) (Err Finished)) × (new ≡ old))
+    → MatchBool spent ((◌≡◌ {A = PlacedStep Token} (Err Finished) (Err Finished)) × (new ≡ old))
     (IsRefusedStep old (Err Finished) ⊎ MakesMove old (Err Finished) new) → HasNothing new
 source_end old new true e f h = cc
 source_end old new false e f (inl h) = let bad = h.fault in cc

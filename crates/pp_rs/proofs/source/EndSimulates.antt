@@ -4,17 +4,18 @@ use Rattle.std.specs.Prelude.{Err}
 use Rattle.std.proofs.lemmas.List.{take_all}
 use Rattle.pp_lexer.specs.declared.token.PreprocessorError.TheVariants.{UnfinishedBlock}
 use Rattle.pp_lexer.specs.declared.token.Token.{Token}
+use Rattle.pp_model.specs.Places.{in_source}
 use Rattle.pp_model.specs.Sights.{sight_of}
 use Rattle.pp_model.specs.Blocks.{Block, blocks_at, innermost}
 use Rattle.pp_model.specs.SourceReader.{SourceReader}
 use Rattle.pp_model.specs.Acts.{end_by, end_at, act}
 use Rattle.pp_model.specs.declared.sight.Sight.TheVariants as sight
-use Rattle.pp_macros.specs.Item.{Step}
+use Rattle.pp_macros.specs.Item.{PlacedStep}
 use Rattle.pp_macros.specs.inner.OpenBlocks.{last_block}
 use Rattle.pp_macros.specs.declared.blocks.OpenBlock.{OpenBlock}
 use Rattle.pp_macros.specs.inner.Source.{Source, Ends}
 use Rattle.pp_rs.specs.inner.Stands.{StandsForReader}
-use Rattle.pp_macros.specs.declared.step.StepExit.TheVariants.{Error}
+use Rattle.pp_macros.specs.declared.step.PlacedExit.TheVariants.{Error}
 use Rattle.pp_rs.proofs.source.Simulates.{Simulates}
 use Rattle.pp_rs.proofs.source.StandsAfterLemmas.{block_here, none_here, innermost_here}
 use Rattle.pp_rs.proofs.source.ItemThereLemmas.{none_left}
@@ -31,7 +32,7 @@ module _ {old : Source} {r : SourceReader} (s : StandsForReader old r) (e : sigh
   ended_here : (block : Option Block) → innermost (blocks_at r.items r.position) ≡ block → act r ≡ end_by block r
   ended_here block found = a ∙ ap (λ blocks. end_by (innermost blocks) r) end_blocks ∙ ap (λ b. end_by b r) found
 
-  module _ (move : Step Token) (new : Source) where
+  module _ (move : PlacedStep Token) (new : Source) where
     -- the end is the reader's step, or the fault of the innermost block that is still open
     pub end_simulates : (last : Option OpenBlock) → last_block old.blocks ≡ last → Ends last old move new → Simulates move r new
     end_simulates None found h =
@@ -39,4 +40,4 @@ module _ {old : Source} {r : SourceReader} (s : StandsForReader old r) (e : sigh
     end_simulates (Some kept) found h =
         let i = block_here old r s kept found in
         fails_here s move new (ended_here (Some i.block) (innermost_here old r s kept found))
-        (h.0 ∙ ap (λ place. Err (Error (UnfinishedBlock, place))) (sym i.stands.word))
+        (h.0 ∙ ap (λ place. Err (Error (UnfinishedBlock, in_source place))) (sym i.stands.word))

@@ -2,13 +2,13 @@
 use Rattle.pp_lexer.specs.Lexed.{Seen}
 use Rattle.std.proofs.Common.{◌≡◌, ◌∙◌, ℕ, Bool, true, false, if◌then◌else◌, ◌||◌, List, ◌∷◌, ◌++◌, take, refl, ap, sym, subst}
 use Rattle.pp_lexer.specs.declared.token.Token.{Token}
+use Rattle.pp_model.specs.Places.{Fault}
 use Rattle.pp_model.specs.Acts.{pause_at, advanced_by, perform, act}
-use Rattle.pp_model.specs.Calls.{Fault}
 use Rattle.pp_model.specs.Moves.{failing, passing, error_length}
 use Rattle.pp_model.specs.Sights.{sight_of, is_directive}
 use Rattle.pp_model.specs.SourceReader.{SourceReader, has_directive}
 use Rattle.pp_model.specs.declared.sight.Sight.TheVariants as sight
-use Rattle.pp_macros.specs.Item.{Step}
+use Rattle.pp_macros.specs.Item.{PlacedStep}
 use Rattle.pp_macros.specs.inner.OpenBlocks.{last_block, is_live_in, unchanged}
 use Rattle.pp_macros.specs.inner.Source.{Source, IsAfter, Makes}
 use Rattle.pp_macros.specs.inner.SourceMoves.{unnoted}
@@ -30,7 +30,7 @@ error_adds fault rest b lined after =
     ap (λ items. has_directive (take 2 items ++ after)) b.front ∙ ap (λ shown. is_directive shown || has_directive (b.name ∷ after)) (b.seen after)
     ∙ item_adds_none b.name after (there.0 b.goes_on)
 
-module _ {old : Source} {r : SourceReader} (s : StandsForReader old r) (move : Step Token) (new : Source)
+module _ {old : Source} {r : SourceReader} (s : StandsForReader old r) (move : PlacedStep Token) (new : Source)
     (dead : is_live_in (last_block old.blocks) ≡ false) (fault : Fault) (e : sight_of old.rest ≡ sight.Fault fault) where
   passes_by : ErrorInFront fault old.rest → act r ≡ pause_at (advanced_by (error_length old.rest) r)
       → Makes unnoted unchanged (passing (error_length old.rest)) old move new → Simulates move r new

@@ -6,9 +6,9 @@ use Rattle.pp_lexer.specs.Items.{Lexeme}
 use Rattle.pp_lexer.specs.declared.lexer.item.Token.{Token as LexerToken}
 use Rattle.pp_lexer.specs.declared.lexer.item.TokenValue.{TokenValue as LexerTokenValue}
 use Rattle.pp_lexer.specs.declared.lexer.item.TokenValue.TheVariants.{Hash, NewLine}
+use Rattle.pp_model.specs.Places.{Fault}
 use Rattle.pp_model.specs.Names.{Name}
 use Rattle.pp_model.specs.Conversions.{is_newline, identifier_of, refused_token}
-use Rattle.pp_model.specs.Calls.{Fault}
 use Rattle.pp_model.specs.Lines.{first_token}
 use Rattle.pp_model.specs.Sights.{sight_of, token_sight, named_directive}
 use Rattle.pp_model.specs.inner.Sights.{item_sight, directive_sight}

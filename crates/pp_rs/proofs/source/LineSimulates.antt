@@ -5,6 +5,7 @@ use Rattle.pp_lexer.specs.declared.rules.Rules.{Rules}
 use Rattle.pp_lexer.specs.declared.token.Location.{Location}
 use Rattle.pp_lexer.specs.declared.token.Token.{Token}
 use Rattle.pp_lexer.specs.declared.token.TokenValue.{TokenValue}
+use Rattle.pp_model.specs.declared.read.Taken.{Taken}
 use Rattle.pp_model.specs.Names.{Name}
 use Rattle.pp_model.specs.Definitions.{Definition, Definitions, with_change}
 use Rattle.pp_model.specs.Emitting.{answers_at, expansion_limit}
@@ -25,10 +26,9 @@ use Rattle.pp_model.specs.declared.outcome.Outcome.TheVariants as outcome
 use Rattle.pp_model.specs.declared.sight.Sight.TheVariants as sight
 use Rattle.pp_model.specs.declared.step.Step.{Step as Did}
 use Rattle.pp_model.specs.declared.step.Step.TheVariants as step
-use Rattle.pp_model.specs.declared.outcome.Outcome.{Outcome}
 use Rattle.pp_model.proofs.MovesLemmas.{skips, Passes, plain, unread, parting, skipping, closing, Decides as HasCondition, opening, choosing, directive_holds}
 use Rattle.pp_model.proofs.ReadsLemmas.{act_does}
-use Rattle.pp_macros.specs.Item.{Step}
+use Rattle.pp_macros.specs.Item.{PlacedStep}
 use Rattle.pp_macros.specs.inner.Defined.{meaning_of}
 use Rattle.pp_macros.specs.inner.OpenBlocks.{last_block, outer_blocks, with_last, kept_facts, facts_among, is_live_in, block_parted, block_branched, block_change}
 use Rattle.pp_macros.specs.declared.blocks.OpenBlock.{OpenBlock}
@@ -51,10 +51,10 @@ defined_now : {old : Source} {r : SourceReader} (s : StandsForReader old r) (nam
     → meaning_of old.definitions name ≡ found → r.definitions name ≡ found
 defined_now s name known = ap (λ (m : Definitions). m name) s.definitions ∙ known
 
-module _ {old : Source} {r : SourceReader} (s : StandsForReader old r) (move : Step Token) (new : Source)
+module _ {old : Source} {r : SourceReader} (s : StandsForReader old r) (move : PlacedStep Token) (new : Source)
     {directive : Directive} {word : Location} (e : sight_of old.rest ≡ sight.Directive directive word) where
   -- a step of the reader over the line
-  steps_by : (did : Did) (o : Option Outcome) (t : SourceReader) → act r ≡ record { step = did; after = after_line r }
+  steps_by : (did : Did) (o : Option Taken) (t : SourceReader) → act r ≡ record { step = did; after = after_line r }
       → Does (answers_at expansion_limit) r did (after_line r) o t → Steps (answers_at expansion_limit) r o t
   steps_by did o t a does = act_does (answers_at expansion_limit) did (after_line r) r o t a does
 
@@ -140,7 +140,7 @@ module _ {old : Source} {r : SourceReader} (s : StandsForReader old r) (move : S
       rw pauses.0 (record {
         after = after_line_number r word n;
         steps = steps_by (step.LineNumber word tokens) None (after_line_number r word n) there (Ok n, rw (s.definitions, s.rules, s.line_offset) number, (refl, refl));
-        stands = line_stays (stands_with old r s old.definitions r.definitions (offset old.rules) (offset r.rules) s.definitions (ap offset s.rules)) e its pauses.1 pauses.2;
+        stands = line_stays (stands_with old r s old.definitions r.definitions old.contents r.contents (offset old.rules) (offset r.rules) s.definitions s.contents (ap offset s.rules)) e its pauses.1 pauses.2;
       })
   number_simulates its tokens a (faulty_number fault number failed left) =
       let there = line_here s (λ n. record { step = step.LineNumber word tokens; after = advanced_by n r }) a in

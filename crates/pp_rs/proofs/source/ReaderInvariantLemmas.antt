@@ -15,19 +15,18 @@ use Rattle.pp_model.specs.Reads.{Steps, Reads, here, later, source_reading}
 use Rattle.pp_model.specs.Run.{start_by}
 use Rattle.pp_model.specs.inner.Run.{after_addition as with_definition}
 use Rattle.pp_model.specs.RunStates.{IsReached}
-use Rattle.pp_model.specs.declared.outcome.Outcome.{Outcome}
 use Rattle.pp_model.specs.declared.read.Taken.{Taken}
 use Rattle.pp_model.proofs.RunLemmas.{each_state}
 use Rattle.pp_model.proofs.SearchLeadsLemmas.{call_leads}
 
 -- each step keeps it, and so does a definition that is added
 pub record IsKept (A : Answers) (P : SourceReader → Type 0) : Type 0 where
-  pub by_step : (o : Option Outcome) (r t : SourceReader) → Steps A r o t → P r → P t
+  pub by_step : (o : Option Taken) (r t : SourceReader) → Steps A r o t → P r → P t
   pub by_definition : (name : Name) (tokens : List Token) (r : SourceReader) → P r → P (with_definition name tokens r)
 
 module _ (A : Answers) (P : SourceReader → Type 0) (kept : IsKept A P) where
   reading_keeps : (x : Taken) (r t : SourceReader) → Reads A r x t → P r → P t
-  reading_keeps x r t (here o x1 r1 t1 s is) h = kept.by_step (Some o) r t s h
+  reading_keeps x r t (here x1 r1 t1 s) h = kept.by_step (Some x) r t s h
   reading_keeps x r t (later x1 r1 s t1 first more) h = reading_keeps x s t more (kept.by_step None r s first h)
 
   fetching_keeps : (o : Taken) (e f : Expander SourceReader) → Fetches (source_reading A) e o f → P e.reader → P f.reader

@@ -2,35 +2,36 @@
 use Rattle.std.proofs.Common.{◌≡◌, false, Option, Some, None}
 use Rattle.std.specs.Prelude.{Ok, Err}
 use Rattle.pp_lexer.specs.declared.token.Token.{Token}
-use Rattle.pp_model.specs.Calls.{Fault}
+use Rattle.pp_model.specs.Places.{PlacedFault}
 use Rattle.pp_model.specs.Emitting.{answers_at, expansion_limit}
 use Rattle.pp_model.specs.Reads.{Steps}
 use Rattle.pp_model.specs.SourceReader.{SourceReader}
-use Rattle.pp_model.specs.declared.outcome.Outcome.{Outcome}
-use Rattle.pp_model.specs.declared.outcome.Outcome.TheVariants as outcome
-use Rattle.pp_macros.specs.Item.{Step, wants_memory}
+use Rattle.pp_model.specs.Painting.{unpainted}
+use Rattle.pp_model.specs.declared.read.Taken.{Taken}
+use Rattle.pp_model.specs.declared.read.Taken.TheVariants as taken
+use Rattle.pp_macros.specs.Item.{PlacedStep, wants_memory}
 use Rattle.pp_macros.specs.inner.Source.{Source, StepsSource}
 use Rattle.pp_rs.specs.inner.Stands.{StandsForReader}
-use Rattle.pp_macros.specs.declared.step.StepExit.TheVariants.{Error, Continue, Finished}
+use Rattle.pp_macros.specs.declared.step.PlacedExit.TheVariants.{Error, Continue, Finished}
 
 -- a step that gives nothing, a token or the end, and the reader after it
-pub record Simulated (o : Option Outcome) (r : SourceReader) (new : Source) : Type 0 where
+pub record Simulated (o : Option Taken) (r : SourceReader) (new : Source) : Type 0 where
   pub after : SourceReader
   pub steps : Steps (answers_at expansion_limit) r o after
   pub stands : StandsForReader new after
 
 -- a step that gives a fault; of what stands after it nothing is said
-pub record SimulatedFault (fault : Fault) (r : SourceReader) : Type 0 where
+pub record SimulatedFault (fault : PlacedFault) (r : SourceReader) : Type 0 where
   pub after : SourceReader
-  pub steps : Steps (answers_at expansion_limit) r (Some (outcome.Fault fault)) after
+  pub steps : Steps (answers_at expansion_limit) r (Some (taken.Fault fault)) after
 
-abbrev pub Simulates : Step Token → SourceReader → Source → Type 0
-Simulates (Ok token) r new = Simulated (Some (outcome.Token token)) r new
+abbrev pub Simulates : PlacedStep Token → SourceReader → Source → Type 0
+Simulates (Ok token) r new = Simulated (Some (taken.Token (unpainted token))) r new
 Simulates (Err Continue) r new = Simulated None r new
-Simulates (Err Finished) r new = Simulated (Some outcome.End) r new
+Simulates (Err Finished) r new = Simulated (Some taken.End) r new
 Simulates (Err (Error fault)) r new = SimulatedFault fault r
 
 -- each step of a source, unless memory was refused
 abbrev pub SourceSimulates : Type 0
-SourceSimulates = (old new : Source) (r : SourceReader) (step : Step Token) → StandsForReader old r → StepsSource old step new
+SourceSimulates = (old new : Source) (r : SourceReader) (step : PlacedStep Token) → StandsForReader old r → StepsSource old step new
     → wants_memory step ≡ false → Simulates step r new

@@ -8,12 +8,12 @@ use Rattle.pp_model.specs.Moves.{move_at}
 use Rattle.pp_model.specs.Acts.{advanced_by}
 use Rattle.pp_model.specs.declared.sight.Sight.{Sight}
 use Rattle.pp_model.specs.declared.sight.Sight.TheVariants as sight
-use Rattle.pp_macros.specs.Item.{Step, wants_memory}
+use Rattle.pp_macros.specs.Item.{PlacedStep, wants_memory}
 use Rattle.pp_macros.specs.inner.OpenBlocks.{last_block, facts_among, is_live_in, block_change_at}
 use Rattle.pp_macros.specs.inner.SourceMoves.{note_at, note_of, move_of}
 use Rattle.pp_macros.specs.inner.Source.{Source, Makes, MakesMove, IsRefusedStep}
 use Rattle.pp_rs.specs.inner.Stands.{StandsForReader}
-use Rattle.pp_macros.specs.declared.step.StepExit.TheVariants.{Finished}
+use Rattle.pp_macros.specs.declared.step.PlacedExit.TheVariants.{Finished}
 use Rattle.pp_rs.proofs.source.BareSimulates.{lone_passes, no_word_passes}
 use Rattle.pp_rs.proofs.source.EndSimulates.{end_simulates}
 use Rattle.pp_rs.proofs.source.ErrorSimulates.{error_simulates}
@@ -22,7 +22,7 @@ use Rattle.pp_rs.proofs.source.Simulates.{Simulates, SourceSimulates}
 use Rattle.pp_rs.proofs.source.StandsQuietLemmas.{stands_one}
 use Rattle.pp_rs.proofs.source.StepHereLemmas.{act_here, gives_here, fails_here, pauses_here}
 
-module _ {old : Source} {r : SourceReader} (s : StandsForReader old r) (move : Step Token) (new : Source) where
+module _ {old : Source} {r : SourceReader} (s : StandsForReader old r) (move : PlacedStep Token) (new : Source) where
   -- what stands in front is the reader's step, in live and in dead text
   sight_simulates : (live : Bool) → is_live_in (last_block old.blocks) ≡ live → (shown : Sight) → sight_of old.rest ≡ shown
       → Makes (note_at live shown) (block_change_at shown) (move_at old.rules live (facts_among old.blocks) shown old.rest) old move new → Simulates move r new
@@ -46,7 +46,7 @@ module _ {old : Source} {r : SourceReader} (s : StandsForReader old r) (move : S
   sight_simulates false alive (sight.NoWord fault) e h = no_word_passes s move new alive fault e (act_here s alive e) h
   sight_simulates live alive (sight.Directive directive word) e h = directive_simulates s move new e live alive (act_here s alive e) h
 
-step_simulates : (old new : Source) (r : SourceReader) (move : Step Token) (spent : Bool) → StandsForReader old r → old.spent ≡ spent
+step_simulates : (old new : Source) (r : SourceReader) (move : PlacedStep Token) (spent : Bool) → StandsForReader old r → old.spent ≡ spent
     → wants_memory move ≡ false
     → MatchBool spent ((move ≡ Err Finished) × (new ≡ old)) (IsRefusedStep old move ⊎ MakesMove old move new) → Simulates move r new
 step_simulates old new r move true s is reported h = let e = s.unspent in cc

@@ -77,14 +77,17 @@ module _ (old : Source) (r : SourceReader) (s : StandsForReader old r) where
   pub remembered_here : IsRemembered old r.items r.truths r.position
   remembered_here = record { text = s.remembers_text; directive = s.remembers_directive; apart = s.directives; off_line = s.off_line }
 
-  -- with other definitions, and other numbers of lines
-  pub stands_with : (definitions : List Defined) (meaning : Definitions) (offset other : ℤ) → meaning ≡ meaning_of definitions → other ≡ offset
-      → StandsForReader (record old { definitions = definitions; line_offset = offset }) (record r { definitions = meaning; line_offset = other })
-  stands_with definitions meaning offset other means same = record {
+  -- with other definitions, another count of contents, and other numbers of lines
+  pub stands_with : (definitions : List Defined) (meaning : Definitions) (kept counted : ℕ) (offset other : ℤ) → meaning ≡ meaning_of definitions
+      → counted ≡ kept → other ≡ offset
+      → StandsForReader (record old { definitions = definitions; contents = kept; line_offset = offset })
+      (record r { definitions = meaning; contents = counted; line_offset = other })
+  stands_with definitions meaning kept counted offset other means counts same = record {
     rules = s.rules;
     rest = s.rest;
     within = s.within;
     definitions = means;
+    contents = counts;
     line_offset = same;
     lined = s.lined;
     ended = s.ended;
@@ -103,11 +106,11 @@ module _ (old : Source) (r : SourceReader) (s : StandsForReader old r) where
   -- some items further on
   pub stands_further : (n : ℕ) (definitions : Definitions) (truths : Truths) (more : List BlockLine) (new : Source) → n ≤ length old.rest
       → new.rules ≡ old.rules → new.rest ≡ drop n old.rest → new.spent ≡ false → new.dead_for_good ≡ old.dead_for_good → new.line_offset ≡ old.line_offset
-      → definitions ≡ meaning_of new.definitions → AddsLines r.position n old.rest more
+      → new.contents ≡ old.contents → definitions ≡ meaning_of new.definitions → AddsLines r.position n old.rest more
       → StandForBlocks r.items truths new.blocks (blocks_at r.items (r.position + n)) → AreBefore (r.position + n) truths
       → IsRemembered new r.items truths (r.position + n) → StandsForReader new (record r
       { position = r.position + n; definitions = definitions; truths = truths })
-  stands_further n definitions truths more new within ruled after unspent dead offset means adds blocks before remembered =
+  stands_further n definitions truths more new within ruled after unspent dead offset counted means adds blocks before remembered =
       let further : AreLinesBefore r.items (r.position + n) (block_lines 0 (take r.position r.items) ++ more) =
       lines_further r.items r.position n (block_lines 0 (take r.position r.items)) more s.lines
       (subst (λ (items : List Seen). AddsLines r.position n items more) s.rest adds) in
@@ -116,6 +119,7 @@ module _ (old : Source) (r : SourceReader) (s : StandsForReader old r) where
         rest = after ∙ ap (λ items. drop n items) s.rest ∙ drop-drop n r.position r.items;
         within = omega (arith, s.within, within, ap length s.rest, length-drop r.position r.items);
         definitions = means;
+        contents = s.contents ∙ sym counted;
         line_offset = s.line_offset ∙ sym offset;
         lined = s.lined;
         ended = s.ended;

@@ -11,7 +11,7 @@ use Rattle.pp_model.specs.declared.block.Part.{Part}
 use Rattle.pp_model.specs.declared.block.Part.TheVariants as part
 use Rattle.pp_model.specs.declared.directive.Directive.{Directive}
 use Rattle.pp_model.specs.declared.sight.Sight.TheVariants as sight
-use Rattle.pp_macros.specs.Item.{Step}
+use Rattle.pp_macros.specs.Item.{PlacedStep}
 use Rattle.pp_macros.specs.inner.OpenBlocks.{last_block, outer_blocks, is_live_in, block_opened, block_unread, block_parted, block_skipped, block_decided, AreBefore}
 use Rattle.pp_macros.specs.declared.blocks.OpenBlock.{OpenBlock}
 use Rattle.pp_macros.specs.inner.SourceMoves.{directive_line}
@@ -35,7 +35,7 @@ module _ {old : Source} {r : SourceReader} (s : StandsForReader old r)
       adds_one r.items (block_line r word p) (whole_line old.rest) _ s.lines
       (subst (λ (items : List Seen). AddsLines r.position (whole_line old.rest) items (block_line r word p ∷ [])) s.rest (line_adds s e (Some p) is))
 
-  module _ {move : Step Token} {new : Source} where
+  module _ {move : PlacedStep Token} {new : Source} where
     -- a skipped line that opens a block
     pub opened_unread : is_live_in (last_block old.blocks) ≡ false → part_of directive ≡ Some part.Opens
         → Pauses (whole_line old.rest) directive_line (old.blocks ++ block_unread word ∷ []) old move new → PausesAt move new (after_line r)

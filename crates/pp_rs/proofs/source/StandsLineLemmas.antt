@@ -15,7 +15,7 @@ use Rattle.pp_model.specs.declared.block.BlockLine.{BlockLine}
 use Rattle.pp_model.specs.declared.block.Part.{Part}
 use Rattle.pp_model.specs.declared.directive.Directive.{Directive}
 use Rattle.pp_model.specs.declared.sight.Sight.TheVariants as sight
-use Rattle.pp_macros.specs.Item.{Step}
+use Rattle.pp_macros.specs.Item.{PlacedStep}
 use Rattle.pp_macros.specs.inner.Defined.{meaning_of}
 use Rattle.pp_macros.specs.inner.OpenBlocks.{StandForBlocks, AreBefore}
 use Rattle.pp_macros.specs.declared.blocks.OpenBlock.{OpenBlock}
@@ -79,14 +79,14 @@ module _ {old : Source} {r : SourceReader} (s : StandsForReader old r)
     line_stays its b same = stands_line r.definitions its b (same_meaning s new same)
 
     -- a pause after a line of a block, where these conditions were read and these blocks are then open
-    pub block_pauses : {p : Part} {move : Step Token} (truths : Truths) (blocks : List OpenBlock) → part_of directive ≡ Some p
+    pub block_pauses : {p : Part} {move : PlacedStep Token} (truths : Truths) (blocks : List OpenBlock) → part_of directive ≡ Some p
         → has_live_text_before r.items truths r.position ≡ has_live_text_before r.items r.truths r.position
         → StandForBlocks r.items truths blocks (blocks_at r.items (r.position + whole_line old.rest)) → AreBefore (r.position + whole_line old.rest) truths
         → Pauses (whole_line old.rest) directive_line blocks old move new → PausesAt move new (record (after_line r) { truths = truths })
     block_pauses {p} truths blocks is text stand before h = (
       h.0,
       after_line_is s r.definitions truths (stands_further old r s (whole_line old.rest) r.definitions truths (block_line r word p ∷ []) new
-          (line_there old.rest directive word e) h.1.rules h.1.rest h.1.spent h.1.dead_for_good h.1.line_offset (same_meaning s new h.2) (line_adds (Some p) is)
+          (line_there old.rest directive word e) h.1.rules h.1.rest h.1.spent h.1.dead_for_good h.1.line_offset h.1.contents (same_meaning s new h.2) (line_adds (Some p) is)
           (subst (λ (kept : List OpenBlock). StandForBlocks r.items truths kept (blocks_at r.items (r.position + whole_line old.rest)))
           (sym h.1.blocks) stand) before
           (remembers_line truths blocks text h.1)),

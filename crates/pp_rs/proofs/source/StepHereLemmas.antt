@@ -3,7 +3,8 @@ use Rattle.std.proofs.Common.{◌≡◌, ◌∙◌, ℕ, ◌+◌, Bool, List, dr
 use Rattle.std.specs.Prelude.{Err, option_map}
 use Rattle.pp_lexer.specs.Lexed.{Seen}
 use Rattle.pp_lexer.specs.declared.token.Token.{Token}
-use Rattle.pp_model.specs.Calls.{Fault}
+use Rattle.pp_model.specs.Painting.{taken_of}
+use Rattle.pp_model.specs.Places.{Fault, placed}
 use Rattle.pp_model.specs.Lines.{line_length}
 use Rattle.pp_model.specs.Sights.{sight_of}
 use Rattle.pp_model.specs.Blocks.{Block, innermost, is_live}
@@ -18,12 +19,12 @@ use Rattle.pp_model.specs.declared.outcome.Outcome.{Outcome}
 use Rattle.pp_model.specs.declared.outcome.Outcome.TheVariants as outcome
 use Rattle.pp_model.specs.declared.sight.Sight.{Sight}
 use Rattle.pp_model.specs.declared.step.Step.TheVariants as step
-use Rattle.pp_macros.specs.Item.{Step}
+use Rattle.pp_macros.specs.Item.{PlacedStep}
 use Rattle.pp_macros.specs.inner.OpenBlocks.{last_block, kept_facts, facts_among, is_live_in}
 use Rattle.pp_macros.specs.declared.blocks.OpenBlock.{OpenBlock}
 use Rattle.pp_macros.specs.inner.Source.{Source}
 use Rattle.pp_rs.specs.inner.Stands.{StandsForReader}
-use Rattle.pp_macros.specs.declared.step.StepExit.TheVariants.{Error, Continue}
+use Rattle.pp_macros.specs.declared.step.PlacedExit.TheVariants.{Error, Continue}
 use Rattle.pp_rs.proofs.source.Simulates.{Simulates}
 use Rattle.pp_rs.proofs.source.StandsAfterLemmas.{live_now, block_here, none_here, innermost_here}
 
@@ -32,7 +33,7 @@ abbrev pub whole_line : List Seen → ℕ
 whole_line rest = 2 + line_length (drop 2 rest)
 
 -- a pause, after which the source stands for this reader
-abbrev pub PausesAt : Step Token → Source → SourceReader → Type 0
+abbrev pub PausesAt : PlacedStep Token → Source → SourceReader → Type 0
 PausesAt move new t = (move ≡ Err Continue) × StandsForReader new t
 
 module _ {old : Source} {r : SourceReader} (s : StandsForReader old r) where
@@ -56,16 +57,16 @@ module _ {old : Source} {r : SourceReader} (s : StandsForReader old r) where
       ∙ ap (λ rules. perform (move_at rules live (facts_among old.blocks) shown old.rest) r) s.rules
 
   -- the reader's step gives what is given there
-  pub gives_here : {o : Outcome} {t : SourceReader} → act r ≡ outcome_at o t → Steps (answers_at expansion_limit) r (Some o) t
-  gives_here {o} {t} a = act_does (answers_at expansion_limit) (step.Given o) t r (Some o) t a (refl, refl)
+  pub gives_here : {o : Outcome} {t : SourceReader} → act r ≡ outcome_at o t → Steps (answers_at expansion_limit) r (Some (taken_of o)) t
+  gives_here {o} {t} a = act_does (answers_at expansion_limit) (step.Given o) t r (Some (taken_of o)) t a (refl, refl)
 
   -- what takes the source's whole line takes the reader's
   pub line_here : (next : ℕ → Acted) → act r ≡ next (whole_line old.rest) → act r ≡ next (whole_line (items_left r))
   line_here next a = a ∙ ap (λ rest. next (whole_line rest)) s.rest
 
-  module _ (move : Step Token) (new : Source) where
+  module _ (move : PlacedStep Token) (new : Source) where
     -- where a fault is given, the step that gives it is the reader's
-    pub fails_here : {fault : Fault} {t : SourceReader} → act r ≡ outcome_at (outcome.Fault fault) t → move ≡ Err (Error fault) → Simulates move r new
+    pub fails_here : {fault : Fault} {t : SourceReader} → act r ≡ outcome_at (outcome.Fault fault) t → move ≡ Err (Error (placed fault)) → Simulates move r new
     fails_here {fault} {t} a m = rw m (record { after = t; steps = gives_here a })
 
     -- where nothing is given, a pause is the reader's step

@@ -2,30 +2,30 @@
 use Rattle.std.proofs.Common.{◌≡◌, Bool, false, refl}
 use Rattle.std.specs.Prelude.{Ok, Err}
 use Rattle.pp_lexer.specs.declared.token.Token.{Token}
-use Rattle.pp_macros.specs.Item.{Step, wants_memory}
+use Rattle.pp_macros.specs.Item.{PlacedStep, wants_memory}
 use Rattle.pp_macros.specs.inner.Reader.{of_source, Reads}
 use Rattle.pp_macros.specs.inner.Reading.{unpainted_step}
 use Rattle.pp_macros.specs.inner.Source.{Source, StepsSource, unreported_of}
 use Rattle.pp_macros.specs.inner.Unreported.{Unreported, StepReports}
-use Rattle.pp_macros.specs.declared.step.StepExit.TheVariants.{Finished}
+use Rattle.pp_macros.specs.declared.step.PlacedExit.TheVariants.{Finished}
 
-pub unpainted_reported : (given : Step Token) → wants_memory (unpainted_step given) ≡ false → wants_memory given ≡ false
+pub unpainted_reported : (given : PlacedStep Token) → wants_memory (unpainted_step given) ≡ false → wants_memory given ≡ false
 unpainted_reported (Ok token) h = refl
 unpainted_reported (Err exit) h = h
 
-pub unpainted_end : (given : Step Token) → unpainted_step given ≡ Err Finished → given ≡ Err Finished
+pub unpainted_end : (given : PlacedStep Token) → unpainted_step given ≡ Err Finished → given ≡ Err Finished
 unpainted_end (Err Finished) e = refl
 unpainted_end _ e = cc
 
-pub unpainted_tells : (passes : Bool) (given : Step Token) (old new : Unreported) → StepReports passes given old new
+pub unpainted_tells : (passes : Bool) (given : PlacedStep Token) (old new : Unreported) → StepReports passes given old new
     → StepReports passes (unpainted_step given) old new
 unpainted_tells passes (Ok token) old new h = h
 unpainted_tells passes (Err exit) old new h = h
 
 -- a step of a source, and the errors of the lexer that it reports
-abbrev pub StepsReporting : Source → Step Token → Source → Type 0
+abbrev pub StepsReporting : Source → PlacedStep Token → Source → Type 0
 StepsReporting old step new = StepsSource old step new × StepReports old.rules.passes_dead_errors step (unreported_of old) (unreported_of new)
 
 -- it is what the source gives as a reader
-pub reads_step : (old new : Source) (step : Step Token) → StepsReporting old step new → Reads (of_source old) (unpainted_step step) (of_source new)
+pub reads_step : (old new : Source) (step : PlacedStep Token) → StepsReporting old step new → Reads (of_source old) (unpainted_step step) (of_source new)
 reads_step old new step h = record { given = step; steps = h.0; reports = h.1; is = refl }

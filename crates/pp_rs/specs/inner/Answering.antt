@@ -1,6 +1,6 @@
 -- The replies to calls, one after another. No contract of a public call cites this.
 use Rattle.std.specs.Prelude.{◌≡◌, false, List}
-use Rattle.pp_model.specs.Calls.{Fault}
+use Rattle.pp_model.specs.Places.{Fault}
 use Rattle.pp_model.specs.Run.{Call, Runs, next, ends_run}
 use Rattle.pp_model.specs.RunChains.{AnswersIn}
 use Rattle.pp_model.specs.declared.call.Reply.{Reply}

@@ -3,14 +3,14 @@ use Rattle.std.specs.Prelude.{◌≡◌, true, false, Bool, List, [], Option, So
 use Rattle.pp_lexer.specs.declared.rules.Rules.{Rules}
 use Rattle.pp_model.specs.declared.read.Read.{Read}
 use Rattle.pp_macros.specs.inner.Frames.{Frame}
-use Rattle.pp_macros.specs.Item.{Step}
+use Rattle.pp_macros.specs.Item.{PlacedStep}
 use Rattle.pp_macros.specs.inner.Idle.{is_idle}
 use Rattle.pp_macros.specs.inner.Left.{IsSound}
 use Rattle.pp_macros.specs.inner.Expander.{Expander}
 use Rattle.pp_macros.specs.inner.Reader.{Reader, of_source, of_list}
 use Rattle.pp_macros.specs.inner.Source.{Source, unreported_of}
 use Rattle.pp_macros.specs.inner.Unreported.{IsReportedBut}
-use Rattle.pp_macros.specs.declared.step.StepExit.TheVariants.{Finished}
+use Rattle.pp_macros.specs.declared.step.PlacedExit.TheVariants.{Finished}
 use Rattle.pp_directives.specs.inner.PlainText.{IsInText}
 
 -- a source with no item left, and no open block
@@ -24,7 +24,7 @@ IsReady (of_source source) = source.spent ≡ false
 IsReady (of_list list) = ⊤
 
 -- if the end is held, nothing else is left
-abbrev pub EndIsLast : Option (Step Read) → List Frame → Reader → Type 0
+abbrev pub EndIsLast : Option (PlacedStep Read) → List Frame → Reader → Type 0
 EndIsLast (Some (Err Finished)) frames r = (frames ≡ []) × NothingIn r
 EndIsLast _ frames r = ⊤
 

@@ -1,5 +1,5 @@
 -- How far `give_tokens` has got.
-use Rattle.std.specs.Prelude.{◌≡◌, ◌<◌, ◌≤◌, Bool, true, false, ℕ, Option}
+use Rattle.std.specs.Prelude.{◌≡◌, ◌<◌, ◌≤◌, Bool, true, false, Option}
 use Rattle.pp_macros.specs.inner.Frames.{outermost_frame_call}
 use Rattle.pp_rs.specs.Giving.{AreGiven}
 use Rattle.pp_rs.specs.Kept.{Preprocessing, is_spent, most_items}

@@ -4,7 +4,6 @@ use Rattle.std.specs.Prelude.{MatchOption, position}
 use Rattle.std.specs.Str.{IsAscii}
 use Rattle.pp_lexer.specs.declared.lexer.plain.Form.TheVariants.{Hash}
 use Rattle.pp_lexer.specs.declared.lexer.plain_item.PlainItem.{PlainItem}
-use Rattle.pp_lexer.specs.declared.token.Token.{Token}
 use Rattle.pp_model.specs.Names.{Name, is_same_name}
 use Rattle.pp_model.specs.declared.outcome.Outcome.{Outcome}
 use Rattle.pp_directives.specs.WordTokens.{word_token}
@@ -17,7 +16,11 @@ use Rattle.pp_model.specs.ItemCall.{item_call}
 use Rattle.pp_lexer.specs.declared.token.Location.{Location}
 use Rattle.pp_rs.specs.Comes.{State, Comes}
 use Rattle.pp_rs.specs.Kept.{Preprocessing, Stands, IsAhead, is_spent, most_items, errors_left, error_place, call_place}
-use Rattle.pp_rs.specs.Kept.{rules_of}
+use Rattle.pp_model.specs.Places.{source_text}
+use Rattle.pp_model.specs.declared.read.Read.{Read}
+use Rattle.pp_rs.specs.Kept.{item_text, rules_of}
+use Rattle.pp_rs.specs.TokenRefs.{token_of}
+use Rattle.pp_rs.specs.declared.pp.token_ref.TokenRef.{TokenRef}
 use Rattle.pp_rs.specs.Preprocessing.{IsNextItem}
 use Rattle.pp_rs.specs.inner.Fit.{IsInLiveText}
 
@@ -27,6 +30,8 @@ pub record StandsBetween (new : Preprocessing) (state : State) : Type 0 where
   pub between : State
   pub stands : Stands new between
   pub comes : (outcome : Outcome) (after : State) → Comes between outcome after → Comes state outcome after
+  pub same : (outcome : Outcome) (after : State) (later : Comes between outcome after)
+      → (comes outcome after later).taken ≡ later.taken
   pub calls : (outcome : Outcome) (after : State) (later : Comes between outcome after)
       → item_call (comes outcome after later).emits ≡ item_call later.emits
 
@@ -51,6 +56,7 @@ ReadsText p = IsInLiveText p.expander p.source p.spent
 -- the next token is this word, which no macro gives, and the text goes on
 pub record IsWord (old : Preprocessing) (word : PlainItem) (new : Preprocessing) : Type 0 where
   pub next : IsNextItem old (Some (Ok (word_token word))) new
+  pub text : item_text new ≡ source_text
   pub call : call_place new ≡ None
   pub plain : IsPlain word
   pub reads : ReadsText new
@@ -61,7 +67,7 @@ pub record OpensNumbered (definitions : List Defined) (id : ℕ) (name : Locatio
   pub is : (known : Name) → position (is_same_name known) (names_in definitions) ≡ Some id
       → Some (opened.name, opened.definition) ≡ opened_by known (meaning_of definitions known)
   pub numbered : AreNumbered (names_in definitions) (numbered_by opened)
-  pub opens : new ≡ record old { frames = new_frame opened (bare_call name) [] ∷ old.frames }
+  pub opens : new ≡ record old { frames = new_frame opened (bare_call source_text name) [] ∷ old.frames }
 
 -- nothing was given; if a macro has opened, less is left
 pub record IsPassedText (old new : Preprocessing) : Type 0 where
@@ -74,7 +80,18 @@ IsNextWord old answer new = MatchOption answer (IsPassedText old new) (λ word. 
 
 -- an open macro gives a token next
 abbrev pub SomeAhead : Preprocessing → Type 0
-SomeAhead p = (token : Token) × IsAhead p token
+SomeAhead p = (read : Read) × IsAhead p read
+
+-- it does, and the token is of this text
+abbrev pub SomeAheadOf : ℕ → Preprocessing → Type 0
+SomeAheadOf text p = (read : Read) × IsAhead p read × (text ≡ read.text)
+
+-- it gives the token that the reference refers to, of the text that it says
+pub record IsAheadAs (p : Preprocessing) (reference : TokenRef) : Type 0 where
+  pub read : Read
+  pub ahead : IsAhead p read
+  pub token : token_of reference ≡ read.token
+  pub text : reference.origin.text ≡ read.text
 
 -- one call of `next_text` or `next_given`
 abbrev pub IsNextGiven : Preprocessing → Option Item → Preprocessing → Type 0

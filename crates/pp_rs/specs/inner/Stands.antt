@@ -9,13 +9,13 @@ use Rattle.pp_model.specs.Blocks.{block_lines, blocks_at}
 use Rattle.pp_model.specs.SourceReader.{SourceReader, has_directive, is_on_directive_line, has_live_text_before}
 use Rattle.pp_macros.specs.inner.Defined.{meaning_of}
 use Rattle.pp_macros.specs.inner.Frames.{flat}
-use Rattle.pp_macros.specs.Item.{Step}
+use Rattle.pp_macros.specs.Item.{PlacedStep}
 use Rattle.pp_directives.specs.inner.Lined.{AreLined, AreEnded}
 use Rattle.pp_macros.specs.inner.Expander as kept
 use Rattle.pp_macros.specs.inner.Expander.{outcome_of_step}
 use Rattle.pp_macros.specs.inner.OpenBlocks.{last_block, is_live_in, StandForBlocks, AreBefore}
 use Rattle.pp_macros.specs.inner.Source.{Source}
-use Rattle.pp_macros.specs.declared.step.StepExit.TheVariants.{Error, Continue}
+use Rattle.pp_macros.specs.declared.step.PlacedExit.TheVariants.{Error, Continue}
 
 -- The source and the reader of the definitions. Both go by the same rules. What is left to read is what follows the
 -- reader's position; the lines of blocks are those before it and those after it; the kept blocks stand for those that
@@ -27,6 +27,7 @@ pub record StandsForReader (source : Source) (reader : SourceReader) : Type 0 wh
   pub rest : source.rest ≡ drop reader.position reader.items
   pub within : reader.position ≤ length reader.items
   pub definitions : reader.definitions ≡ meaning_of source.definitions
+  pub contents : reader.contents ≡ source.contents
   pub line_offset : reader.line_offset ≡ source.line_offset
   pub lined : AreLined reader.items
   pub ended : AreEnded reader.items
@@ -46,7 +47,7 @@ pub record StandsForReader (source : Source) (reader : SourceReader) : Type 0 wh
       → is_on_directive_line reader.items reader.position ≡ false
 
 -- What is held comes next. If a fault is held, this says nothing of the reader. A pause is never held.
-abbrev pub StandsForHeld : Option (Step Read) → Source → SourceReader → Type 0
+abbrev pub StandsForHeld : Option (PlacedStep Read) → Source → SourceReader → Type 0
 StandsForHeld (Some (Err (Error fault))) source reader = ⊤
 StandsForHeld (Some (Err Continue)) source reader = ⊥
 StandsForHeld _ source reader = StandsForReader source reader

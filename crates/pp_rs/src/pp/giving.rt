@@ -52,7 +52,7 @@ impl<'a> Preprocessor<'a> {
                     if !token.is_ordinary() {
                         return Ok(Some(Ok(token)));
                     }
-                    let given = sink.take(TokenRef::of_token(&token, self.call_place()));
+                    let given = sink.take(TokenRef::of_token(&token, self.origin()));
                     drop(token);
                     given?;
                 }
@@ -94,11 +94,15 @@ impl<'a> Preprocessor<'a> {
         ensures refused { OnErr result (IsRefused S.takes self.old sink.old) }
         ensures rules { rules_of self.new ≡ rules_of self.old }
     {
+        if self.is_idle() {
+            return Ok(());
+        }
         'tokens: while self.advance()? {
             let token = self.front();
+            let text = token.origin.text;
             self.pay()?;
             sink.take(token)?;
-            self.pass();
+            self.pass(text);
         }
         Ok(())
     }

@@ -14,12 +14,14 @@ ghost use Rattle.pp_rs.specs.inner.GivingOn.{IsFrontCall};
 ghost use Rattle.pp_rs.specs.TokenRefs.{token_of};
 ghost use Rattle.pp_macros.specs.Item.{is_out_of_memory};
 ghost use Rattle.pp_rs.specs.Kept.{Stands, IsAhead, is_spent, most_items, errors_left, error_place, call_place};
-ghost use Rattle.pp_rs.specs.Kept.{rules_of};
+ghost use Rattle.pp_model.specs.Places.{source_text, unplaced};
+ghost use Rattle.pp_model.specs.declared.read.Read.{Read};
+ghost use Rattle.pp_rs.specs.Kept.{item_text, origin_of, rules_of};
 ghost use Rattle.pp_macros.specs.LexerErrors.{lexer_errors, lexer_errors_by};
 ghost use Rattle.pp_directives.specs.WordTokens.{word_token};
 ghost use Rattle.pp_directives.specs.inner.PlainText.{IsBare};
 ghost use Rattle.pp_rs.specs.inner.NextWord.{IsNextGiven, IsNextStep, IsNextWord, IsPassed, IsPlain, OpensNumbered};
-ghost use Rattle.pp_rs.specs.inner.NextWord.{ReadsText, SomeAhead};
+ghost use Rattle.pp_rs.specs.inner.NextWord.{IsAheadAs, ReadsText, SomeAhead, SomeAheadOf};
 ghost use Rattle.pp_rs.specs.Preprocessing.{IsNextItem};
 
 use crate::lexer::PlainItem;
@@ -33,8 +35,9 @@ use pp_macros::budget::Budget;
 use pp_macros::halt::Halt;
 use pp_macros::macro_processor::MacroProcessor;
 use pp_macros::names::{Definitions, NameId};
-use pp_macros::step::{StepExit, is_out_of_memory};
-use pp_model::splice::CallPlace;
+use pp_macros::step::{PlacedExit, is_out_of_memory};
+use pp_model::place::{PlacedFault, SOURCE_TEXT, unplaced};
+use pp_model::splice::{CallPlace, Origin};
 use std::alloc::{AllocError, Global};
 use std::marker::Model;
 
@@ -52,6 +55,8 @@ pub struct Preprocessor<'a> {
     source: DirectiveProcessor<'a>,
     spent: bool,
     place: Location,
+    // The text of the last item.
+    text: u32,
     // Where the outermost macro was called that was open before the last turn. If a step is held, that turn gave a
     // name.
     name_call: Option<CallPlace>,
@@ -71,6 +76,7 @@ impl<'a> Model for Preprocessor<'a> {
       source = p.source;
       spent = p.spent;
       place = p.place;
+      text = p.text;
       name_call = p.name_call;
       rules = p.rules;
     } };
@@ -82,32 +88,35 @@ impl<'a> Model for Preprocessor<'a> {
 }
 
 // The error. `OutOfMemory` always gets the same place.
-fn place_refusal(error: (PreprocessorError, Location)) -> (PreprocessorError, Location)
-    ensures { result ≡ if is_out_of_memory error.0 then out_of_memory else error }
+fn place_refusal(error: PlacedFault) -> (PreprocessorError, Location)
+    ensures { result ≡ if is_out_of_memory error.0 then out_of_memory else unplaced error }
 {
     if is_out_of_memory(&error.0) {
         drop(error);
         return out_of_memory();
     }
-    error
+    unplaced(error)
 }
 
-// The item of an error, whose place is noted, and whether memory ran out. It is a function of its own, so that tokens
-// are moved without it.
+// The item of an error, whose place and text are noted, and whether memory ran out. It is a function of its own,
+// so that tokens are moved without it.
 #[inline(never)]
 fn refused_item(
-    error: (PreprocessorError, Location),
+    error: PlacedFault,
     source: &mut DirectiveProcessor<'_>,
     spent: &mut bool,
     place: &mut Location,
+    text: &mut u32,
 ) -> PreprocessorItem
-    ensures item { result ≡ Err (if is_out_of_memory error.0 then out_of_memory else error) }
+    ensures item { result ≡ Err (if is_out_of_memory error.0 then out_of_memory else unplaced error) }
     ensures spent { spent.new ≡ is_out_of_memory error.0 }
     ensures place { place.new ≡ unwrap_or source.old.error_place
-        (if is_out_of_memory error.0 then out_of_memory else error).1 }
+        (if is_out_of_memory error.0 then out_of_memory else unplaced error).1 }
+    ensures text { text.new ≡ error.1.text }
     ensures source { source.new ≡ record source.old { error_place = None } }
 {
     *spent = is_out_of_memory(&error.0);
+    *text = error.1.text;
     let error = place_refusal(error);
     *place = source.take_error_place().unwrap_or(error.1);
     Err(error)
@@ -133,7 +142,7 @@ fn open_numbered(
         unreachable!();
     };
     let opened = found.clone()?;
-    expander.open_bare(opened, Location { start, end, line })
+    expander.open_bare(opened, SOURCE_TEXT, Location { start, end, line })
 }
 
 impl<'a> Preprocessor<'a> {
@@ -147,6 +156,7 @@ impl<'a> Preprocessor<'a> {
         ensures errors { errors_left result ≡ lexer_errors input.now }
         ensures place { error_place result ≡ nowhere }
         ensures call { call_place result ≡ None }
+        ensures text { item_text result ≡ source_text }
         ensures rules { rules_of result ≡ pp_rs }
     {
         Preprocessor::with_rules(alloc, input, Rules::PP_RS)
@@ -161,6 +171,7 @@ impl<'a> Preprocessor<'a> {
         ensures errors { errors_left result ≡ lexer_errors_by rules input.now }
         ensures place { error_place result ≡ nowhere }
         ensures call { call_place result ≡ None }
+        ensures text { item_text result ≡ source_text }
         ensures rules { rules_of result ≡ rules }
     {
         Preprocessor {
@@ -170,6 +181,7 @@ impl<'a> Preprocessor<'a> {
             source: DirectiveProcessor::new(alloc, input, rules),
             spent: false,
             place: NOWHERE,
+            text: SOURCE_TEXT,
             name_call: None,
             in_text: false,
         }
@@ -190,6 +202,12 @@ impl<'a> Preprocessor<'a> {
         }
         self.in_text = true;
         true
+    }
+
+    // Whether no macro is open, and nothing is held.
+    #[inline(always)]
+    pub(crate) fn is_idle(&self) -> bool {
+        self.expander.is_idle()
     }
 
     // Whether memory ran out for an item.
@@ -221,7 +239,10 @@ impl<'a> Preprocessor<'a> {
     {
         'words: loop {
             match self.source.next_word() {
-                Some((word, None)) => return Ok(Some(word)),
+                Some((word, None)) => {
+                    self.text = SOURCE_TEXT;
+                    return Ok(Some(word));
+                }
                 Some((word, Some(id))) => {
                     let definitions = self.source.definitions();
                     let Location { start, end, line } = word.location;
@@ -301,7 +322,10 @@ impl<'a> Preprocessor<'a> {
     {
         self.in_text = false;
         match self.expander.give_next(&self.source) {
-            Ok(Some(token)) => Some(Ok(token)),
+            Ok(Some(read)) => {
+                self.text = read.text;
+                Some(Ok(read.token))
+            }
             Ok(None) => None,
             Err(_) => {
                 self.spent = true;
@@ -320,15 +344,19 @@ impl<'a> Preprocessor<'a> {
         self.in_text = false;
         self.name_call = self.expander.outermost_call();
         match turn_source(self.alloc, &mut self.expander, &mut self.source) {
-            Ok(token) => Some(Some(Ok(token))),
-            Err(StepExit::Error(error)) => Some(Some(refused_item(
+            Ok(read) => {
+                self.text = read.text;
+                Some(Some(Ok(read.token)))
+            }
+            Err(PlacedExit::Error(error)) => Some(Some(refused_item(
                 error,
                 &mut self.source,
                 &mut self.spent,
                 &mut self.place,
+                &mut self.text,
             ))),
-            Err(StepExit::Finished) => Some(None),
-            Err(StepExit::Continue) => None,
+            Err(PlacedExit::Finished) => Some(None),
+            Err(PlacedExit::Continue) => None,
         }
     }
 
@@ -383,14 +411,12 @@ impl<'a> Preprocessor<'a> {
     // It passes ends of macros and names of macros without parameters, which open.
     #[inline(always)]
     pub(crate) fn advance(&mut self) -> Result<bool, AllocError>
+        requires { is_spent self.old ≡ false }
         ensures passed { OnOk result (IsPassed self.old self.new) }
         ensures ahead { IfOk result (λ found. found ≡ true → SomeAhead self.new) }
         ensures some_left { OnErr result (0 < most_items self.old) }
         ensures rules { rules_of self.new ≡ rules_of self.old }
     {
-        if self.spent || self.expander.is_idle() {
-            return Ok(false);
-        }
         self.in_text = false;
         match self.expander.advance(&self.source) {
             Ok(Some(_)) => {}
@@ -410,24 +436,30 @@ impl<'a> Preprocessor<'a> {
     #[inline(always)]
     pub(crate) fn front(&self) -> TokenRef<'_>
         requires { SomeAhead self.now }
-        ensures ahead { IsAhead self.now (token_of result) }
-        ensures call { IsFrontCall result.call self.now }
+        ensures ahead { IsAheadAs self.now result }
+        ensures call { IsFrontCall result.origin.call self.now }
         ensures some_left { 0 < most_items self.now }
     {
-        match self.expander.token() {
-            Some(token) => TokenRef::of_token(token, self.expander.outermost_call()),
+        match self.expander.ahead() {
+            Some(ahead) => {
+                let call = self.expander.outermost_call();
+                let text = ahead.text;
+                TokenRef::of_token(ahead.token, Origin { text, call })
+            }
             None => unreachable!(),
         }
     }
 
-    // Passes the token that `advance` found, as `next` does.
+    // Passes the token that `advance` found, which is of this text, as `next` does.
     #[inline(always)]
-    pub(crate) fn pass(&mut self)
-        requires { SomeAhead self.old }
-        ensures gives { (token : Token) → IsAhead self.old token → IsNextItem self.old (Some (Ok token)) self.new }
+    pub(crate) fn pass(&mut self, text: u32)
+        requires { SomeAheadOf text self.old }
+        ensures gives { (read : Read) → IsAhead self.old read → IsNextItem self.old (Some (Ok read.token)) self.new }
+        ensures text { item_text self.new ≡ text }
         ensures call { IsFrontCall (call_place self.new) self.old }
     {
         self.in_text = false;
+        self.text = text;
         self.expander.pass_token();
     }
 
@@ -497,6 +529,23 @@ impl<'a> Preprocessor<'a> {
             return self.name_call;
         }
         self.expander.outermost_call()
+    }
+
+    /// Returns where the last item of `next` comes from: the number of the text that its place is in, and the place of
+    /// the call that [`call_place`](Preprocessor::call_place) returns.
+    ///
+    /// Text 0 is the source, and each content that `add_define` took has the next number. A token that a macro gives is
+    /// in the text of its body, or of the argument that it comes from. An error in a macro is in the text of its place,
+    /// also if the macro is in an argument or on the line of a directive. Before the first item the text is the source.
+    /// The end and `add_define` leave it as it is. After an `OutOfMemory` it is not specified.
+    #[inline(always)]
+    pub fn origin(&self) -> Origin
+        ensures { result ≡ origin_of self.now }
+    {
+        Origin {
+            text: self.text,
+            call: self.call_place(),
+        }
     }
 
     /// Returns the line of [`call_place`](Preprocessor::call_place), numbered as in a token's place: the line of the

@@ -9,13 +9,13 @@ ghost use Rattle.pp_macros.specs.inner.Reader.{of_source};
 use pp_directives::directives::DirectiveProcessor;
 use pp_macros::calls::Taken;
 use pp_macros::macro_processor::MacroProcessor;
-use pp_macros::step::Step;
+use pp_macros::step::PlacedStep;
 
 /// One step of the expander, with the source as what follows the frames.
 pub fn step_source(
     expander: &mut MacroProcessor,
     source: &mut DirectiveProcessor<'_>,
-) -> Step<Taken>
+) -> PlacedStep<Taken>
     requires alone { expander.old.below ≡ [] }
     requires known { AreKnown (names_in source.old.definitions) expander.old }
     ensures turns { TurnsOrRefuses expander.old.here (of_source source.old) result expander.new.here

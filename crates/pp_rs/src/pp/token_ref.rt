@@ -3,6 +3,7 @@
 ghost use Rattle.std.specs.Prelude.{◌≡◌, ◌++◌, IsTrue, OnOk, OnErr, None, string_bytes};
 ghost use Rattle.std.specs.Str.{chars};
 ghost use Rattle.pp_lexer.specs.Spelling.{spelling};
+ghost use Rattle.pp_model.specs.Places.{source_text};
 ghost use Rattle.pp_directives.specs.WordTokens.{word_token, word_value};
 ghost use Rattle.pp_lexer.specs.TokenValue.{is_ordinary};
 ghost use Rattle.pp_rs.specs.inner.NextWord.{IsPlain};
@@ -11,7 +12,8 @@ ghost use Rattle.pp_rs.specs.TokenRefs.{TakesText, token_of, value_of};
 use crate::lexer::{Form, PlainItem, without_suffix};
 use crate::pp::spelling::{push_float, push_integer, push_punct};
 use crate::token::{Integer, Location, Punct, Token, TokenValue};
-use pp_model::splice::CallPlace;
+use pp_model::place::SOURCE_TEXT;
+use pp_model::splice::Origin;
 use std::alloc::AllocError;
 
 /// The value of an ordinary token, before memory is taken for it.
@@ -34,9 +36,8 @@ pub struct TokenRef<'a> {
     pub value: ValueRef<'a>,
     /// Its place.
     pub location: Location,
-    /// Where the macro was called that gave it, as [`Preprocessor::call_place`](crate::pp::Preprocessor::call_place)
-    /// tells it.
-    pub call: Option<CallPlace>,
+    /// Where it comes from, as [`Preprocessor::origin`](crate::pp::Preprocessor::origin) tells it.
+    pub origin: Origin,
 }
 
 /// What takes the tokens of [`Preprocessor::give_tokens`](crate::pp::Preprocessor::give_tokens).
@@ -68,26 +69,29 @@ impl<'a> TokenRef<'a> {
     pub(crate) fn of_word(word: &PlainItem<'a>) -> TokenRef<'a>
         requires { IsPlain word.now }
         ensures token { token_of result ≡ word_token word.now }
-        ensures call { result.call ≡ None }
+        ensures origin { result.origin ≡ record { text = source_text; call = None } }
     {
         TokenRef {
             value: ValueRef::of_word(word),
             location: word.location,
-            call: None,
+            origin: Origin {
+                text: SOURCE_TEXT,
+                call: None,
+            },
         }
     }
 
-    // A token, and the call that gave it.
+    // A token, and where it comes from.
     #[inline(always)]
-    pub(crate) fn of_token(token: &'a Token, call: Option<CallPlace>) -> TokenRef<'a>
+    pub(crate) fn of_token(token: &'a Token, origin: Origin) -> TokenRef<'a>
         requires { IsTrue (is_ordinary token.now.value) }
         ensures token { token_of result ≡ token.now }
-        ensures call { result.call ≡ call }
+        ensures origin { result.origin ≡ origin }
     {
         TokenRef {
             value: ValueRef::of_value(&token.value),
             location: token.location,
-            call,
+            origin,
         }
     }
 }

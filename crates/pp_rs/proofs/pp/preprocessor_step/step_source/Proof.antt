@@ -39,9 +39,9 @@ use Rattle.pp_rs.proofs.pp.preprocessor_step.step_source.Code as code
 use Rattle.pp_directives.specs.contracts.directives.DirectiveProcessor.{the_row as source_row}
 use Rattle.pp_macros.specs.contracts.macro_processor.MacroProcessor.{the_row as P}
 use Rattle.pp_macros.specs.contracts.calls.Taken.{the_row as token_row}
-use Rattle.pp_macros.specs.contracts.step.StepExit.{the_row as exit_row}
+use Rattle.pp_macros.specs.contracts.step.PlacedExit.{the_row as exit_row}
 use Rattle.pp_macros.proofs.calls.Taken.TheLaws.{the_row_laws as token_laws}
-use Rattle.pp_macros.proofs.step.StepExit.TheLaws.{the_row_laws as exit_laws}
+use Rattle.pp_macros.proofs.step.PlacedExit.TheLaws.{the_row_laws as exit_laws}
 use Rattle.std.specs.contracts.result.Result.{the_row as result_row}
 use Rattle.std.proofs.result.Result.TheLaws.{the_row_laws as result_laws}
 use Rattle.pp_macros.specs.contracts.macro_processor.MacroProcessor.step as g

@@ -18,9 +18,10 @@ returns-in_err-token-clause-turns c =
 
 pub returns-then-gives_itself-clause-turns : goal.returns-then-gives_itself-clause-turns
 returns-then-gives_itself-clause-turns c =
+    rw c.unpainted.ensures (
     let idle = is_idle-idle _ (sym c.is_idle.ensures ∙ c.if-is_idle.true) in
     idle_token expansion_limit c.args.source.now c.step.new.self c.args.expander.now.here c.in_ok-token.token idle
-    ((c.in_ok-token.ensures {u = tt}).reads, (c.in_ok-token.ensures {u = tt}).errors) (rw c.definitions.ensures at (sym c.gives_itself.ensures ∙ c.if-gives_itself.true))
+    ((c.in_ok-token.ensures {u = tt}).reads, (c.in_ok-token.ensures {u = tt}).errors) (rw c.definitions.ensures at (sym c.gives_itself.ensures ∙ c.if-gives_itself.true)))
 
 pub returns-in_err-hold_word-clause-turns : goal.returns-in_err-hold_word-clause-turns
 returns-in_err-hold_word-clause-turns c =

@@ -1,17 +1,17 @@
-use Rattle.std.proofs.Common.{◌≡◌, ◌∙◌, sym, refl, true, false, ℕ, List, Option, Some, None}
+use Rattle.std.proofs.Common.{◌≡◌, ◌∙◌, sym, refl, true, false, List, Option, Some, None}
 use Rattle.std.specs.Prelude.{is_some}
 use Rattle.pp_model.specs.declared.read.Read.{Read}
 use Rattle.pp_model.specs.declared.splice.CallPlace.{CallPlace}
-use Rattle.pp_macros.specs.Item.{Step}
+use Rattle.pp_macros.specs.Item.{PlacedStep}
 use Rattle.pp_macros.specs.inner.Frames.{Frame, outermost_frame_call}
 use Rattle.pp_rs.specs.Kept.{kept_call, call_place}
 use Rattle.pp_rs.proofs.pp.preprocessor.Preprocessor.call_place.Goals as goal
 
-held_call : (o : Option (Step Read)) (call : Option CallPlace) (frames : List Frame) → is_some o ≡ true → call ≡ kept_call o call frames
+held_call : (o : Option (PlacedStep Read)) (call : Option CallPlace) (frames : List Frame) → is_some o ≡ true → call ≡ kept_call o call frames
 held_call (Some step) call frames held = refl
 held_call None call frames held = cc
 
-open_call : (o : Option (Step Read)) (call : Option CallPlace) (frames : List Frame) → is_some o ≡ false → outermost_frame_call frames ≡ kept_call o call frames
+open_call : (o : Option (PlacedStep Read)) (call : Option CallPlace) (frames : List Frame) → is_some o ≡ false → outermost_frame_call frames ≡ kept_call o call frames
 open_call (Some step) call frames held = cc
 open_call None call frames held = refl
 

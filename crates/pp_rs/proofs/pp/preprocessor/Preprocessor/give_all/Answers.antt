@@ -19,7 +19,7 @@ items-preserved-in-Continue-branch-3 g c =
       unspent = token_unspent _ _ c.in-Some-Some-Ok.token words.spent next;
       rules = next.rules ∙ c.give_words.ensures.rules ∙ c.give_front.ensures.rules ∙ c.items.invariant.rules;
       giving = giving_takes _ _ _ _ _ giving words.spent c.of_token.result _ _
-          (rw c.of_token.ensures.token next) (rw c.of_token.ensures.call c.call_place.ensures) (c.in_ok-given-in-Some-Some-Ok.ensures {u = tt});
+          (rw c.of_token.ensures.token next) (c.of_token.ensures.origin ∙ c.origin.ensures) (c.in_ok-given-in-Some-Some-Ok.ensures {u = tt});
     }
 
 -- a pause

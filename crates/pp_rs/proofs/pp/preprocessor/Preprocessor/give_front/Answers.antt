@@ -1,6 +1,6 @@
 use Rattle.std.proofs.Common.{◌∙◌, refl, arith, sym}
 use Rattle.pp_rs.specs.TokenRefs.{token_of}
-use Rattle.pp_rs.proofs.runs.GivingLemmas.{giving_passes, giving_refused, giving_takes, on_err, token_unspent}
+use Rattle.pp_rs.proofs.runs.GivingLemmas.{giving_passes, giving_refused, giving_takes, on_err, origin_is, token_unspent}
 use Rattle.pp_rs.proofs.pp.preprocessor.Preprocessor.give_front.Goals as goal
 
 pub tokens-init : goal.tokens-init
@@ -12,7 +12,8 @@ tokens-preserved g c =
     let before = c.tokens.invariant in
     let passed = (c.in_ok-advance.ensures {u = tt}).passed in
     let token = c.front-token.result in
-    let next = c.pass.ensures.gives (token_of token) c.front-token.ensures.ahead in
+    let ahead = c.front-token.ensures.ahead in
+    let next = rw (← ahead.token) at (c.pass.ensures.gives ahead.read ahead.ahead) in
     let fresh = passed.spent ∙ before.unspent in
     record {
       unspent = token_unspent _ _ (token_of token) fresh next;
@@ -20,7 +21,7 @@ tokens-preserved g c =
       rules = next.rules ∙ passed.rules ∙ before.rules;
       giving = λ start first p.
           giving_takes _ start _ first _ (giving_passes _ start _ first _ (before.giving start first p) _ passed) fresh token _ _ next
-          (c.front-token.ensures.call ∙ sym c.pass.ensures.call) (c.in_ok-take.ensures {u = tt});
+          (sym (origin_is token.origin _ c.pass.ensures.text (c.pass.ensures.call ∙ sym c.front-token.ensures.call))) (c.in_ok-take.ensures {u = tt});
     }
 
 -- no more tokens
@@ -49,3 +50,8 @@ returns-in_err-pay-clause-refused g c = on_err c.from_residual-in_err-pay.result
     let passed = (c.in_ok-advance.ensures {u = tt}).passed in
     giving_refused _ start _ first _ (giving_passes _ start _ first _ (before.giving start first p) _ passed) (passed.spent ∙ before.unspent)
     c.front-token.ensures.some_left)
+
+pub pass-requires : goal.pass-requires
+pass-requires g c =
+    let ahead = c.front-token.ensures.ahead in
+    (ahead.read, ahead.ahead, ahead.text)

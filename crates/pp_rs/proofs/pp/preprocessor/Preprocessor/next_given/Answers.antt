@@ -1,7 +1,7 @@
-use Rattle.std.proofs.Common.{◌≡◌, ◌∙◌, ℕ, List, Option, Some, None, refl, ap, false}
+use Rattle.std.proofs.Common.{◌≡◌, ◌∙◌, List, Option, Some, None, refl, ap, false}
 use Rattle.pp_model.specs.declared.read.Read.{Read}
 use Rattle.pp_model.specs.declared.splice.CallPlace.{CallPlace}
-use Rattle.pp_macros.specs.Item.{Step}
+use Rattle.pp_macros.specs.Item.{PlacedStep}
 use Rattle.pp_macros.specs.inner.Expander.{Expander}
 use Rattle.pp_macros.specs.inner.Frames.{Frame, names_of, outermost_frame_call}
 use Rattle.pp_macros.proofs.open_frames.KnownLemmas.{alone_known}
@@ -11,7 +11,7 @@ use Rattle.pp_rs.proofs.runs.PausesLemmas.{reached_on, given_over}
 use Rattle.pp_rs.proofs.runs.PassedLemmas.{passed_pauses}
 use Rattle.pp_rs.proofs.pp.preprocessor.Preprocessor.next_given.Goals as goal
 
-free_kept : (o : Option (Step Read)) (call other : Option CallPlace) (frames : List Frame) → o ≡ None → kept_call o call frames ≡ kept_call o other frames
+free_kept : (o : Option (PlacedStep Read)) (call other : Option CallPlace) (frames : List Frame) → o ≡ None → kept_call o call frames ≡ kept_call o other frames
 free_kept None line other frames free = refl
 free_kept (Some step) line other frames free = cc
 
@@ -29,7 +29,7 @@ invariant_of-self c = (
       let first = reached_first _ _ _ _ (ap (λ p. p.expander) c.self.view_is) (ap (λ p. p.source) c.self.view_is) (c.self.invariant.0 e) in
       let given = rw c.in-Ok-Some.field-0-is at (c.in-Ok-Some.ensures {u = tt}).gives in
       let on = reached_on _ _ _ _ first _ given.pauses in
-      token_fits _ _ _ _ _ _ on.reached c.in-Ok-Some.token (given_over _ _ _ _ _ given.gives given.passes),
+      token_fits _ _ _ _ _ _ on.reached c.in-Ok-Some.read (given_over _ _ _ _ _ given.gives given.passes),
   c.give_next.ensures.below ∙ c.self.invariant.1,
   λ e. cc,
 )
@@ -52,8 +52,8 @@ returns-in-Ok-Some c =
     let first = reached_first _ _ _ _ (ap (λ p. p.expander) c.self.view_is) (ap (λ p. p.source) c.self.view_is) (c.self.invariant.0 now_fresh) in
     let given = rw c.in-Ok-Some.field-0-is at (c.in-Ok-Some.ensures {u = tt}).gives in
     let on = reached_on _ _ _ _ first _ given.pauses in
-    next_token _ _ _ _ _ _ on.reached c.args.self.now fresh refl refl (ap (λ p. p.rules) c.self.view_is) c.in-Ok-Some.token c.self.inside.spent
-    c.self.inside.place c.self.inside.name_call now_fresh (ap (λ p. p.place) c.self.view_is)
+    next_token _ _ _ _ _ _ on.reached c.args.self.now fresh refl refl (ap (λ p. p.rules) c.self.view_is) c.in-Ok-Some.read c.self.inside.spent
+    c.self.inside.place c.in-Ok-Some.read.text c.self.inside.name_call now_fresh (ap (λ p. p.place) c.self.view_is) refl
     (free_kept c.give_next.new.self.here.held c.self.inside.name_call (outermost_frame_call given.between.frames)
     c.give_next.new.self.here.frames (ap (λ (m : Expander). m.held) given.passes ∙ given.gives.free))
     (given_over _ _ _ _ _ given.gives given.passes) given.gives.holds
@@ -65,7 +65,7 @@ returns-in-Ok-None c =
     let now_fresh : c.self.inside.spent ≡ false = ap (λ p. p.spent) c.self.view_is ∙ fresh in
     let first = reached_first _ _ _ _ (ap (λ p. p.expander) c.self.view_is) (ap (λ p. p.source) c.self.view_is) (c.self.invariant.0 now_fresh) in
     let r = (reached_on _ _ _ _ first _ (rw c.in-Ok-None.field-0-is at (c.in-Ok-None.ensures {u = tt}).gives)).reached in
-    passed_pauses c.args.self.now _ _ _ _ _ _ r fresh now_fresh (ap (λ p. p.place) c.self.view_is) (ap (λ p. p.rules) c.self.view_is)
+    passed_pauses c.args.self.now _ _ _ _ _ _ _ r fresh now_fresh (ap (λ p. p.place) c.self.view_is) (ap (λ p. p.rules) c.self.view_is)
 
 pub returns-in-Err : goal.returns-in-Err
 unfolding is_spent

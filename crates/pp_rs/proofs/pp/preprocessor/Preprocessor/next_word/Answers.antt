@@ -1,11 +1,13 @@
-use Rattle.std.proofs.Common.{◌≡◌, ◌∙◌, ℕ, true, Option, Some, None, refl, ap, sym, subst}
+use Rattle.std.proofs.Common.{◌≡◌, ◌∙◌, true, Option, Some, None, refl, ap, sym, subst}
 use Rattle.std.specs.Prelude.{is_some}
+use Rattle.pp_model.specs.Places.{source_text}
 use Rattle.pp_model.specs.declared.splice.CallPlace.{CallPlace}
 use Rattle.pp_macros.specs.inner.Idle.{is_idle}
 use Rattle.pp_directives.specs.WordTokens.{word_token}
+use Rattle.pp_model.specs.Painting.{unpainted}
 use Rattle.pp_directives.specs.inner.PlainText.{IsInText}
 use Rattle.pp_rs.specs.Kept.{Preprocessing, is_spent, rules_of}
-use Rattle.pp_rs.proofs.runs.CallPlaceLemmas.{call_outside}
+use Rattle.pp_rs.proofs.runs.CallPlaceLemmas.{call_outside, text_kept}
 use Rattle.pp_rs.proofs.runs.NextLemmas.{reached_first, reached_more, falls_more, less_more, some_items, token_fits, next_token}
 use Rattle.pp_rs.proofs.runs.OpenWordLemmas.{bare_over, bare_would}
 use Rattle.pp_rs.proofs.runs.PassedLemmas.{newline_over, word_over, passed_pauses, idle_call}
@@ -57,7 +59,7 @@ pub invariant_of-self : goal.invariant_of-self
 invariant_of-self c = (
   λ e.
       let takes = rw c.in-Some-default-None.field-0-1-is at c.in-Some-default-None.ensures.gives in
-      token_fits _ _ _ _ _ _ c.words.invariant.reached (word_token c.in-Some-default-None.word)
+      token_fits _ _ _ _ _ _ c.words.invariant.reached (unpainted (word_token c.in-Some-default-None.word))
       (word_over _ _ _ (word_token c.in-Some-default-None.word) c.words.invariant.idle takes.step takes.does),
   c.words.invariant.alone,
   λ _. record { idle = c.words.invariant.idle; text = c.next_word.ensures.stays; unspent = c.words.invariant.unspent },
@@ -67,10 +69,11 @@ pub returns-in-Some-default-None-clause-gives : goal.returns-in-Some-default-Non
 returns-in-Some-default-None-clause-gives c =
     let takes = rw c.in-Some-default-None.field-0-1-is at c.in-Some-default-None.ensures.gives in
     record {
-      next = next_token _ _ _ _ _ _ c.words.invariant.reached c.args.self.now c.requires.unspent refl refl c.words.invariant.ruled (word_token c.in-Some-default-None.word)
-          c.words.self-inside.spent c.words.self-inside.place c.words.self-inside.name_call c.words.invariant.unspent c.words.invariant.placed
+      next = next_token _ _ _ _ _ _ c.words.invariant.reached c.args.self.now c.requires.unspent refl refl c.words.invariant.ruled (unpainted (word_token c.in-Some-default-None.word))
+          c.words.self-inside.spent c.words.self-inside.place source_text c.words.self-inside.name_call c.words.invariant.unspent c.words.invariant.placed refl
           (idle_call c.words.self-inside.expander.here _ _ c.words.invariant.idle)
           (word_over _ _ _ (word_token c.in-Some-default-None.word) c.words.invariant.idle takes.step takes.does) takes.holds;
+      text = text_kept _;
       call = call_outside _ c.words.invariant.idle;
       plain = record { no_hash = takes.no_hash; ascii = takes.ascii };
       reads = record { idle = c.words.invariant.idle; text = c.next_word.ensures.stays; unspent = c.words.invariant.unspent };
@@ -99,9 +102,9 @@ returns-in-Ok-clause-gives c =
     let opens = rw c.definitions-definitions.ensures at c.in-Ok.ensures.opens in
     let turns = bare_over _ _ _ _ _ c.words.invariant.idle takes _ opens in
     record {
-      passed = passed_pauses c.args.self.now _ _ _ _ _ _ (reached_more _ _ _ _ _ _ c.words.invariant.reached turns) c.requires.unspent
+      passed = passed_pauses c.args.self.now _ _ _ _ _ _ _ (reached_more _ _ _ _ _ _ c.words.invariant.reached turns) c.requires.unspent
           c.words.invariant.unspent c.words.invariant.placed c.words.invariant.ruled;
-      less_left = λ _. less_more _ _ _ _ _ _ c.words.invariant.reached c.args.self.now c.requires.unspent refl refl c.words.invariant.ruled _ _ _ c.words.invariant.unspent turns;
+      less_left = λ _. less_more _ _ _ _ _ _ c.words.invariant.reached c.args.self.now c.requires.unspent refl refl c.words.invariant.ruled _ _ _ _ c.words.invariant.unspent turns;
     }
 
 -- no memory to open it
@@ -122,7 +125,7 @@ returns-in-Err-clause-some_left c =
 pub returns-then-not-pass_newline-clause-gives : goal.returns-then-not-pass_newline-clause-gives
 returns-then-not-pass_newline-clause-gives c =
     rw (c.if-not-pass_newline.ensures.pauses, c.in-None.ensures.gives) (record {
-      passed = passed_pauses c.args.self.now _ _ _ _ _ _ c.words.invariant.reached c.requires.unspent c.words.invariant.unspent c.words.invariant.placed
+      passed = passed_pauses c.args.self.now _ _ _ _ _ _ _ c.words.invariant.reached c.requires.unspent c.words.invariant.unspent c.words.invariant.placed
           c.words.invariant.ruled;
       less_left = λ some. none_open _ (call_outside _ c.words.invariant.idle) some;
     })

@@ -17,7 +17,7 @@ pub invariant_of-self : goal.invariant_of-self
 invariant_of-self c = (
   λ e.
       let first = reached_first _ _ _ _ (ap (λ p. p.expander) c.self.view_is) (ap (λ p. p.source) c.self.view_is) (c.self.invariant.0 e) in
-      token_fits _ _ _ _ _ _ first c.in-Ok.token c.in-Ok.ensures.turns,
+      token_fits _ _ _ _ _ _ first c.in-Ok.read c.in-Ok.ensures.turns,
   c.turn_source.ensures.below ∙ c.self.invariant.1,
   λ e. cc,
 )
@@ -58,8 +58,8 @@ returns-in-Ok c =
     let fresh : c.args.self.now.spent ≡ false = c.requires in
     let now_fresh = ap (λ p. p.spent) c.self.view_is ∙ fresh in
     let first = reached_first _ _ _ _ (ap (λ p. p.expander) c.self.view_is) (ap (λ p. p.source) c.self.view_is) (c.self.invariant.0 now_fresh) in
-    next_token _ _ _ _ _ _ first c.args.self.now fresh refl refl (ap (λ p. p.rules) c.self.view_is) c.in-Ok.token c.self.inside.spent c.self.inside.place
-    c.outermost_call-self-inside.result now_fresh (ap (λ p. p.place) c.self.view_is)
+    next_token _ _ _ _ _ _ first c.args.self.now fresh refl refl (ap (λ p. p.rules) c.self.view_is) c.in-Ok.read c.self.inside.spent c.self.inside.place c.in-Ok.read.text
+    c.outermost_call-self-inside.result now_fresh (ap (λ p. p.place) c.self.view_is) refl
     (ap (λ line. kept_call c.turn_source.new.expander.here.held line c.turn_source.new.expander.here.frames) c.outermost_call-self-inside.ensures)
     c.in-Ok.ensures.turns c.in-Ok.ensures.holds
 
@@ -72,8 +72,8 @@ returns-in-Err-Error c =
     let error = c.in-Err-Error.error in
     rw (c.refused_item.ensures.item, c.refused_item.ensures.spent)
     (next_error _ _ _ _ _ _ first c.args.self.now fresh refl refl (ap (λ p. p.rules) c.self.view_is) error c.refused_item.new.source c.refused_item.new.place
-    c.outermost_call-self-inside.result c.refused_item.ensures.source (is_out_of_memory error.0) refl
-    (rw c.in-Err-Error.field-0-is at c.in-Err-Error.ensures.turns) c.refused_item.ensures.place)
+    c.refused_item.new.text c.outermost_call-self-inside.result c.refused_item.ensures.source (is_out_of_memory error.0) refl
+    (rw c.in-Err-Error.field-0-is at c.in-Err-Error.ensures.turns) c.refused_item.ensures.place c.refused_item.ensures.text)
 
 pub returns-in-Err-Finished : goal.returns-in-Err-Finished
 unfolding is_spent
@@ -81,7 +81,7 @@ returns-in-Err-Finished c =
     let fresh : c.args.self.now.spent ≡ false = c.requires in
     let now_fresh = ap (λ p. p.spent) c.self.view_is ∙ fresh in
     let first = reached_first _ _ _ _ (ap (λ p. p.expander) c.self.view_is) (ap (λ p. p.source) c.self.view_is) (c.self.invariant.0 now_fresh) in
-    next_end _ _ _ _ _ _ first c.args.self.now fresh refl refl (ap (λ p. p.rules) c.self.view_is) c.self.inside.spent c.self.inside.place c.outermost_call-self-inside.result now_fresh
+    next_end _ _ _ _ _ _ first c.args.self.now fresh refl refl (ap (λ p. p.rules) c.self.view_is) c.self.inside.spent c.self.inside.place c.self.inside.text c.outermost_call-self-inside.result now_fresh
     (ap (λ p. p.place) c.self.view_is) (rw c.in-Err-Finished.field-0-is at c.in-Err-Finished.ensures.turns)
 
 pub returns-in-Err-Continue : goal.returns-in-Err-Continue
@@ -92,6 +92,6 @@ returns-in-Err-Continue c =
     let first = reached_first _ _ _ _ (ap (λ p. p.expander) c.self.view_is) (ap (λ p. p.source) c.self.view_is) (c.self.invariant.0 now_fresh) in
     let turns = rw c.in-Err-Continue.field-0-is at c.in-Err-Continue.ensures.turns in
     record {
-      passed = passed_pauses c.args.self.now _ _ _ _ _ _ (reached_more _ _ _ _ _ _ first turns) fresh now_fresh (ap (λ p. p.place) c.self.view_is) (ap (λ p. p.rules) c.self.view_is);
-      less_left = less_more _ _ _ _ _ _ first c.args.self.now fresh refl refl (ap (λ p. p.rules) c.self.view_is) _ _ _ now_fresh turns;
+      passed = passed_pauses c.args.self.now _ _ _ _ _ _ _ (reached_more _ _ _ _ _ _ first turns) fresh now_fresh (ap (λ p. p.place) c.self.view_is) (ap (λ p. p.rules) c.self.view_is);
+      less_left = less_more _ _ _ _ _ _ first c.args.self.now fresh refl refl (ap (λ p. p.rules) c.self.view_is) _ _ _ _ now_fresh turns;
     }

@@ -1,5 +1,5 @@
 use Rattle.std.proofs.Common.{refl}
-use Rattle.pp_rs.specs.Kept.{is_spent, error_place, call_place, rules_of}
+use Rattle.pp_rs.specs.Kept.{is_spent, error_place, call_place, item_text, rules_of}
 use Rattle.pp_rs.proofs.runs.StartLemmas.{start_stands, start_errors}
 use Rattle.pp_rs.proofs.pp.preprocessor.Preprocessor.with_rules.Goals as goal
 
@@ -24,3 +24,7 @@ returns-clause-call c = rw c.new.ensures refl
 pub returns-clause-rules : goal.returns-clause-rules
 unfolding rules_of
 returns-clause-rules c = refl
+
+pub returns-clause-text : goal.returns-clause-text
+unfolding item_text
+returns-clause-text c = refl
