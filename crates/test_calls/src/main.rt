@@ -14,7 +14,7 @@
 //! | `all`, `append` | `preprocess_all`, and `append_all` to an empty list |
 //! | `drain` | `drain` |
 //! | `errors` | `next` up to the first `None`, and `place` after each error: only errors are printed, with that place |
-//! | `calls` | `next` up to the first `None`, and after each item `call_line` and `call_place`, if it has them |
+//! | `calls` | `next` up to the first `None`, and after each item `origin`, `call_line` and `call_place` |
 //! | `spell`, `afresh` | `spell_tokens` and `are_read_afresh`, of the tokens that were given so far |
 //! | `copy` | `clone` of all items so far, of what they hold, of errors of their values, and of steps with the errors |
 //! | `replies`, `plain` | `replies` and the plain program, over the calls of `add_define` and `next` made so far |

@@ -1,7 +1,7 @@
 //! A preprocessor of a source, and what was done with it.
 
 use crate::shown::{
-    copy_error, copy_token, print_error, print_item, print_reply, refused, replies,
+    copy_error, copy_token, print_error, print_item, print_origin, print_reply, refused, replies,
 };
 use pp_reference::run::run_by;
 use pp_rs::SOURCE_LIMIT;
@@ -176,19 +176,17 @@ impl<'a> Session<'a> {
         Ok(())
     }
 
-    /// Asks for all items that are left, and shows each with the call from which it comes.
+    /// Asks for all items that are left, and shows each with its text and the call from which it comes.
     pub(crate) fn calls(&mut self, rt: &impl Print) -> io::Result<()> {
         for _ in 0..u64::MAX {
             let Some(given) = self.pp.next() else {
                 break;
             };
             print_item(rt, self.alloc, &given)?;
-            if let (Some(call), Some(line)) = (self.pp.call_place(), self.pp.call_line()) {
-                let name = call.name;
-                println!(rt;
-                    "  in a call on line {line}, its name at {}..{} L{}",
-                    name.start, name.end, name.line
-                )?;
+            let origin = self.pp.origin();
+            print_origin(rt, origin, self.pp.call_line())?;
+            if self.pp.call_place() != origin.call {
+                println!(rt; "  another call_place")?;
             }
         }
         Ok(())

@@ -6,7 +6,8 @@ ghost use Rattle.pp_lexer.specs.declared.lexer.item.TokenValue.TheVariants.{NewL
 use pp_rs::SOURCE_LIMIT;
 use pp_rs::lexer::{self, Lexer, LexerItem};
 use pp_rs::pp::{
-    PreprocessorItem, Reply, Step, StepExit, convert_lexer_token, convert_lexer_token_to_step,
+    Origin, PreprocessorItem, Reply, SOURCE_TEXT, Step, StepExit, convert_lexer_token,
+    convert_lexer_token_to_step,
 };
 use pp_rs::rules::Rules;
 use pp_rs::token::{Location, PreprocessorError, Token, TokenValue};
@@ -84,6 +85,29 @@ pub(crate) fn print_item(
 ) -> io::Result<()> {
     let shown = item(alloc, given)?;
     println!(rt; "{}", shown.as_str())
+}
+
+// Prints the number of a text, unless it is the source.
+fn print_text(rt: &impl Print, indent: &str, text: u32) -> io::Result<()> {
+    if text == SOURCE_TEXT {
+        return Ok(());
+    }
+    println!(rt; "{indent}in text {text}")
+}
+
+/// Prints where an item comes from: its text, and the call on this line with the text of its name. The source is not
+/// named.
+pub(crate) fn print_origin(rt: &impl Print, origin: Origin, line: Option<u32>) -> io::Result<()> {
+    print_text(rt, "  ", origin.text)?;
+    let (Some(call), Some(line)) = (origin.call, line) else {
+        return Ok(());
+    };
+    let name = call.name;
+    println!(rt;
+        "  in a call on line {line}, its name at {}..{} L{}",
+        name.start, name.end, name.line
+    )?;
+    print_text(rt, "    ", call.text)
 }
 
 // The item that a step gives, or the name of a step that gives none.
