@@ -10,7 +10,7 @@ use glslpp_parts::definitions::add_definitions;
 use glslpp_parts::diagnostic::{Diagnostic, Severity, Site};
 use glslpp_parts::explainer::Explainer;
 use glslpp_parts::extension_names::EXTENSION_NAMES;
-use glslpp_parts::extensions::{EXTENSION_CONTENT, define_extension, push_extensions};
+use glslpp_parts::extensions::{define_extension, push_extensions};
 use glslpp_parts::failure::Failure;
 use glslpp_parts::fault::{Fault, FaultFinder};
 use glslpp_parts::inspection::inspect;
@@ -20,7 +20,7 @@ use glslpp_parts::rule_set::Setting;
 use glslpp_parts::texts::Texts;
 use glslpp_parts::version::{Version, declared_version};
 use glslpp_parts::warning::Warnings;
-use pp_rs::pp::{CallPlace, Preprocessor};
+use pp_rs::pp::{Origin, Preprocessor, SOURCE_TEXT};
 use pp_rs::token::{Location, PreprocessorError, Token};
 use std::alloc::{AllocError, Global};
 
@@ -115,29 +115,20 @@ fn known_extensions(is_predefining: bool) -> &'static [&'static str] {
 }
 
 // Runs over a source with this setting.
-fn run_with(
+fn run_with<'x>(
     alloc: Global,
-    reporter: Reporter<'_>,
+    reporter: Reporter<'x>,
     arguments: &Arguments<'_>,
-    source: &str,
-    replaced: &[usize],
-    setting: Setting<'_>,
+    source: &'x str,
+    replaced: &'x [usize],
+    setting: Setting<'x>,
 ) -> Result<Ended, Failure>
     requires { length source.now < 2 ^ 32 - 1 }
 {
-    let mut texts = Texts::new(alloc, source);
     let mut items = setting.begin(alloc, source)?;
-    let ended = match add_contents(alloc, &mut items, &mut texts, setting.definitions) {
-        Ok(extension_content) => run_over_items(
-            alloc,
-            reporter,
-            arguments,
-            source,
-            replaced,
-            setting,
-            extension_content,
-            &mut items,
-            &texts,
+    let ended = match with_definitions(alloc, &mut items, source, setting.definitions) {
+        Ok(texts) => run_over_texts(
+            alloc, reporter, arguments, source, replaced, setting, &mut items, texts,
         ),
         Err(failure) => Err(failure),
     };
@@ -145,16 +136,34 @@ fn run_with(
     ended
 }
 
-// Adds the definitions before the source, and returns the content for the macros that its `#extension` lines define.
-fn add_contents(
+// Adds the definitions before the source, and returns the texts.
+fn with_definitions<'x>(
     alloc: Global,
     items: &mut Preprocessor<'_>,
-    texts: &mut Texts<'_>,
-    definitions: &[Definition<'_>],
-) -> Result<String, Failure> {
-    add_definitions(alloc, items, texts, definitions)?;
-    let content = texts.pad(alloc, EXTENSION_CONTENT)?;
-    Ok(content)
+    source: &'x str,
+    definitions: &[Definition<'x>],
+) -> Result<Texts<'x>, Failure> {
+    let mut texts = Texts::new(alloc, source);
+    add_definitions(alloc, items, &mut texts, definitions)?;
+    Ok(texts)
+}
+
+// Runs over the items of a source, which come from these texts.
+fn run_over_texts<'x>(
+    alloc: Global,
+    reporter: Reporter<'x>,
+    arguments: &Arguments<'_>,
+    source: &'x str,
+    replaced: &'x [usize],
+    setting: Setting<'x>,
+    items: &mut Preprocessor<'_>,
+    texts: Texts<'x>,
+) -> Result<Ended, Failure>
+    requires { length source.now < 2 ^ 32 - 1 }
+{
+    run_over_items(
+        alloc, reporter, arguments, source, replaced, setting, items, &texts,
+    )
 }
 
 // Runs over the items of a source.
@@ -165,7 +174,6 @@ fn run_over_items<'x>(
     source: &'x str,
     replaced: &'x [usize],
     setting: Setting<'x>,
-    extension_content: String,
     items: &mut Preprocessor<'_>,
     texts: &'x Texts<'x>,
 ) -> Result<Ended, Failure>
@@ -174,14 +182,7 @@ fn run_over_items<'x>(
     let findings = findings_backwards(alloc, source, arguments.warnings, setting)?;
     let explainer = Explainer::new(alloc, source, texts, replaced, setting);
     let mut run = Run::new(
-        alloc,
-        reporter,
-        arguments,
-        setting,
-        extension_content,
-        texts,
-        explainer,
-        findings,
+        alloc, reporter, arguments, setting, texts, explainer, findings,
     );
     run.read_to_end(items)?;
     let output = run.output.finish()?;
@@ -211,9 +212,8 @@ fn findings_backwards<'a>(
 struct Run<'a> {
     alloc: Global,
     texts: &'a Texts<'a>,
-    // The extensions whose macros `#extension` lines define, and the content of these macros.
+    // The extensions whose macros `#extension` lines define.
     extensions: &'a [&'a str],
-    extension_content: String,
     explainer: Explainer<'a>,
     reporter: Reporter<'a>,
     is_first_error_alone: bool,
@@ -238,7 +238,6 @@ impl<'a> Run<'a> {
         reporter: Reporter<'a>,
         arguments: &Arguments<'_>,
         setting: Setting<'a>,
-        extension_content: String,
         texts: &'a Texts<'a>,
         explainer: Explainer<'a>,
         findings: Vec<Diagnostic<'a>>,
@@ -247,7 +246,6 @@ impl<'a> Run<'a> {
             alloc,
             texts,
             extensions: setting.extensions,
-            extension_content,
             explainer,
             reporter,
             is_first_error_alone: arguments.is_first_error_alone,
@@ -280,8 +278,7 @@ impl<'a> Run<'a> {
                 Ok(token) => {
                     let line = items.call_line().unwrap_or(token.location.line);
                     self.take_directive(&token, line)?;
-                    let content = self.extension_content.as_str();
-                    define_extension(items, &token.value, self.extensions, content)?;
+                    define_extension(items, &token.value, self.extensions)?;
                 }
                 Err((PreprocessorError::OutOfMemory, _)) if items.is_over_budget() => {
                     let fault = self.finder.over_budget(self.steps, items.reached())?;
@@ -290,8 +287,8 @@ impl<'a> Run<'a> {
                 }
                 Err((PreprocessorError::OutOfMemory, _)) => return Err(Failure::OutOfMemory),
                 Err((error, _)) => {
-                    let (place, call) = (items.place(), items.call_place());
-                    self.take_error(error, place, call)?;
+                    let (place, origin) = (items.place(), items.origin());
+                    self.take_error(error, place, origin)?;
                     if self.is_over() {
                         return Ok(());
                     }
@@ -325,7 +322,12 @@ impl<'a> Run<'a> {
 
     // Takes an error that the library let pass.
     fn push_fault(&mut self, fault: &Fault<'_>) -> Result<(), AllocError> {
-        self.push_error(fault.kind.name(), fault.location, &fault.diagnostic)
+        self.push_error(
+            fault.kind.name(),
+            SOURCE_TEXT,
+            fault.location,
+            &fault.diagnostic,
+        )
     }
 
     // Takes an error, unless it is on the line of the last one or only follows from another. If it comes from a macro,
@@ -334,13 +336,14 @@ impl<'a> Run<'a> {
         &mut self,
         error: PreprocessorError,
         location: Location,
-        call: Option<CallPlace>,
+        origin: Origin,
     ) -> Result<(), AllocError> {
         let read = self.output.read();
-        let used = self.explainer.use_of(&error, location, call, read)?;
+        let used = self.explainer.use_of(&error, location, origin, read)?;
         let line = match &used {
             Some(used) => Some(used.line),
-            None => line_in_source(self.texts, location),
+            None if origin.text == SOURCE_TEXT => Some(location.line),
+            None => None,
         };
         if let Some(line) = line {
             if self.output.is_left_out(line) {
@@ -348,16 +351,17 @@ impl<'a> Run<'a> {
             }
             self.output.leave_out(line);
         }
-        let Some(diagnostic) = self.explainer.explain(&error, location, used)? else {
+        let Some(diagnostic) = self.explainer.explain(&error, origin.text, location, used)? else {
             return Ok(());
         };
-        self.push_error(error.name(), location, &diagnostic)
+        self.push_error(error.name(), origin.text, location, &diagnostic)
     }
 
-    // Takes an error with this name, after what the warnings found before its line.
+    // Takes an error with this name at a place in this text, after what the warnings found before its line.
     fn push_error(
         &mut self,
         name: &str,
+        text: u32,
         location: Location,
         diagnostic: &Diagnostic<'_>,
     ) -> Result<(), AllocError> {
@@ -369,7 +373,7 @@ impl<'a> Run<'a> {
         }
         self.fault_start = diagnostic.site.start();
         let message = diagnostic.message.as_str();
-        self.output.push_error(name, location, message)?;
+        self.output.push_error(name, text, location, message)?;
         self.say(diagnostic)
     }
 
@@ -446,13 +450,5 @@ fn is_before(diagnostic: &Diagnostic<'_>, line: u32) -> bool {
     match diagnostic.site.line() {
         Some(other) => other < line,
         None => true,
-    }
-}
-
-// The line of a place, if it is in the source.
-fn line_in_source(texts: &Texts<'_>, location: Location) -> Option<u32> {
-    match texts.spot(location) {
-        Some(spot) if !spot.is_in_source => None,
-        _ => Some(location.line),
     }
 }

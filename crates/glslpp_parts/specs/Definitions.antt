@@ -14,7 +14,7 @@ use Rattle.glslpp_parts.specs.declared.failure.Failure.{Failure}
 use Rattle.glslpp_parts.specs.declared.failure.Failure.TheVariants.{Told, OutOfMemory}
 use Rattle.glslpp_parts.specs.Changes.{Definition}
 use Rattle.glslpp_parts.specs.Reading.{IsReadAs}
-use Rattle.glslpp_parts.specs.Texts.{Texts, padded, with_content}
+use Rattle.glslpp_parts.specs.Texts.{Texts, with_content}
 
 -- a text that the lexer reads as one name, which is the text itself; names are the same by all rules
 pub record IsName (text : List ℕ) : Type 0 where
@@ -43,11 +43,10 @@ abbrev pub IsTold : Failure → Type 0
 IsTold (Told text) = ⊤
 IsTold OutOfMemory = ⊥
 
--- A definition is added as `add_define` does it. Blanks are put before its content, so that places in it differ from
--- those in the source.
+-- a definition is added as `add_define` does it, and its content to the texts
 pub record IsWithDefinition (d : Definition) (texts : Texts) (old : Preprocessing)
     (texts' : Texts) (new : Preprocessing) : Type 0 where
-  pub added : IsAdded old d.0.now (padded texts d.1.now) (Ok tt) new
+  pub added : IsAdded old d.0.now d.1.now (Ok tt) new
   pub taken_in : texts' ≡ with_content texts d.1.now
 
 -- the definitions are added one after another

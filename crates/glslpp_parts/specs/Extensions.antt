@@ -39,15 +39,13 @@ pub record TurnsOn (value : TokenValue) (name : List ℕ) : Type 0 where
 abbrev pub is_known : List (Bor (List ℕ)) → List ℕ → Bool
 is_known known name = list_any (λ other. pointwise nat_eq other.now name) known
 
--- the macro of a known extension that the line turns on is defined with this content
-pub record IsDefined (known : List (Bor (List ℕ))) (value : TokenValue) (content : List ℕ) (old new : Preprocessing)
-    : Type 0 where
+-- the macro of a known extension that the line turns on is defined as 1
+pub record IsDefined (known : List (Bor (List ℕ))) (value : TokenValue) (old new : Preprocessing) : Type 0 where
   pub name : List ℕ
   pub on : TurnsOn value (chars name)
   pub known_name : IsTrue (is_known known name)
-  pub added : IsAdded old name content (Ok tt) new
+  pub added : IsAdded old name (codes "1") (Ok tt) new
 
 -- nothing is changed, or the macro of a known extension that the line turns on is defined
-abbrev pub IsWithExtension : List (Bor (List ℕ)) → TokenValue → List ℕ → Preprocessing → Preprocessing
-    → Type 0
-IsWithExtension known value content old new = (new ≡ old) ⊎ IsDefined known value content old new
+abbrev pub IsWithExtension : List (Bor (List ℕ)) → TokenValue → Preprocessing → Preprocessing → Type 0
+IsWithExtension known value old new = (new ≡ old) ⊎ IsDefined known value old new

@@ -15,6 +15,7 @@ use Rattle.glslpp_parts.specs.declared.layout.Gap.{Gap}
 use Rattle.glslpp_parts.specs.declared.layout.Gap.TheVariants.{Nothing}
 use Rattle.glslpp_parts.specs.Layout.{Laid, on_line, with_directive}
 use Rattle.glslpp_parts.specs.Reading.{IsTextOf, IsDirectiveText}
+use Rattle.glslpp_parts.specs.Texts.{source_text}
 
 -- the form of the output, the rules by which the source is read, the words on their lines, the end in the source of the
 -- last word, if its text is from there, the lines of JSON, and the line whose tokens are left out
@@ -34,21 +35,21 @@ is_closing (Punct RightParen) = true
 is_closing (Punct RightBracket) = true
 is_closing value = false
 
--- A word with this place is put on the line. The space before it is left out only if it begins in the source at the end
--- of the word before, or is a closing punctuator.
-pub record PutsText (old : Printed) (place : Location) (closes : Bool) (line : ℕ) (word : List ℕ) (new : Printed)
-    : Type 0 where
+-- A word with this place in the text with this number is put on the line. The space before it is left out only if it
+-- begins in the source at the end of the word before, or is a closing punctuator.
+pub record PutsText (old : Printed) (text : ℕ) (place : Location) (closes : Bool) (line : ℕ) (word : List ℕ)
+    (new : Printed) : Type 0 where
   pub gap : Gap
-  pub side_by_side : gap ≡ Nothing → (old.end ≡ Some place.start) ⊎ IsTrue closes
+  pub side_by_side : gap ≡ Nothing → (text ≡ source_text) × ((old.end ≡ Some place.start) ⊎ IsTrue closes)
   pub laid : new.laid ≡ on_line old.laid line gap word
-  pub end : (new.end ≡ None) ⊎ (new.end ≡ Some place.end)
+  pub end : (new.end ≡ None) ⊎ ((text ≡ source_text) × (new.end ≡ Some place.end))
   pub items : new.items ≡ old.items
 
--- a token's word is put on the line: a text that is read again as the token's value
-pub record PutsWord (old : Printed) (token : Token) (line : ℕ) (new : Printed) : Type 0 where
+-- the word of a token in this text is put on the line: a text that is read again as the token's value
+pub record PutsWord (old : Printed) (text : ℕ) (token : Token) (line : ℕ) (new : Printed) : Type 0 where
   pub word : List ℕ
   pub is_text : IsTextOf old.rules token.value word
-  pub puts : PutsText old token.location (is_closing token.value) line word new
+  pub puts : PutsText old text token.location (is_closing token.value) line word new
 
 -- a directive is put on a line by itself
 pub record PutsDirective (old : Printed) (token : Token) (line : ℕ) (new : Printed) : Type 0 where
@@ -73,21 +74,21 @@ pub record PutsItem (old new : Printed) : Type 0 where
   pub laid : new.laid ≡ old.laid
   pub items : IsItem old.items new.items
 
--- What an ordinary token (`true`) or a directive (`false`) adds, by the form of the output. A token of a macro goes on
--- the line of the call.
-abbrev pub Puts : Form → Bool → Printed → Token → Option ℕ → Printed → Type 0
-Puts Lines true old token call new = PutsWord old token (unwrap_or call token.location.line) new
-Puts Compact true old token call new = PutsWord old token old.laid.line new
-Puts Tokens true old token call new = PutsItem old new
-Puts Directives true old token call new = new ≡ old
-Puts Lines false old token call new = PutsDirective old token token.location.line new
-Puts Compact false old token call new = PutsDirective old token old.laid.line new
-Puts Tokens false old token call new = PutsItem old new
-Puts Directives false old token call new = PutsDirective old token old.laid.line new
+-- What an ordinary token (`true`) or a directive (`false`) of this text adds, by the form of the output. A token of a
+-- macro goes on the line of the call.
+abbrev pub Puts : Form → Bool → Printed → ℕ → Token → Option ℕ → Printed → Type 0
+Puts Lines true old text token call new = PutsWord old text token (unwrap_or call token.location.line) new
+Puts Compact true old text token call new = PutsWord old text token old.laid.line new
+Puts Tokens true old text token call new = PutsItem old new
+Puts Directives true old text token call new = new ≡ old
+Puts Lines false old text token call new = PutsDirective old token token.location.line new
+Puts Compact false old text token call new = PutsDirective old token old.laid.line new
+Puts Tokens false old text token call new = PutsItem old new
+Puts Directives false old text token call new = PutsDirective old token old.laid.line new
 
 -- the line of the call that gave the token, if one did
 abbrev pub call_line_of : TokenRef → Option ℕ
-call_line_of token = option_map (λ call. call.line) token.call
+call_line_of token = option_map (λ call. call.line) token.origin.call
 
 -- that line, or else its own
 abbrev pub line_of : TokenRef → ℕ
@@ -105,7 +106,7 @@ pub record Takes (old : Printed) (token : TokenRef) (new : Printed) : Type 0 whe
   pub puts :
       MatchBool (is_left_out old.left_out (line_of token))
       (new ≡ old)
-      (Puts old.form true old (token_of token) (call_line_of token) new)
+      (Puts old.form true old token.origin.text (token_of token) (call_line_of token) new)
 
 -- what an error with this name adds to the lines of JSON, by the form of the output
 abbrev pub PutsError : Form → List ℕ → List ℕ → List ℕ → Type 0

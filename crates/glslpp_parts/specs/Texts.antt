@@ -1,21 +1,25 @@
--- A source, and the contents of the definitions before it. The library gets the contents with blanks in front.
-use Rattle.std.specs.Prelude.{◌≡◌, ◌≢◌, ◌⊎◌, ℕ, ◌+◌, List, [], ◌∷◌, ◌++◌, length}
+-- A source, and the contents of the definitions before it.
+use Rattle.std.specs.Prelude.{◌≡◌, ◌≢◌, ◌⊎◌, ℕ, List, [], ◌∷◌, ◌++◌, codes}
 use Rattle.std.specs.Char.{encode_utf8}
-use Rattle.std.proofs.Math.ListN.{replicate}
+use Rattle.std.proofs.Math.ListN.{get_or}
 
--- the source, how many blanks are put before the first content, and the contents, each with a line end
+-- the source, and the contents in the order in which they are added
 pub record Texts : Type 0 where
   pub source : List ℕ
-  pub blanks : ℕ
-  pub contents : List ℕ
+  pub contents : List (List ℕ)
 
--- a content with the blanks in front, and one more blank for each byte of the contents before it
-abbrev pub padded : Texts → List ℕ → List ℕ
-padded texts content = replicate (texts.blanks + length texts.contents) 32 ++ content
+-- the number of the source
+abbrev pub source_text : ℕ
+source_text = 0
+
+-- the text with this number: the contents have the numbers from 1 on, and what is added later is 1, as the macros of
+-- extensions are
+abbrev pub text_of : Texts → ℕ → List ℕ
+text_of texts number = get_or (texts.source ∷ texts.contents) number (codes "1")
 
 -- with one more content
 abbrev pub with_content : Texts → List ℕ → Texts
-with_content texts content = record texts { contents = texts.contents ++ content ++ 10 ∷ [] }
+with_content texts content = record texts { contents = texts.contents ++ content ∷ [] }
 
 -- the mark U+FEFF
 abbrev pub mark : List ℕ

@@ -3,7 +3,7 @@
 ghost use Rattle.std.specs.Prelude.{◌-◌, ◌^◌, ◌<◌, length};
 
 use crate::definitions::add_definitions;
-use crate::extensions::{EXTENSION_CONTENT, define_extension};
+use crate::extensions::define_extension;
 use crate::failure::Failure;
 use crate::probe::{Asked, Probe};
 use crate::rule_set::Setting;
@@ -53,7 +53,7 @@ fn take_answers(
         };
         match item {
             Ok(token) => {
-                define_extension(items, &token.value, extensions, EXTENSION_CONTENT)?;
+                define_extension(items, &token.value, extensions)?;
                 if let Some(question) = probe.question(token.location.line) {
                     computed.push(question.location)?;
                 }

@@ -115,11 +115,11 @@ fn is_name(alloc: Global, text: &str) -> Result<bool, AllocError>
 }
 
 /// Adds the definitions to the preprocessor, and their contents to the texts.
-pub fn add_definitions(
+pub fn add_definitions<'a>(
     alloc: Global,
     items: &mut Preprocessor<'_>,
-    texts: &mut Texts<'_>,
-    definitions: &[Definition<'_>],
+    texts: &mut Texts<'a>,
+    definitions: &[Definition<'a>],
 ) -> Result<(), Failure>
     ensures { OnOk result (AreAdded definitions.now texts.old items.old texts.new items.new) }
 {
@@ -129,21 +129,23 @@ pub fn add_definitions(
     Ok(())
 }
 
-fn add_definition(
+fn add_definition<'a>(
     alloc: Global,
     items: &mut Preprocessor<'_>,
-    texts: &mut Texts<'_>,
-    definition: Definition<'_>,
+    texts: &mut Texts<'a>,
+    definition: Definition<'a>,
 ) -> Result<(), Failure>
     ensures { OnOk result (IsWithDefinition definition.entry texts.old items.old texts.new items.new) }
 {
     let (name, content) = definition;
-    let padded = texts.pad(alloc, content)?;
-    if padded.len() >= SOURCE_LIMIT {
+    if content.len() >= SOURCE_LIMIT {
         return Err(refusal(alloc, "-D", name, "the content is too long"));
     }
-    match items.add_define(name, padded.as_str()) {
-        Ok(()) => Ok(()),
+    match items.add_define(name, content) {
+        Ok(()) => {
+            texts.add(content)?;
+            Ok(())
+        }
         Err((PreprocessorError::OutOfMemory, _)) => Err(Failure::OutOfMemory),
         Err((error, _)) => Err(refused(alloc, name, &error)),
     }

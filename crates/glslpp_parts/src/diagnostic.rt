@@ -7,6 +7,7 @@ use crate::macro_use::MacroUse;
 use crate::outline::Define;
 use crate::place::Place;
 use crate::texts::Texts;
+use pp_rs::pp::SOURCE_TEXT;
 use pp_rs::token::Location;
 
 /// How grave a message is.
@@ -45,9 +46,9 @@ pub enum Site<'a> {
 }
 
 impl<'a> Site<'a> {
-    /// The site of an item's place. It is looked up on its line alone.
-    pub(crate) fn of(texts: &'a Texts<'_>, location: Location) -> Site<'a> {
-        let Some(spot) = texts.spot(location) else {
+    /// The site of an item's place in the text with this number. It is looked up on its line alone.
+    pub(crate) fn of(texts: &'a Texts<'_>, text: u32, location: Location) -> Site<'a> {
+        let Some(spot) = texts.spot(text, location) else {
             return Site::InFile;
         };
         match Place::find(spot) {
@@ -59,7 +60,10 @@ impl<'a> Site<'a> {
 
     /// The site of the name of a definition in the source.
     pub(crate) fn of_define(texts: &'a Texts<'_>, define: Define) -> Site<'a> {
-        match texts.spot(define.location).and_then(Place::find) {
+        match texts
+            .spot(SOURCE_TEXT, define.location)
+            .and_then(Place::find)
+        {
             Some(place) => Site::InSource(define.location.line, define.column, place),
             None => Site::InFile,
         }

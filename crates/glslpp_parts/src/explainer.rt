@@ -19,7 +19,7 @@ use crate::search::{count_arguments, last_name};
 use crate::texts::Texts;
 use pp_rs::SOURCE_LIMIT;
 use pp_rs::lexer::Token;
-use pp_rs::pp::CallPlace;
+use pp_rs::pp::{Origin, SOURCE_TEXT};
 use pp_rs::rules::Rules;
 use pp_rs::token::{Location, PreprocessorError, Punct};
 use std::alloc::{AllocError, Global};
@@ -65,30 +65,32 @@ impl<'a> Explainer<'a> {
     }
 
     /// Returns the use of the macro in whose content the error at this place is, or `None` if it is in none, or the use
-    /// isn't found. `call` is where the macro was called that gave the error, if one did, and `read` is the place of
-    /// the last token before it that no macro gave. It is called for each error, in order.
+    /// isn't found. `origin` says in which text the place is, and where the macro was called that gave the error, if
+    /// one did. `read` is the place of the last token before it that no macro gave. It is called for each error, in
+    /// order.
     pub fn use_of(
         &mut self,
         error: &PreprocessorError,
         location: Location,
-        call: Option<CallPlace>,
+        origin: Origin,
         read: Location,
     ) -> Result<Option<MacroUse<'a>>, AllocError> {
         let outline = match self.outline.take() {
             Some(outline) => outline,
             None => Outline::of(self.alloc, self.rules, self.source)?,
         };
-        let used = self.uses.find(&outline, error, location, call, read);
+        let used = self.uses.find(&outline, error, location, origin, read);
         self.outline = Some(outline);
         used
     }
 
-    /// Returns the message for an error: the library's sentence, and what the source adds to it. `used` is the use of
-    /// the macro from which the error comes. It returns `None` if the error only follows from another one: an `#elif`,
-    /// `#else` or `#endif` without `#if`, before which an `#if` with an error stands.
+    /// Returns the message for an error at this place in this text: the library's sentence, and what the source adds to
+    /// it. `used` is the use of the macro from which the error comes. It returns `None` if the error only follows from
+    /// another one: an `#elif`, `#else` or `#endif` without `#if`, before which an `#if` with an error stands.
     pub fn explain(
         &mut self,
         error: &PreprocessorError,
+        text: u32,
         location: Location,
         used: Option<MacroUse<'a>>,
     ) -> Result<Option<Diagnostic<'a>>, AllocError>
@@ -99,7 +101,7 @@ impl<'a> Explainer<'a> {
             return Ok(None);
         }
         let severity = Severity::Error;
-        let site = Site::of(self.texts, cause_of(error, location));
+        let site = Site::of(self.texts, text, cause_of(error, location));
         if let Some(cause) = self.cause(error, location, site, &used)? {
             return Ok(Some(Diagnostic {
                 severity,
@@ -111,7 +113,8 @@ impl<'a> Explainer<'a> {
             }));
         }
         let more = self.more(error, location, site)?;
-        let note = self.note_on_call(error, location, site)?;
+        let before = end_of_definitions(text, location, &used);
+        let note = self.note_on_call(error, before, site)?;
         let mut message = format!(in self.alloc; "{error}")?;
         message.push_str(more.as_str())?;
         Ok(Some(Diagnostic {
@@ -183,11 +186,11 @@ impl<'a> Explainer<'a> {
         let Some(location) = self.outline()?.unterminated() else {
             return Ok(None);
         };
-        let site = Site::of(self.texts, location);
+        let site = Site::of(self.texts, SOURCE_TEXT, location);
         let name = site.place().map_or("", |place| place.here);
         let message = format!(in self.alloc; "unterminated call of macro `{name}`")?;
         let mut cause = Cause::new(message, site);
-        cause.note = self.note_on_macro(name, location, DEFINED_HERE)?;
+        cause.note = self.note_on_macro(name, location.start, DEFINED_HERE)?;
         Ok(Some(cause))
     }
 
@@ -200,7 +203,7 @@ impl<'a> Explainer<'a> {
     ) -> Result<Option<Cause<'a>>, AllocError> {
         let message = format!(in self.alloc; "macro `{name}` redefined")?;
         let mut cause = Cause::new(message, site);
-        let note = self.note_on_macro(name, location, "the previous definition is here")?;
+        let note = self.note_on_macro(name, location.start, "the previous definition is here")?;
         cause.note = Some(note.unwrap_or(Note {
             message: "the previous definition is here",
             site: Site::OnCommandLine(None),
@@ -232,7 +235,7 @@ impl<'a> Explainer<'a> {
         let name = line.text_of(token);
         let message = format!(in self.alloc; "macro `{name}` gives no operand")?;
         let mut cause = Cause::new(message, line.site_of(token));
-        cause.note = self.note_on_macro(name, location, DEFINED_HERE)?;
+        cause.note = self.note_on_macro(name, location.start, DEFINED_HERE)?;
         Ok(Some(cause))
     }
 
@@ -287,10 +290,10 @@ impl<'a> Explainer<'a> {
             PreprocessorError::UnexpectedCharacter => {
                 push_character(&mut text, place.here, place.behind)?;
             }
-            PreprocessorError::TooFewDefineArguments | PreprocessorError::TooManyDefineArguments =>
-                {
-                    self.push_argument_counts(&mut text, location, place, error)?;
-                }
+            PreprocessorError::TooFewDefineArguments | PreprocessorError::TooManyDefineArguments
+                if site.line().is_some() => {
+                self.push_argument_counts(&mut text, location, place, error)?;
+            }
             _ => {}
         }
         Ok(text)
@@ -304,11 +307,11 @@ impl<'a> Explainer<'a> {
         }
     }
 
-    // What is said beside a call with too few or too many arguments: where its macro is defined.
+    // What is said beside a call with too few or too many arguments: where its macro is defined before this offset.
     fn note_on_call(
         &mut self,
         error: &PreprocessorError,
-        location: Location,
+        before: u32,
         site: Site<'_>,
     ) -> Result<Option<Note<'a>>, AllocError> {
         match (error, site.place()) {
@@ -316,20 +319,20 @@ impl<'a> Explainer<'a> {
                 PreprocessorError::TooFewDefineArguments
                 | PreprocessorError::TooManyDefineArguments,
                 Some(place),
-            ) => self.note_on_macro(last_name(place.before), location, DEFINED_HERE),
+            ) => self.note_on_macro(last_name(place.before), before, DEFINED_HERE),
             _ => Ok(None),
         }
     }
 
-    // Where the macro with this name is defined before a place of the source, with this message.
+    // Where the macro with this name is defined before a byte offset of the source, with this message.
     fn note_on_macro(
         &mut self,
         name: &str,
-        location: Location,
+        before: u32,
         message: &'static str,
     ) -> Result<Option<Note<'a>>, AllocError> {
         let texts = self.texts;
-        Ok(match self.outline()?.last_define(name, location.start) {
+        Ok(match self.outline()?.last_define(name, before) {
             Some(define) => Some(Note {
                 message,
                 site: Site::of_define(texts, define),
@@ -382,6 +385,18 @@ impl<'a> Explainer<'a> {
             Some(given) => Some((wanted, given)),
             None => None,
         })
+    }
+}
+
+// The byte offset in the source before which the definitions are that count for an error: that of the error or, if that
+// is in a definition of the command line, of the use from which it comes.
+fn end_of_definitions(text: u32, location: Location, used: &Option<MacroUse<'_>>) -> u32 {
+    if text == SOURCE_TEXT {
+        return location.start;
+    }
+    match used {
+        Some(used) => u32::try_from(used.site.start().unwrap_or(0)).unwrap_or(u32::MAX),
+        None => 0,
     }
 }
 

@@ -1,6 +1,6 @@
 //! The macros of extensions: those that the command line names, and those whose extensions the source turns on.
 
-ghost use Rattle.std.specs.Prelude.{◌≡◌, ◌++◌, All, Any, IsTrue, Ok, OnOk, IfErr, IfSome, map};
+ghost use Rattle.std.specs.Prelude.{◌≡◌, ◌++◌, All, Any, IsTrue, Ok, OnOk, IfErr, IfSome, codes, map};
 ghost use Rattle.std.specs.Str.{chars};
 ghost use Rattle.pp_lexer.specs.declared.token.Punct.{Punct};
 ghost use Rattle.pp_lexer.specs.declared.token.TokenValue.{TokenValue};
@@ -13,7 +13,6 @@ use crate::changes::Change;
 use crate::definitions::check_name;
 use crate::failure::Failure;
 use crate::reading::is_text;
-use pp_rs::SOURCE_LIMIT;
 use pp_rs::pp::Preprocessor;
 use pp_rs::token::{Punct, TokenValue};
 use std::alloc::{AllocError, Global};
@@ -46,29 +45,25 @@ pub fn push_extensions<'a>(
     Ok(())
 }
 
-/// If the value is an `#extension` line that turns on one of the known extensions, its macro is defined with this
-/// content. A content without an error fails for want of memory alone, and so does one of [`SOURCE_LIMIT`] bytes.
+/// If the value is an `#extension` line that turns on one of the known extensions, its macro is defined as 1.
 pub fn define_extension(
     items: &mut Preprocessor<'_>,
     value: &TokenValue,
     known: &[&str],
-    content: &str,
 ) -> Result<(), AllocError>
-    ensures { OnOk result (IsWithExtension known.now value.now content.now items.old items.new) }
+    ensures { OnOk result (IsWithExtension known.now value.now items.old items.new) }
 {
     match turned_on(value) {
-        Some(name) if is_known(name, known) => define(items, name, content),
+        Some(name) if is_known(name, known) => define(items, name),
         _ => Ok(()),
     }
 }
 
-fn define(items: &mut Preprocessor<'_>, name: &str, content: &str) -> Result<(), AllocError>
-    ensures { OnOk result (IsAdded items.old name.now content.now (Ok tt) items.new) }
+// The content has no error, so it fails for want of memory alone.
+fn define(items: &mut Preprocessor<'_>, name: &str) -> Result<(), AllocError>
+    ensures { OnOk result (IsAdded items.old name.now (codes "1") (Ok tt) items.new) }
 {
-    if content.len() >= SOURCE_LIMIT {
-        return Err(AllocError);
-    }
-    match items.add_define(name, content) {
+    match items.add_define(name, EXTENSION_CONTENT) {
         Ok(()) => Ok(()),
         Err(_) => Err(AllocError),
     }

@@ -7,6 +7,7 @@ ghost use Rattle.glslpp_parts.specs.Faults.{name_of, IsError};
 use crate::diagnostic::{Diagnostic, Note, Severity, Site};
 use crate::directive_check::{Complaint, complaint_of_extension, complaint_of_version};
 use crate::texts::Texts;
+use pp_rs::pp::SOURCE_TEXT;
 use pp_rs::token::{Location, Token, TokenValue};
 use std::alloc::{AllocError, Global};
 
@@ -126,7 +127,7 @@ impl<'a> FaultFinder<'a> {
         let message = String::from_str(self.alloc, "second `#version`")?;
         let note = Note {
             message: "the first `#version` is here",
-            site: Site::of(self.texts, first),
+            site: Site::of(self.texts, SOURCE_TEXT, first),
         };
         Ok(Some(self.error(FaultKind::SecondVersion, location, message, Some(note))))
     }
@@ -164,7 +165,7 @@ impl<'a> FaultFinder<'a> {
                 severity: Severity::Error,
                 message,
                 is_of_cause: true,
-                site: Site::of(self.texts, location),
+                site: Site::of(self.texts, SOURCE_TEXT, location),
                 note,
                 used: None,
             },

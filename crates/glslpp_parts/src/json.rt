@@ -8,8 +8,8 @@ use crate::columns::Columns;
 use crate::diagnostic::{Diagnostic, Site};
 use crate::place::first_byte;
 use crate::report::COMMAND_LINE;
-use crate::texts::{Spot, Texts};
-use pp_rs::pp::{CallPlace, TokenRef, ValueRef};
+use crate::texts::Texts;
+use pp_rs::pp::{CallPlace, SOURCE_TEXT, TokenRef, ValueRef};
 use pp_rs::token::{Location, TokenValue};
 use std::alloc::AllocError;
 
@@ -26,8 +26,8 @@ pub(crate) fn push_token(
     let kind = kind_of(token.value);
     write!(output, "{{\"kind\":\"{kind}\",\"text\":")?;
     push_string(output, text)?;
-    push_place(output, columns, texts.spot(token.location), token.location)?;
-    push_call(output, texts, token.call)?;
+    push_place(output, columns, texts, token.origin.text, token.location)?;
+    push_call(output, texts, token.origin.call)?;
     push_number(output, token.value)?;
     output.push_str("}\n")
 }
@@ -37,7 +37,7 @@ pub(crate) fn push_directive(
     output: &mut String,
     columns: &mut Columns<'_>,
     value: &TokenValue,
-    spot: Option<Spot<'_>>,
+    texts: &Texts<'_>,
     location: Location,
     text: &str,
 ) -> Result<(), AllocError>
@@ -46,7 +46,7 @@ pub(crate) fn push_directive(
     let kind = directive_kind(value);
     write!(output, "{{\"kind\":\"{kind}\",\"text\":")?;
     push_string(output, text)?;
-    push_place(output, columns, spot, location)?;
+    push_place(output, columns, texts, SOURCE_TEXT, location)?;
     output.push_str("}\n")
 }
 
@@ -62,13 +62,17 @@ fn push_call(
         return Ok(());
     };
     write!(output, ",\"call\":{}", call.line)?;
-    let Some(spot) = texts.spot(call.name) else {
+    let Some(spot) = texts.spot(call.text, call.name) else {
         return Ok(());
     };
     if !spot.is_in_source {
         write!(output, ",\"call_in\":\"{COMMAND_LINE}\"")?;
     }
-    let (start, end) = (spot.start, spot.end);
+    let before = texts.bytes_before(call.text);
+    let (start, end) = (
+        spot.start.saturating_add(before),
+        spot.end.saturating_add(before),
+    );
     write!(output, ",\"call_start\":{start},\"call_end\":{end}")
 }
 
@@ -91,7 +95,8 @@ pub(crate) fn push_error(
     output: &mut String,
     columns: &mut Columns<'_>,
     name: &str,
-    spot: Option<Spot<'_>>,
+    texts: &Texts<'_>,
+    text: u32,
     location: Location,
     message: &str,
 ) -> Result<(), AllocError>
@@ -102,7 +107,7 @@ pub(crate) fn push_error(
         "{{\"kind\":\"error\",\"error\":\"{name}\",\"message\":"
     )?;
     push_string(output, message)?;
-    push_place(output, columns, spot, location)?;
+    push_place(output, columns, texts, text, location)?;
     output.push_str("}\n")
 }
 
@@ -216,19 +221,25 @@ fn push_escaped(output: &mut String, c: char) -> Result<(), AllocError>
     }
 }
 
-// Appends the place in its text, in bytes, and its line and column if that text is the source.
+// Appends the place in its text, in bytes, and its line and column if that text is the source. The contents of the
+// command line count as one text, each with a line end.
 fn push_place(
     output: &mut String,
     columns: &mut Columns<'_>,
-    spot: Option<Spot<'_>>,
+    texts: &Texts<'_>,
+    text: u32,
     location: Location,
 ) -> Result<(), AllocError>
     ensures { OnOk result (IsLonger (string_bytes output.old) (string_bytes output.new)) }
 {
-    let Some(spot) = spot else {
+    let Some(spot) = texts.spot(text, location) else {
         return Ok(());
     };
-    let (start, end) = (spot.start, spot.end);
+    let before = texts.bytes_before(text);
+    let (start, end) = (
+        spot.start.saturating_add(before),
+        spot.end.saturating_add(before),
+    );
     if !spot.is_in_source {
         return write!(
             output,

@@ -7,10 +7,10 @@ use crate::diagnostic::Site;
 use crate::directive_line::{is_punct, name_of};
 use crate::outline::Outline;
 use crate::rule_set::Setting;
-use crate::texts::{Spot, Texts};
+use crate::texts::Texts;
 use pp_rs::SOURCE_LIMIT;
 use pp_rs::lexer::{Lexer, LexerItem, TokenValue};
-use pp_rs::pp::CallPlace;
+use pp_rs::pp::{CallPlace, Origin, SOURCE_TEXT};
 use pp_rs::token::{Location, PreprocessorError, Punct};
 use std::alloc::{AllocError, Global};
 
@@ -63,26 +63,26 @@ impl<'a> UseFinder<'a> {
         }
     }
 
-    /// The use of the macro in whose content an error is, or `None` if it is in none, or the use isn't found. `call` is
-    /// where the macro was called from which the error comes, if it comes from the text, and `read` is the place of the
-    /// last token before it that no macro gave.
+    /// The use of the macro in whose content an error is, or `None` if it is in none, or the use isn't found. `origin`
+    /// says in which text the error is, and where the macro was called from which it comes, if it comes from the text.
+    /// `read` is the place of the last token before it that no macro gave.
     pub(crate) fn find(
         &mut self,
         outline: &Outline,
         error: &PreprocessorError,
         location: Location,
-        call: Option<CallPlace>,
+        origin: Origin,
         read: Location,
     ) -> Result<Option<MacroUse<'a>>, AllocError> {
-        let found = match call {
+        let found = match origin.call {
             Some(call) => Some(call),
-            None => self.find_untold(outline, error, location, read)?,
+            None => self.find_untold(outline, error, origin.text, location, read)?,
         };
         let Some(call) = found else {
             return Ok(None);
         };
         self.last = call.name;
-        let site = Site::of(self.texts, call.name);
+        let site = Site::of(self.texts, call.text, call.name);
         let name = site.place().map_or("", |place| place.here);
         Ok(Some(MacroUse {
             line: call.line,
@@ -96,6 +96,7 @@ impl<'a> UseFinder<'a> {
         &mut self,
         outline: &Outline,
         error: &PreprocessorError,
+        text: u32,
         location: Location,
         read: Location,
     ) -> Result<Option<CallPlace>, AllocError> {
@@ -104,13 +105,16 @@ impl<'a> UseFinder<'a> {
         } else {
             self.last
         };
-        let Some(inner) = self.macro_around(outline, error, location) else {
-            self.last = location;
+        let Some(inner) = self.macro_around(outline, error, text, location) else {
+            if text == SOURCE_TEXT {
+                self.last = location;
+            }
             return Ok(None);
         };
         match self.find_elsewhere(outline, error, inner, from)? {
             Some(name) => Ok(Some(CallPlace {
                 name,
+                text: SOURCE_TEXT,
                 line: name.line,
             })),
             None => Ok(None),
@@ -122,23 +126,16 @@ impl<'a> UseFinder<'a> {
         &self,
         outline: &Outline,
         error: &PreprocessorError,
+        text: u32,
         location: Location,
     ) -> Option<&'a str> {
         if !is_of_use(error) {
             return None;
         }
-        let spot = self.texts.spot(location)?;
-        if !spot.is_in_source {
-            return self.defined_name(spot);
-        }
-        Some(self.text_of(outline.define_around(location.start)?.location))
-    }
-
-    // The name of the definition in whose content a spot is. Each content is on a line of its own.
-    fn defined_name(&self, spot: Spot<'_>) -> Option<&'a str> {
-        let before = spot.text.as_bytes().get(..spot.start)?;
-        let index = before.iter().filter(|byte| **byte == b'\n').count();
-        let (name, _) = self.setting.definitions.get(index)?;
+        let Some(index) = text.checked_sub(1) else {
+            return Some(self.text_of(outline.define_around(location.start)?.location));
+        };
+        let (name, _) = self.setting.definitions.get(index as usize)?;
         Some(*name)
     }
 

@@ -8,15 +8,16 @@ ghost use Rattle.pp_rs.specs.TokenValue.{is_ordinary};
 ghost use Rattle.glslpp_parts.specs.Layout.{finished, on_line};
 ghost use Rattle.glslpp_parts.specs.Output.{is_closing, is_left_out, line_of, PutsText, PutsWord, PutsDirective, Puts};
 ghost use Rattle.glslpp_parts.specs.Output.{PutsError, Takes, IsItem};
+ghost use Rattle.glslpp_parts.specs.Texts.{source_text};
 
 use crate::arguments::Form;
 use crate::columns::Columns;
 use crate::directive_text::directive_text;
 use crate::json;
 use crate::layout::{Gap, Layout};
-use crate::texts::Texts;
+use crate::texts::{Texts, is_in_source};
 use crate::words::{made_word, spelled_word, written_word};
-use pp_rs::pp::{TokenRef, TokenSink, ValueRef};
+use pp_rs::pp::{SOURCE_TEXT, TokenRef, TokenSink, ValueRef};
 use pp_rs::rules::Rules;
 use pp_rs::token::{Location, NOWHERE, Punct, Token};
 use std::alloc::{AllocError, Global};
@@ -66,7 +67,7 @@ impl<'a> TokenSink for Output<'a> {
 
     #[inline(always)]
     fn take(&mut self, token: TokenRef<'_>) -> Result<(), AllocError> {
-        if token.call.is_none() {
+        if token.origin.call.is_none() {
             self.read = token.location;
         }
         if self.is_left_out(line_of(token)) {
@@ -137,13 +138,14 @@ impl<'a> Output<'a> {
         ensures form { self.new.form ≡ self.old.form }
         ensures rules { self.new.rules ≡ self.old.rules }
         ensures left_out { self.new.left_out ≡ self.old.left_out }
-        ensures puts { OnOk result (PutsWord self.old (token_of token.entry) (line_of token.entry) self.new) }
+        ensures puts { OnOk result (PutsWord self.old token.entry.origin.text (token_of token.entry)
+            (line_of token.entry) self.new) }
     {
-        let (place, line) = (token.location, line_of(token));
+        let (text, place, line) = (token.origin.text, token.location, line_of(token));
         match token.value {
-            ValueRef::Ident(name) => self.push_word(place, line, false, name),
+            ValueRef::Ident(name) => self.push_word(text, place, line, false, name),
             ValueRef::Punct(punct) => {
-                self.push_word(place, line, is_closing(punct), punct.spelling())
+                self.push_word(text, place, line, is_closing(punct), punct.spelling())
             }
             ValueRef::Integer(_) | ValueRef::Float(..) => self.push_number(token),
         }
@@ -154,6 +156,7 @@ impl<'a> Output<'a> {
     #[inline(never)]
     fn push_word(
         &mut self,
+        text: u32,
         place: Location,
         line: u32,
         is_closing: bool,
@@ -162,10 +165,10 @@ impl<'a> Output<'a> {
         ensures form { self.new.form ≡ self.old.form }
         ensures rules { self.new.rules ≡ self.old.rules }
         ensures left_out { self.new.left_out ≡ self.old.left_out }
-        ensures puts { OnOk result (PutsText self.old place is_closing line word.now self.new) }
+        ensures puts { OnOk result (PutsText self.old text place is_closing line word.now self.new) }
         ensures text { IsUtf8 word.now }
     {
-        if !self.texts.is_in_source(place) {
+        if !is_in_source(text, place) {
             return self.push_made_word(line, word);
         }
         let start = place.start;
@@ -200,12 +203,13 @@ impl<'a> Output<'a> {
         ensures form { self.new.form ≡ self.old.form }
         ensures rules { self.new.rules ≡ self.old.rules }
         ensures left_out { self.new.left_out ≡ self.old.left_out }
-        ensures puts { OnOk result (PutsWord self.old (token_of token.entry) (line_of token.entry) self.new) }
+        ensures puts { OnOk result (PutsWord self.old token.entry.origin.text (token_of token.entry)
+            (line_of token.entry) self.new) }
     {
-        let (place, line) = (token.location, line_of(token));
-        let spot = self.texts.spot(place);
+        let (text, place, line) = (token.origin.text, token.location, line_of(token));
+        let spot = self.texts.spot(text, place);
         if let Some(word) = written_word(self.alloc, self.rules, token.value, spot)? {
-            return self.push_word(place, line, false, word);
+            return self.push_word(text, place, line, false, word);
         }
         let word = made_word(self.alloc, self.rules, token.value, spot)?;
         self.push_made_word(line, word.as_str())
@@ -216,7 +220,8 @@ impl<'a> Output<'a> {
         ensures form { self.new.form ≡ self.old.form }
         ensures rules { self.new.rules ≡ self.old.rules }
         ensures left_out { self.new.left_out ≡ self.old.left_out }
-        ensures puts { OnOk result (PutsWord self.old (token_of token.entry) self.old.laid.line self.new) }
+        ensures puts { OnOk result (PutsWord self.old token.entry.origin.text (token_of token.entry)
+            self.old.laid.line self.new) }
     {
         let word = spelled_word(self.alloc, token.value)?;
         let line = self.layout.line();
@@ -229,7 +234,7 @@ impl<'a> Output<'a> {
         ensures same { self.new ≡ record self.old { items = self.new.items } }
         ensures item { OnOk result (IsItem self.old.items self.new.items) }
     {
-        let spot = self.texts.spot(token.location);
+        let spot = self.texts.spot(token.origin.text, token.location);
         if let Some(word) = written_word(self.alloc, self.rules, token.value, spot)? {
             return json::push_token(&mut self.lines, &mut self.columns, token, self.texts, word);
         }
@@ -249,9 +254,9 @@ impl<'a> Output<'a> {
         ensures form { self.new.form ≡ self.old.form }
         ensures rules { self.new.rules ≡ self.old.rules }
         ensures left_out { self.new.left_out ≡ self.old.left_out }
-        ensures puts { OnOk result (Puts self.old.form false self.old token.now None self.new) }
+        ensures puts { OnOk result (Puts self.old.form false self.old source_text token.now None self.new) }
     {
-        let spot = self.texts.spot(token.location);
+        let spot = self.texts.spot(SOURCE_TEXT, token.location);
         let line = match self.form {
             Form::Compact => format!(in self.alloc; "{}", token.value)?,
             Form::Lines | Form::Tokens | Form::Directives => {
@@ -272,17 +277,18 @@ impl<'a> Output<'a> {
                 &mut self.lines,
                 &mut self.columns,
                 &token.value,
-                spot,
+                self.texts,
                 token.location,
                 line.as_str(),
             ),
         }
     }
 
-    /// Takes an error with this name, which is an item of the output if items are printed.
+    /// Takes an error with this name and a place in this text, which is an item of the output if items are printed.
     pub fn push_error(
         &mut self,
         name: &str,
+        text: u32,
         location: Location,
         message: &str,
     ) -> Result<(), AllocError>
@@ -292,12 +298,12 @@ impl<'a> Output<'a> {
         if self.form != Form::Tokens {
             return Ok(());
         }
-        let spot = self.texts.spot(location);
         json::push_error(
             &mut self.lines,
             &mut self.columns,
             name,
-            spot,
+            self.texts,
+            text,
             location,
             message,
         )
@@ -323,7 +329,7 @@ impl<'a> Output<'a> {
 fn line_of(token: TokenRef<'_>) -> u32
     ensures { result ≡ line_of token.entry }
 {
-    match token.call {
+    match token.origin.call {
         Some(call) => call.line,
         None => token.location.line,
     }

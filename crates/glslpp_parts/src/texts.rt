@@ -1,43 +1,38 @@
-//! The texts that places are in: a source, and the contents of the command line's definitions.
+//! The texts that places are in: a source, and the contents of the definitions that are added before it.
 //!
-//! The library has a place for each token and error, but doesn't say in which text. So a content is passed to the
-//! library after blanks, at least one more than the first line of the source has bytes. Its tokens are then on line 1,
-//! and past the end of line 1 of the source.
+//! The library says of each token and error in which text its place is, by the text's number: 0 is the source, and each
+//! content that is added has the next number.
 
-ghost use Rattle.std.specs.Prelude.{◌≡◌, ◌≤◌, ◌+◌, ◌-◌, ◌↔◌, ◌||◌, [], true, false, nat_lt, IsNone, IfSome, OnOk, IfOk};
-ghost use Rattle.std.specs.Prelude.{length, string_bytes};
-ghost use Rattle.std.proofs.Math.ListN.{replicate};
-ghost use Rattle.std.specs.List.{position_or_len};
-ghost use Rattle.pp_lexer.specs.Lines.{is_line_break};
+ghost use Rattle.std.specs.Prelude.{◌≡◌, ◌==◌, [], IsNone, IfSome, IsTrue, OnOk, ◌↔◌};
 ghost use Rattle.pp_rs.specs.Location.{nowhere};
 ghost use Rattle.glslpp_parts.specs.Spots.{IsSpotOf};
-ghost use Rattle.glslpp_parts.specs.Texts.{padded, with_content};
+ghost use Rattle.glslpp_parts.specs.Texts.{source_text, text_of, with_content};
 
-use crate::columns::is_line_end_byte;
+use crate::extensions::EXTENSION_CONTENT;
+use pp_rs::pp::SOURCE_TEXT;
 use pp_rs::token::{Location, NOWHERE};
 use std::alloc::{AllocError, Global};
 use std::marker::Model;
 
-/// A source, and the contents of the definitions that are added before it.
+/// A source, and the contents of the definitions that are added before it. Texts after these are contents of macros
+/// that `#extension` lines define, which are all the same.
 #[derive(Drop)]
 pub struct Texts<'a> {
     /// The source.
     pub source: &'a str,
-    // The number of blanks before the first content: one more than the first line of the source has bytes.
-    blanks: usize,
-    // The contents, each on a line.
-    contents: String,
+    // The contents, in the order in which they are added.
+    contents: Vec<&'a str>,
+    // For each content the number of bytes of those up to it, each with a line end.
+    ends: Vec<usize>,
 }
 
 impl<'a> Model for Texts<'a> {
-    ghost use Rattle.std.specs.Prelude.{◌≤◌, ◌+◌, length, string_bytes};
+    ghost use Rattle.std.specs.Prelude.{map};
     ghost use Rattle.glslpp_parts.specs.Texts.{Texts};
 
     ghost Value = { Texts };
 
-    ghost view = { λ t. record { source = t.source.now; blanks = t.blanks; contents = string_bytes t.contents } };
-
-    ghost invariant = { λ t. t.blanks ≤ length t.source.now + 1 };
+    ghost view = { λ t. record { source = t.source.now; contents = map (λ content. content.now) t.contents.items } };
 }
 
 /// A place in one of the texts.
@@ -58,26 +53,32 @@ impl<'a> Texts<'a> {
     pub fn new(alloc: Global, source: &'a str) -> Texts<'a>
         ensures source { result.source ≡ source.now }
         ensures contents { result.contents ≡ [] }
-        ensures blanks { result.blanks ≡ position_or_len is_line_break source.now + 1 }
     {
         Texts {
             source,
-            blanks: first_line_length(source) + 1,
-            contents: String::new(alloc),
+            contents: Vec::new(alloc),
+            ends: Vec::new(alloc),
         }
     }
 
-    /// Adds the content of a definition, which has no line end, and returns it as the library has to get it.
-    pub fn pad(&mut self, alloc: Global, content: &str) -> Result<String, AllocError>
-        ensures text { IfOk result (λ text. string_bytes text ≡ padded self.old content.now) }
-        ensures taken_in { OnOk result (self.new ≡ with_content self.old content.now) }
+    /// Adds the content of a definition, after those that were added before.
+    pub fn add(&mut self, content: &'a str) -> Result<(), AllocError>
+        ensures { OnOk result (self.new ≡ with_content self.old content.now) }
     {
-        let count = self.blanks + self.contents.len();
-        let mut padded = blanks(alloc, count)?;
-        padded.push_str(content)?;
-        self.contents.push_str(content)?;
-        self.contents.push('\n')?;
-        Ok(padded)
+        let before = self.ends.last().copied().unwrap_or(0);
+        let end = before.saturating_add(content.len()).saturating_add(1);
+        self.ends.push(end)?;
+        self.contents.push(content)?;
+        Ok(())
+    }
+
+    // How many bytes the contents before a text have, each with a line end.
+    pub(crate) fn bytes_before(&self, text: u32) -> usize {
+        let before = (text as usize).saturating_sub(1).min(self.ends.len());
+        match before.checked_sub(1) {
+            Some(last) => self.ends.get(last).copied().unwrap_or(0),
+            None => 0,
+        }
     }
 
     // Whether a blank, a line end or a comment is before this byte offset of the source, or nothing.
@@ -88,68 +89,46 @@ impl<'a> Texts<'a> {
         }
     }
 
-    // Whether an item's place is in the source.
+    // The text with this number.
     #[inline(always)]
-    pub(crate) fn is_in_source(&self, location: Location) -> bool {
-        matches!(self.spot(location), Some(spot) if spot.is_in_source)
+    fn text(&self, number: u32) -> &'a str
+        ensures { result.now ≡ text_of self.now number }
+    {
+        let Some(index) = number.checked_sub(1) else {
+            return self.source;
+        };
+        match self.contents.get(index as usize) {
+            Some(content) => *content,
+            None => EXTENSION_CONTENT,
+        }
     }
 
-    /// Returns the spot of an item's place, or `None` if the place is `NOWHERE`.
+    /// Returns the spot of an item's place in the text with this number, or `None` if it is `NOWHERE` in the source.
     #[inline(always)]
-    pub fn spot(&self, location: Location) -> Option<Spot<'_>>
-        ensures none { IsNone result ↔ (location ≡ nowhere) }
-        ensures told { IfSome result (λ spot. spot.is_in_source
-            ≡ (nat_lt 1 location.line || nat_lt location.start self.now.blanks)) }
-        ensures in_source { IfSome result (λ spot. spot.is_in_source ≡ true
-            → IsSpotOf spot self.now.source location.start location.end) }
-        ensures in_contents { IfSome result (λ spot. spot.is_in_source ≡ false
-            → IsSpotOf spot self.now.contents (location.start - self.now.blanks)
-            (location.end - self.now.blanks)) }
+    pub fn spot(&self, text: u32, location: Location) -> Option<Spot<'a>>
+        ensures none { IsNone result ↔ ((text ≡ source_text) × (location ≡ nowhere)) }
+        ensures told { IfSome result (λ spot. spot.is_in_source ≡ (text == source_text)) }
+        ensures is { IfSome result (λ spot. IsSpotOf spot (text_of self.now text) location.start location.end) }
     {
-        let (start, end) = (location.start as usize, location.end as usize);
-        if location.line > 1 || start < self.blanks && location != NOWHERE {
-            return Some(Spot {
-                text: self.source,
-                start,
-                end,
-                is_in_source: true,
-            });
-        }
-        if location == NOWHERE {
+        let is_in_source = text == SOURCE_TEXT;
+        if is_in_source && location == NOWHERE {
             return None;
         }
         Some(Spot {
-            text: self.contents.as_str(),
-            start: start.saturating_sub(self.blanks),
-            end: end.saturating_sub(self.blanks),
-            is_in_source: false,
+            text: self.text(text),
+            start: location.start as usize,
+            end: location.end as usize,
+            is_in_source,
         })
     }
 }
 
-// A text of `count` blanks.
-fn blanks(alloc: Global, count: usize) -> Result<String, AllocError>
-    ensures { IfOk result (λ text. string_bytes text ≡ replicate count 32) }
+// Whether an item's place in the text with this number is in the source.
+#[inline(always)]
+pub(crate) fn is_in_source(text: u32, location: Location) -> bool
+    ensures { IsTrue result → text ≡ source_text }
 {
-    let mut text = String::new(alloc);
-    for done in 0..count {
-        text.push(' ')?;
-    }
-    Ok(text)
-}
-
-// The number of bytes before the first line end.
-fn first_line_length(text: &str) -> usize
-    ensures value { result ≡ position_or_len is_line_break text.now }
-    ensures bound { result ≤ length text.now }
-{
-    let bytes = text.as_bytes();
-    for index in 0..bytes.len() {
-        if is_line_end_byte(bytes[index]) {
-            return index;
-        }
-    }
-    bytes.len()
+    text == SOURCE_TEXT && location != NOWHERE
 }
 
 impl<'a> Spot<'a> {

@@ -7,7 +7,7 @@
 ghost use Rattle.std.specs.Prelude.{◌-◌, ◌^◌, ◌<◌, length};
 
 use crate::definitions::add_definitions;
-use crate::extensions::{EXTENSION_CONTENT, define_extension};
+use crate::extensions::define_extension;
 use crate::failure::Failure;
 use crate::findings::Findings;
 use crate::probe::{Asked, Probe};
@@ -61,7 +61,7 @@ fn take_answers(
         };
         match item {
             Ok(token) => {
-                define_extension(items, &token.value, extensions, EXTENSION_CONTENT)?;
+                define_extension(items, &token.value, extensions)?;
                 let line = items.call_line().unwrap_or(token.location.line);
                 if let TokenValue::Ident(name) = &token.value
                     && let Some(question) = probe.question(line)

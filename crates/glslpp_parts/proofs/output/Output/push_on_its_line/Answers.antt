@@ -1,4 +1,4 @@
-use Rattle.std.proofs.Common.{◌∙◌, false, inl, refl, ap, subst}
+use Rattle.std.proofs.Common.{◌∙◌, false, refl, ap, subst}
 use Rattle.std.specs.Str.{chars}
 use Rattle.std.proofs.lemmas.Result.{on_ok_weaker}
 use Rattle.pp_lexer.specs.declared.token.TokenValue.TheVariants.{Ident, Punct}
@@ -14,7 +14,7 @@ returns-in-Ident-clause-puts c =
       word = name;
       is_text = λ h. spelled_read c.args.self.now.rules (Ident (chars name)) name c.push_word.ensures.text refl h;
       puts =
-          subst (λ line. PutsText c.args.self.now c.args.token.location false line name c.push_word.new.self) c.line_of-line.ensures puts;
+          subst (λ line. PutsText c.args.self.now c.args.token.origin.text c.args.token.location false line name c.push_word.new.self) c.line_of-line.ensures puts;
     })) c.push_word.ensures.puts
 
 pub returns-in-Punct-clause-puts : goal.returns-in-Punct-clause-puts
@@ -25,7 +25,7 @@ returns-in-Punct-clause-puts c =
       is_text = λ h. spelled_read c.args.self.now.rules (Punct c.in-Punct.punct) spelled c.spelling.utf8
           (ap chars c.spelling.ensures ∙ chars-punctuator c.in-Punct.punct) h;
       puts =
-          subst (λ line. PutsText c.args.self.now c.args.token.location (is_closing (Punct c.in-Punct.punct)) line spelled c.push_word-in-Punct.new.self) c.line_of-line.ensures
-          (subst (λ closes. PutsText c.args.self.now c.args.token.location closes c.line_of-line.result spelled c.push_word-in-Punct.new.self)
+          subst (λ line. PutsText c.args.self.now c.args.token.origin.text c.args.token.location (is_closing (Punct c.in-Punct.punct)) line spelled c.push_word-in-Punct.new.self) c.line_of-line.ensures
+          (subst (λ closes. PutsText c.args.self.now c.args.token.origin.text c.args.token.location closes c.line_of-line.result spelled c.push_word-in-Punct.new.self)
           c.is_closing.ensures puts);
     })) c.push_word-in-Punct.ensures.puts
