@@ -50,7 +50,7 @@ module _ {R : Type 0} (I : Reading R) where
       rw (open_spliced m.name m.definition (called_at m.text m.token line) arguments f.list) both
 
   pub item_keeps_apart : (A : Answers) (o : Taken) (e f : Expander R) → Emits I A e o f → HasApartMarks e.list → HasApartMarks f.list
-  item_keeps_apart A o e f (itself o1 e1 f1 t h) apart = rest_is_apart e.list f.list (taking_leaves_rest o e f t) apart
+  item_keeps_apart A o e f (itself x o1 e1 f1 t h p) apart = rest_is_apart e.list f.list (taking_leaves_rest x e f t) apart
   item_keeps_apart A o e f (object x o1 m e1 g f1 t h k i) apart =
       let taken = rest_is_apart e.list g.list (taking_leaves_rest x e g t) apart in
       item_keeps_apart A o (with_macro m m.token.location.line [] g) f i (opened_is_apart x m m.token.location.line [] e g g t h ([], refl) taken)

@@ -10,13 +10,14 @@ use Rattle.pp_model.specs.Painting.{taken_among}
 use Rattle.pp_model.specs.Reading.{Expander, masked_names, Opening, opening}
 use Rattle.pp_model.specs.Taking.{line_number, shown_token, shown_outcome, Takes, Fetches, held, listed, read}
 use Rattle.pp_model.specs.Calls.{Answers, Called, no_call, Calls, alone, broken, whole}
-use Rattle.pp_model.specs.Emitting.{with_macro, Emits, itself, object, name_alone, call_refused, call}
+use Rattle.pp_model.specs.Emitting.{found_among, with_macro, Emits, itself, object, name_alone, call_refused, call}
 use Rattle.pp_model.specs.SourceReader.{SourceReader}
 use Rattle.pp_model.specs.Reads.{source_reading}
 use Rattle.pp_model.specs.declared.read.Taken.{Taken}
 use Rattle.pp_model.specs.declared.read.Taken.TheVariants as taken
 use Rattle.pp_model.specs.declared.splice.Entry.{Entry}
 use Rattle.pp_model.specs.declared.splice.Entry.TheVariants.{Plain}
+use Rattle.pp_model.proofs.FoundLemmas.{end_found}
 use Rattle.pp_model.proofs.SearchLeadsLemmas.{called_is_a_call, call_leads}
 use Rattle.pp_model.proofs.SourceEndLemmas.{IsAtEnd, reading_ends, reading_at_end}
 use Rattle.pp_model.specs.Numbering.{text_number}
@@ -100,8 +101,8 @@ module _ (A : Answers) where
   -- after an item an end that is held is the last, and after the end nothing is left
   pub item_ends : (o : Taken) (e f : Expander SourceReader) → Emits (source_reading A) A e o f → HoldsLastEnd e → HoldsLastEnd f
       × (o ≡ taken.End → IsOver f)
-  item_ends o e f (itself o1 e1 f1 t h) last =
-      (holds_nothing f (taking_holds_none o e f t), taking_ends o e f t last)
+  item_ends o e f (itself x o1 e1 f1 t h p) last =
+      (holds_nothing f (taking_holds_none x e f t), λ end. taking_ends x e f t last (end_found f.list x (sym p ∙ end)))
   item_ends o e f (object x o1 m e1 g f1 t h k i) last =
       item_ends o (with_macro m m.token.location.line [] g) f i (holds_nothing (with_macro m m.token.location.line [] g) (taking_holds_none x e g t))
   item_ends o e f (name_alone x y o1 m e1 g g1 f1 t h k c p q) last =
@@ -136,7 +137,9 @@ module _ (A : Answers) where
 
   -- so the end is the next item, for good
   pub item_when_over : (o : Taken) (e f : Expander SourceReader) → Emits (source_reading A) A e o f → IsOver e → (o ≡ taken.End) × IsOver f
-  item_when_over o e f (itself o1 e1 f1 t h) over = taking_when_over o e f t over
+  item_when_over o e f (itself x o1 e1 f1 t h p) over =
+      let there = taking_when_over x e f t over in
+      (p ∙ ap (found_among f.list) there.0, there.1)
   item_when_over o e f (object x o1 m e1 g f1 t h k i) over = absurd (end_opens_nothing A g x m (taking_when_over x e g t over).0 h)
   item_when_over o e f (name_alone x y o1 m e1 g g1 f1 t h k c p q) over = absurd (end_opens_nothing A g x m (taking_when_over x e g t over).0 h)
   item_when_over o e f (call_refused x o1 fault m e1 g f1 t h k c p) over = absurd (end_opens_nothing A g x m (taking_when_over x e g t over).0 h)

@@ -15,10 +15,11 @@ use Rattle.pp_model.specs.Reading.{Reading, Expander, Opening, opening_of, openi
 use Rattle.pp_model.specs.inner.Reading.{first_listed, opening_by, after_listed}
 use Rattle.pp_model.specs.Taking.{Takes, Fetches, held, listed, read}
 use Rattle.pp_model.specs.Calls.{Gathered, before, Gathers, closed, inside, overfull, ended, failed, Answers, Site, misfit, Called, no_call, refused, fits, called_by, Calls, alone, broken, whole}
-use Rattle.pp_model.specs.Emitting.{with_macro, Emits, itself, object, name_alone, call_refused, call, Collects, done, failed as failing, item, Alones, Each as Expanded, none, first_failed, more, answers_by, ExpandsArguments, answers_at, Alone, called_at}
+use Rattle.pp_model.specs.Emitting.{found_among, with_macro, Emits, itself, object, name_alone, call_refused, call, Collects, done, failed as failing, item, Alones, Each as Expanded, none, first_failed, more, answers_by, ExpandsArguments, answers_at, Alone, called_at}
 use Rattle.pp_model.specs.declared.read.Read.{Read}
 use Rattle.pp_model.specs.declared.read.Taken.{Taken}
 use Rattle.pp_model.specs.declared.read.Taken.TheVariants as taken
+use Rattle.pp_model.specs.declared.splice.Entry.{Entry}
 use Rattle.pp_model.specs.declared.splice.Entry.TheVariants.{Plain}
 use Rattle.pp_lexer.specs.declared.token.Integer.{Integer}
 use Rattle.pp_model.specs.Numbering.{number_of}
@@ -142,9 +143,16 @@ module _ (Q : Token → Type 0) (L : ℕ → Type 0) (closed_under : AreClosed Q
         reader = h.reader;
       }
 
+      found_holds : (entries : List Entry) (o : Taken) → HoldsOfTaken Q o → HoldsOfTaken Q (found_among entries o)
+      found_holds entries (taken.Token token) h = h
+      found_holds entries (taken.Fault fault) h = h
+      found_holds entries taken.End h = h
+
       -- what is given has it, where what is held, listed and read has it
       pub item_keeps : (o : Taken) (e f : Expander R) → Emits I A e o f → HoldsOf Q L K e → HoldsOfTaken Q o × HoldsOf Q L K f
-      item_keeps o e f (itself o1 e1 f1 t is) h = taking_keeps o e f t h
+      item_keeps o e f (itself x o1 e1 f1 t is p) h =
+          let taken = taking_keeps x e f t h in
+          (rw p (found_holds f.list x taken.0), taken.1)
       item_keeps o e f (object x o1 m e1 g f1 t is k i) h =
           let taken = taking_keeps x e g t h in
           let by = opened_holds g x m is taken.1 taken.0 in

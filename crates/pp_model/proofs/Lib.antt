@@ -24,6 +24,7 @@ pub mod MovesLemmas
 pub mod ActsLemmas
 pub mod SourceEndLemmas
 pub mod EndLemmas
+pub mod FoundLemmas
 pub mod RunEndLemmas
 pub mod DirectivePlaceLemmas
 pub mod BlockLemmas

@@ -1,18 +1,21 @@
 -- A line gives one list of words, with one ending.
-use Rattle.std.proofs.Common.{◌≡◌, ◌∙◌, ℕ, Bool, [], ◌∷◌, sym, Some, None}
+use Rattle.std.proofs.Common.{◌≡◌, ◌∙◌, ℕ, Bool, [], ◌∷◌, sym, Option, Some, None}
 use Rattle.std.specs.Prelude.{Result, Ok, Err}
 use Rattle.pp_lexer.specs.declared.token.Location.{Location}
-use Rattle.pp_model.specs.Places.{PlacedFault, place_of}
+use Rattle.pp_model.specs.Places.{PlacedFault, place_of, place_in, fault_in}
+use Rattle.pp_model.specs.ItemCall.{item_call}
+use Rattle.pp_model.specs.declared.place.Place.{Place}
+use Rattle.pp_model.specs.declared.splice.CallPlace.{CallPlace}
 use Rattle.pp_model.specs.declared.read.Read.{Read}
 use Rattle.pp_model.specs.Reading.{Expander, Listed, line_reading}
 use Rattle.pp_model.specs.Calls.{Answers}
 use Rattle.pp_model.specs.Emitting.{Emits, answers_at}
-use Rattle.pp_model.specs.LineWords.{WordReading, operator, word, fault, reading, Operand, Words, word_before, LineWords, ended, failed, refused, plain, answered, faulty}
+use Rattle.pp_model.specs.LineWords.{WordReading, operator, word, fault, reading, Operand, Words, word_before, word_of, LineWords, ended, failed, refused, plain, answered, faulty}
 use Rattle.pp_model.specs.ExpansionLaws.{OneAnswer, OneOperand, OneLine}
 use Rattle.pp_model.specs.declared.read.Taken.{Taken}
 use Rattle.pp_model.specs.declared.read.Taken.TheVariants as taken
 use Rattle.pp_model.specs.declared.word.LineKind.{LineKind}
-use Rattle.pp_model.specs.declared.word.Word.TheVariants.{Plain, Defined}
+use Rattle.pp_model.specs.declared.word.Word.TheVariants.{Defined}
 use Rattle.pp_model.proofs.TakingLemmas.{line_reads_one}
 use Rattle.pp_model.proofs.EmittingLemmas.{one_item}
 use Rattle.pp_model.proofs.LevelLemmas.{one_answer}
@@ -21,23 +24,23 @@ use Rattle.pp_model.proofs.OperandLemmas.{one_operand}
 module _ (A : Answers) (single : OneAnswer A) where
   module _ (kind : LineKind) (directive : Location) where
     -- the words of a line, by its next item, and by the operand of a `defined`
-    abbrev ByOperand : Read → Result Bool PlacedFault → Expander Listed → Words → Type 0
-    ByOperand t (Ok answer) h ws =
-        (rest : Words) × LineWords kind directive A h rest × (ws ≡ word_before (Defined (place_of t) (Ok answer)) rest)
-    ByOperand t (Err f) h ws = ws ≡ record { words = Defined (place_of t) (Err f) ∷ []; ending = None }
+    abbrev ByOperand : Place → Result Bool PlacedFault → Expander Listed → Words → Type 0
+    ByOperand p (Ok answer) h ws = (rest : Words) × LineWords kind directive A h rest × (ws ≡ word_before (Defined p (Ok answer)) rest)
+    ByOperand p (Err f) h ws = ws ≡ record { words = Defined p (Err f) ∷ []; ending = None }
 
-    abbrev ByReading : WordReading → Read → Expander Listed → Words → Type 0
-    ByReading (fault f) t g ws = ws ≡ record { words = []; ending = Some f }
-    ByReading (word w) t g ws = (rest : Words) × LineWords kind directive A g rest × (ws ≡ word_before (Plain w) rest)
-    ByReading operator t g ws = (r : Result Bool PlacedFault) × (h : Expander Listed) × Operand kind directive A g r h × ByOperand t r h ws
+    abbrev ByReading : WordReading → Read → Option CallPlace → Expander Listed → Words → Type 0
+    ByReading (fault f) t k g ws = ws ≡ record { words = []; ending = Some (fault_in k f) }
+    ByReading (word w) t k g ws = (rest : Words) × LineWords kind directive A g rest × (ws ≡ word_before (word_of k w) rest)
+    ByReading operator t k g ws =
+        (r : Result Bool PlacedFault) × (h : Expander Listed) × Operand kind directive A g r h × ByOperand (place_in k (place_of t)) r h ws
 
-    abbrev ByItem : Taken → Expander Listed → Words → Type 0
-    ByItem (taken.Token t) g ws = ByReading (reading kind t) t g ws
-    ByItem (taken.Fault f) g ws = ws ≡ record { words = []; ending = Some f }
-    ByItem taken.End g ws = ws ≡ record { words = []; ending = None }
+    abbrev ByItem : Taken → Option CallPlace → Expander Listed → Words → Type 0
+    ByItem (taken.Token t) k g ws = ByReading (reading kind t) t k g ws
+    ByItem (taken.Fault f) k g ws = ws ≡ record { words = []; ending = Some f }
+    ByItem taken.End k g ws = ws ≡ record { words = []; ending = None }
 
     first_item : (ws : Words) (e : Expander Listed) → LineWords kind directive A e ws
-        → (o : Taken) × (g : Expander Listed) × Emits line_reading A e o g × ByItem o g ws
+        → (o : Taken) × (g : Expander Listed) × (i : Emits line_reading A e o g) × ByItem o (item_call i) g ws
     first_item ws e (ended e1 g ws1 a p) = (taken.End, g, a, p)
     first_item ws e (failed f e1 g ws1 a p) = (taken.Fault f, g, a, p)
     first_item ws e (refused t f e1 g ws1 a k p) = (taken.Token t, g, a, rw k p)
@@ -45,17 +48,22 @@ module _ (A : Answers) (single : OneAnswer A) where
     first_item ws e (answered t answer e1 g h rest ws1 a k o l p) = (taken.Token t, g, a, rw k (Ok answer, h, o, (rest, l, p)))
     first_item ws e (faulty t f e1 g h ws1 a k o p) = (taken.Token t, g, a, rw k (Err f, h, o, p))
 
+    same_item : (o x : Taken) (k l : Option CallPlace) (g h : Expander Listed) (ws : Words) → o ≡ x → k ≡ l → g ≡ h → ByItem x l h ws → ByItem o k g ws
+    same_item o x k l g h ws p q r by = rw (p, q, r) by
+
     -- where this is the next item, the words come so
-    after_item : (o : Taken) (ws : Words) (e g : Expander Listed) → Emits line_reading A e o g → LineWords kind directive A e ws → ByItem o g ws
+    after_item : (o : Taken) (ws : Words) (e g : Expander Listed) (i : Emits line_reading A e o g) → LineWords kind directive A e ws
+        → ByItem o (item_call i) g ws
     after_item o ws e g a b =
         let first = first_item ws e b in
         let same = one_item line_reading line_reads_one A single o first.0 e g first.1 a first.2 in
-        rw (same.0, same.1) first.3
+        same_item o first.0 (item_call a) (item_call first.2) g first.1 ws same.0 same.2 same.1 first.3
 
     -- where the operand is this, they come so
-    after_operand : (t : Read) (r : Result Bool PlacedFault) (ws : Words) (g h : Expander Listed) → Operand kind directive A g r h → ByReading operator t g ws
-        → ByOperand t r h ws
-    after_operand t r ws g h a b =
+    after_operand : (t : Read) (k : Option CallPlace) (r : Result Bool PlacedFault) (ws : Words) (g h : Expander Listed) → Operand kind directive A g r h
+        → ByReading operator t k g ws
+        → ByOperand (place_in k (place_of t)) r h ws
+    after_operand t k r ws g h a b =
         let same = one_operand A single kind directive r b.0 g h b.1 a b.2 in
         rw (same.0, same.1) b.3
 
@@ -67,10 +75,10 @@ module _ (A : Answers) (single : OneAnswer A) where
         let other = rw k at (after_item (taken.Token t) y e g a b) in
         p ∙ rw (one_list rest other.0 g l other.1) (sym other.2)
     one_list x y e (answered t answer e1 g h rest x1 a k o l p) b =
-        let other = after_operand t (Ok answer) y g h o (rw k at (after_item (taken.Token t) y e g a b)) in
+        let other = after_operand t (item_call a) (Ok answer) y g h o (rw k at (after_item (taken.Token t) y e g a b)) in
         p ∙ rw (one_list rest other.0 h l other.1) (sym other.2)
     one_list x y e (faulty t f e1 g h x1 a k o p) b =
-        p ∙ sym (after_operand t (Err f) y g h o (rw k at (after_item (taken.Token t) y e g a b)))
+        p ∙ sym (after_operand t (item_call a) (Err f) y g h o (rw k at (after_item (taken.Token t) y e g a b)))
 
   pub one_line : OneLine A
   one_line = one_list

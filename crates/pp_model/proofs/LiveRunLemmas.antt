@@ -58,7 +58,7 @@ module _ {R : Type 0} (I : Reading R) (Wider : R → Taken → R → Type 0) (wi
         whole o paren gathered answer e1 f1 g1 c1 (takes _ _ _ h) p (gathers _ _ _ _ _ more) a s
 
     pub emits : (e : Expander R) (o : Taken) (f : Expander R) → Emits I A e o f → Emits J A e o f
-    emits e o f (itself o1 e1 f1 h n) = itself o1 e1 f1 (takes _ _ _ h) n
+    emits e o f (itself x o1 e1 f1 h n s) = itself x o1 e1 f1 (takes _ _ _ h) n s
     emits e o f (object x o1 m e1 f1 h1 h n k more) = object x o1 m e1 f1 h1 (takes _ _ _ h) n k (emits _ _ _ more)
     emits e o f (name_alone x y o1 m e1 f1 g1 h1 h n k c s p) = name_alone x y o1 m e1 f1 g1 h1 (takes _ _ _ h) n k (calls _ _ _ _ c) s p
     emits e o f (call_refused x o1 fault m e1 f1 g1 h n k c s) = call_refused x o1 fault m e1 f1 g1 (takes _ _ _ h) n k (calls _ _ _ _ c) s

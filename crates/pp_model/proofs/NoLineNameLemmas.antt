@@ -17,6 +17,7 @@ use Rattle.pp_model.specs.NoLineName.{is_line_name, HoldsNoLineName, AreNoLineNa
 use Rattle.pp_model.specs.declared.read.Taken.{Taken}
 use Rattle.pp_model.specs.declared.read.Taken.TheVariants as taken
 use Rattle.pp_model.specs.declared.splice.Entry.{Entry}
+use Rattle.pp_model.proofs.FoundLemmas.{found_same}
 use Rattle.pp_model.proofs.SearchLeadsLemmas.{called_is_a_call}
 use Rattle.pp_lexer.specs.declared.token.Integer.{Integer}
 
@@ -88,7 +89,9 @@ module _ {R : Type 0} (I : Reading R) where
       (λ o q. absurd (called_is_a_call gathered.closing.line answer o (sym p ∙ q)), (gathering_shows_none 0 paren (Ok gathered) g f u taken.1).1)
 
   pub item_shows_none : (A : Answers) (o : Taken) (e f : Expander R) → Emits I A e o f → HoldsNoLineName e → (is_line_name o ≡ false) × HoldsNoLineName f
-  item_shows_none A o e f (itself o1 e1 f1 t h) none = taking_shows_none o e f t none
+  item_shows_none A o e f (itself x o1 e1 f1 t h p) none =
+      let taken = taking_shows_none x e f t none in
+      (ap is_line_name p ∙ found_same is_line_name (λ _ _. refl) f.list x ∙ taken.0, taken.1)
   item_shows_none A o e f (object x o1 m e1 g f1 t h k i) none =
       item_shows_none A o (with_macro m m.token.location.line [] g) f i (taking_shows_none x e g t none).1
   item_shows_none A o e f (name_alone x y o1 m e1 g g1 f1 t h k c p q) none =

@@ -83,7 +83,7 @@ module _ {R : Type 0} (I : Reading R) where
   call_passes A = call_leads I (PassedFrom A) (λ e f g first later h more. first h (later h more)) (λ o e f t g more. taking o e f g t more) A
 
   item_passes : (A : Answers) (o : Taken) (e f : Expander R) → Emits I A e o f → Passes I A e f
-  item_passes A o e f (emits.itself o1 e1 f1 t h) = taking o e f f t (here f f refl)
+  item_passes A o e f (emits.itself x o1 e1 f1 t h p) = taking x e f f t (here f f refl)
   item_passes A o e f (emits.object x o1 m e1 g f1 t h k i) = object x m e g f t h k (item_passes A o (with_macro m m.token.location.line [] g) f i)
   item_passes A o e f (emits.name_alone x y o1 m e1 g g1 f1 t h k c p q) =
       name_alone x y m e g g1 f t h k c (here (record g1 { held = Some y }) f q)

@@ -5,12 +5,14 @@ use Rattle.pp_lexer.specs.declared.token.Location.{Location}
 use Rattle.pp_lexer.specs.declared.token.TokenValue.{TokenValue}
 use Rattle.pp_lexer.specs.declared.token.TokenValue.TheVariants.{Ident}
 use Rattle.pp_model.specs.declared.place.Place.{Place}
-use Rattle.pp_model.specs.Places.{PlacedFault, place_of}
+use Rattle.pp_model.specs.Places.{PlacedFault, place_of, fault_in}
 use Rattle.pp_model.specs.Names.{Name}
 use Rattle.pp_model.specs.Reading.{Expander, Listed, line_reading}
 use Rattle.pp_model.specs.Taking.{Takes}
 use Rattle.pp_model.specs.Calls.{Answers, is_left_paren, paren_at}
 use Rattle.pp_model.specs.Emitting.{Emits}
+use Rattle.pp_model.specs.ItemCall.{item_call}
+use Rattle.pp_model.specs.SpliceList.{outermost_call}
 use Rattle.pp_model.specs.LineWords.{unwanted_part, name_in_value, name_in, is_defined, closed_by, InParentheses, Operand}
 use Rattle.pp_model.specs.inner.LineWords.{is_open_paren}
 use Rattle.pp_model.specs.declared.read.Taken.{Taken}
@@ -38,11 +40,11 @@ named_unplaced _ n is = refl
 module _ (kind : LineKind) (directive : Location) (A : Answers) where
   -- after the `(`
   pub no_name : (o : Taken) (e f : Expander Listed) (r : Result Bool PlacedFault) → Takes line_reading e o f → name_in o ≡ None
-      → r ≡ Err (unwanted_part directive o) → InParentheses kind directive A e r f
+      → r ≡ Err (fault_in (outermost_call f.list) (unwanted_part directive o)) → InParentheses kind directive A e r f
   no_name o e f r takes none is = (o, f, takes, rw none (is, refl))
 
   pub named : (o x : Taken) (n : Name) (e f g : Expander Listed) (r : Result Bool PlacedFault) → Takes line_reading e o f → name_in o ≡ Some n
-      → Emits line_reading A f x g → r ≡ closed_by kind directive (is_defined g n) x → InParentheses kind directive A e r g
+      → (emits : Emits line_reading A f x g) → r ≡ closed_by kind directive (is_defined g n) (item_call emits) x → InParentheses kind directive A e r g
   named o x n e f g r takes some emits is = (o, f, takes, rw some (x, emits, is))
 
   -- the whole operand
@@ -55,5 +57,5 @@ module _ (kind : LineKind) (directive : Location) (A : Answers) where
   in_parentheses o e f g r takes opens inside = (o, f, takes, rw (open_placed o opens).1 inside)
 
   pub neither : (o : Taken) (e f : Expander Listed) (r : Result Bool PlacedFault) → Takes line_reading e o f → name_in o ≡ None → is_open_paren o ≡ false
-      → r ≡ Err (unwanted_part directive o) → Operand kind directive A e r f
+      → r ≡ Err (fault_in (outermost_call f.list) (unwanted_part directive o)) → Operand kind directive A e r f
   neither o e f r takes none still is = (o, f, takes, rw (not_open_unplaced o still, none) (is, refl))

@@ -1,5 +1,5 @@
 -- The operand of a `defined` has one outcome.
-use Rattle.std.proofs.Common.{◌≡◌, ◌∙◌, Bool, sym, subst, Option, Some, None}
+use Rattle.std.proofs.Common.{◌≡◌, ◌∙◌, Bool, refl, sym, subst, Option, Some, None}
 use Rattle.std.specs.Prelude.{MatchOption, Result, Ok, Err}
 use Rattle.pp_lexer.specs.declared.token.Location.{Location}
 use Rattle.pp_model.specs.declared.place.Place.{Place}
@@ -9,9 +9,11 @@ use Rattle.pp_model.specs.Reading.{Expander, Listed, line_reading}
 use Rattle.pp_model.specs.Taking.{Takes}
 use Rattle.pp_model.specs.Calls.{Answers, paren_at}
 use Rattle.pp_model.specs.Emitting.{Emits}
-use Rattle.pp_model.specs.LineWords.{unwanted_part, name_in, is_defined, closed_by, InParentheses, Operand}
+use Rattle.pp_model.specs.ItemCall.{item_call}
+use Rattle.pp_model.specs.LineWords.{IsUnwanted, name_in, is_defined, closed_by, InParentheses, Operand}
 use Rattle.pp_model.specs.ExpansionLaws.{OneAnswer, OneOperand}
 use Rattle.pp_model.specs.declared.read.Taken.{Taken}
+use Rattle.pp_model.specs.declared.splice.CallPlace.{CallPlace}
 use Rattle.pp_model.specs.declared.word.LineKind.{LineKind}
 use Rattle.pp_model.proofs.TakingLemmas.{one_pair, line_reads_one, one_taking}
 use Rattle.pp_model.proofs.EmittingLemmas.{one_item}
@@ -27,14 +29,18 @@ module _ (A : Answers) (single : OneAnswer A) (kind : LineKind) (directive : Loc
   -- after the `(`
   abbrev Inside : Option Name → Taken → Expander Listed → Result Bool PlacedFault → Expander Listed → Type 0
   Inside name o f r g =
-      MatchOption name ((r ≡ Err (unwanted_part directive o)) × (g ≡ f))
-      (λ n. (x : Taken) × Emits line_reading A f x g × (r ≡ closed_by kind directive (is_defined g n) x))
+      MatchOption name (IsUnwanted directive o f r g)
+      (λ n. (x : Taken) × (emits : Emits line_reading A f x g) × (r ≡ closed_by kind directive (is_defined g n) (item_call emits) x))
+
+  closed_alike : (n : Name) (o p : Taken) (f g : Expander Listed) (k l : Option CallPlace) → o ≡ p → f ≡ g → k ≡ l
+      → closed_by kind directive (is_defined f n) k o ≡ closed_by kind directive (is_defined g n) l p
+  closed_alike n o p f g k l a b c = rw (a, b, c) refl
 
   one_inside : (m : Option Name) (o : Taken) (x y : Result Bool PlacedFault) (e f g : Expander Listed) → Inside m o e x f → Inside m o e y g → (x ≡ y) × (f ≡ g)
   one_inside None o x y e f g a b = one_pair a b
   one_inside (Some n) o x y e f g a b =
       let item = one_item line_reading line_reads_one A single a.0 b.0 e f g a.1 b.1 in
-      (a.2 ∙ rw (item.0, item.1) (sym b.2), item.1)
+      (a.2 ∙ closed_alike n a.0 b.0 f g (item_call a.1) (item_call b.1) item.0 item.1 item.2 ∙ sym b.2, item.1)
 
   one_in_parentheses : (x y : Result Bool PlacedFault) (e f g : Expander Listed) → InParentheses kind directive A e x f → InParentheses kind directive A e y g
       → (x ≡ y) × (f ≡ g)
@@ -45,7 +51,7 @@ module _ (A : Answers) (single : OneAnswer A) (kind : LineKind) (directive : Loc
   -- the whole operand
   abbrev Whole : Option Place → Option Name → Taken → Expander Listed → Result Bool PlacedFault → Expander Listed → Type 0
   Whole paren name o f r g =
-      MatchOption paren (MatchOption name ((r ≡ Err (unwanted_part directive o)) × (g ≡ f)) (λ n. (r ≡ Ok (is_defined f n)) × (g ≡ f)))
+      MatchOption paren (MatchOption name (IsUnwanted directive o f r g) (λ n. (r ≡ Ok (is_defined f n)) × (g ≡ f)))
       (λ paren. InParentheses kind directive A f r g)
 
   one_whole : (p : Option Place) (m : Option Name) (o : Taken) (x y : Result Bool PlacedFault) (e f g : Expander Listed) → Whole p m o e x f

@@ -149,11 +149,11 @@ module _ (A : Answers) (rules : Rules) (items : List Seen) (all : Each IsNoHash 
       let s : Steps A r (Some (taken.Token (unpainted token))) (reader_at rules items (position + 1)) =
       act_does A (step.Given (outcome.Token token)) (reader_at rules items (position + 1)) r (Some (taken.Token (unpainted token))) (reader_at rules items (position + 1)) a
       (refl, refl) in
-      itself (taken.Token (unpainted token)) (state_at rules items position) (state_at rules items (position + 1))
+      itself (taken.Token (unpainted token)) (taken.Token (unpainted token)) (state_at rules items position) (state_at rules items (position + 1))
       (taken_there position (taken.Token (unpainted token)) (taken.Token (unpainted token)) (position + 1)
       (here (taken.Token (unpainted token)) r (reader_at rules items (position + 1)) s)
       (taken_plain (text_number rules (reader_at rules items (position + 1)).line_offset) value location plain))
-      (opens_nothing (position + 1) value location)
+      (opens_nothing (position + 1) value location) refl
 
   ended_there : innermost (take 0 (blocks_at items (length items))) ≡ None
   ended_there = ap (λ (blocks : List Block). innermost (take 0 blocks)) (no_blocks items (length items) all)
@@ -176,8 +176,8 @@ module _ (A : Answers) (rules : Rules) (items : List Seen) (all : Each IsNoHash 
 
   gives_end : (position after : ℕ) → Reads A (reader_at rules items position) taken.End (reader_at rules items after)
       → Emits (source_reading A) A (state_at rules items position) taken.End (state_at rules items after)
-  gives_end position after r = itself taken.End (state_at rules items position) (state_at rules items after)
-      (taken_there position taken.End taken.End after r refl) refl
+  gives_end position after r = itself taken.End taken.End (state_at rules items position) (state_at rules items after)
+      (taken_there position taken.End taken.End after r refl) refl refl
 
   -- from a position on the run gives these values
   pub record GivesFrom (position : ℕ) (values : List TokenValue) : Type 0 where

@@ -3,7 +3,8 @@ use Rattle.std.proofs.Common.{◌≡◌, ◌∷◌, ◌++◌, [], List, refl, ap
 use Rattle.std.specs.Prelude.{if◌then◌else◌, Option, Some, Result, Ok, Err, Bool, true, false}
 use Rattle.std.proofs.lemmas.List.{append-nil}
 use Rattle.pp_lexer.specs.declared.token.Location.{Location}
-use Rattle.pp_model.specs.Places.{PlacedFault}
+use Rattle.pp_model.specs.Places.{PlacedFault, fault_in}
+use Rattle.pp_model.specs.ItemCall.{item_call}
 use Rattle.pp_model.specs.Reading.{Expander, Listed, line_reading}
 use Rattle.pp_model.specs.Taking.{Takes}
 use Rattle.pp_model.specs.Calls.{Answers}
@@ -31,13 +32,15 @@ after_words-end words ending = ap (λ (ws : List Word). let r : Words = record {
 -- the answer after a `)`, and the fault of what is none
 module _ (kind : LineKind) (directive : Location) (A : Answers) (n : Name) (found : Taken) (e f : Expander Listed) (emits : Emits line_reading A e found f)
   where
-    closes_by : (b : Bool) → is_close_paren found ≡ b → Closes kind directive A n e (if b then Ok (is_defined f n) else Err (unwanted_closing kind directive found)) f
+    closes_by : (b : Bool) → is_close_paren found ≡ b → Closes kind directive A n e
+        (if b then Ok (is_defined f n) else Err (fault_in (item_call emits) (unwanted_closing kind directive found))) f
     closes_by b is = record { found = found; emits = emits; answer = rw is refl }
 
     pub closes : (answer : Bool) → is_close_paren found ≡ true → answer ≡ is_defined f n → Closes kind directive A n e (Ok answer) f
     closes answer close is = rw is (closes_by true close)
 
-    pub does_not_close : (fault : PlacedFault) → is_close_paren found ≡ false → fault ≡ unwanted_closing kind directive found → Closes kind directive A n e (Err fault) f
+    pub does_not_close : (fault : PlacedFault) → is_close_paren found ≡ false → fault ≡ fault_in (item_call emits) (unwanted_closing kind directive found)
+        → Closes kind directive A n e (Err fault) f
     does_not_close fault still is = rw is (closes_by false still)
 
 -- an operand in parentheses whose name was taken

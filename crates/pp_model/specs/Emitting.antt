@@ -4,10 +4,10 @@ use Rattle.std.specs.Prelude.{Ok, Err}
 use Rattle.pp_lexer.specs.declared.token.PreprocessorError.TheVariants.{RecursionLimitReached}
 use Rattle.pp_lexer.specs.declared.token.Token.{Token}
 use Rattle.pp_expression.specs.Answers.{◌>>=◌}
-use Rattle.pp_model.specs.Places.{PlacedFault}
+use Rattle.pp_model.specs.Places.{PlacedFault, fault_in}
 use Rattle.pp_model.specs.Names.{Name}
 use Rattle.pp_model.specs.Definitions.{Definitions}
-use Rattle.pp_model.specs.SpliceList.{macro_before}
+use Rattle.pp_model.specs.SpliceList.{macro_before, outermost_call}
 use Rattle.pp_model.specs.Reading.{Reading, Expander, Opening, opening, argument_reading, reading_of}
 use Rattle.pp_model.specs.Taking.{Takes}
 use Rattle.pp_model.specs.Calls.{Answers, Site, misfit, no_call, refused, fits, Calls}
@@ -16,6 +16,7 @@ use Rattle.pp_model.specs.declared.read.Read.{Read}
 use Rattle.pp_model.specs.declared.read.Taken.{Taken}
 use Rattle.pp_model.specs.declared.read.Taken.TheVariants as taken
 use Rattle.pp_model.specs.declared.splice.CallPlace.{CallPlace}
+use Rattle.pp_model.specs.declared.splice.Entry.{Entry}
 
 -- where the macro is called whose name this token of this text is, if `__LINE__` gives this line within it
 abbrev pub called_at : ℕ → Token → ℕ → CallPlace
@@ -26,10 +27,19 @@ abbrev pub with_macro : {R : Type 0} → Opening → ℕ → List (List Read) �
 with_macro m line arguments expander =
     record expander { list = macro_before m.name m.definition (called_at m.text m.token line) arguments expander.list }
 
+-- what is found while these entries are left: an error is in the call of the outermost macro that is open among them
+-- or, if none is, in the call that it has
+abbrev pub found_among : List Entry → Taken → Taken
+found_among entries (taken.Fault fault) = taken.Fault (fault_in (outermost_call entries) fault)
+found_among entries o = o
+
 -- The next item: a token that opens no macro, an error or the end. `A` says what calls give.
 pub data Emits {R : Type 0} (I : Reading R) (A : Answers) : Expander R → Taken → Expander R → Type 0 where
   -- what opens no macro is the item
-  itself : (o : Taken) (e f : Expander R) → Takes I e o f → opening I f o ≡ None → Emits I A e o f
+  itself : (x o : Taken) (e f : Expander R)
+      → Takes I e x f → opening I f x ≡ None
+      → o ≡ found_among f.list x
+      → Emits I A e o f
   -- an object-like macro is replaced
   object : (x o : Taken) (m : Opening) (e f h : Expander R)
       → Takes I e x f → opening I f x ≡ Some m
@@ -48,7 +58,7 @@ pub data Emits {R : Type 0} (I : Reading R) (A : Answers) : Expander R → Taken
       → Takes I e x f → opening I f x ≡ Some m
       → m.definition.function_like ≡ true
       → Calls I A m.definition f (refused fault) g
-      → o ≡ taken.Fault fault
+      → o ≡ found_among g.list (taken.Fault fault)
       → Emits I A e o g
   -- a call is replaced
   call : (x o : Taken) (arguments : List (List Read)) (line : ℕ) (m : Opening) (e f g h : Expander R)

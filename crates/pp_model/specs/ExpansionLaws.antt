@@ -9,6 +9,7 @@ use Rattle.pp_model.specs.Reading.{Reading, Expander, Listed}
 use Rattle.pp_model.specs.Taking.{Takes}
 use Rattle.pp_model.specs.Calls.{Gathered, Gathers, Answers, Site, Called, Calls}
 use Rattle.pp_model.specs.Emitting.{Emits, Collects, Alones, Each}
+use Rattle.pp_model.specs.ItemCall.{item_call}
 use Rattle.pp_model.specs.LineWords.{Operand, Words, LineWords}
 use Rattle.pp_model.specs.declared.read.Read.{Read}
 use Rattle.pp_model.specs.declared.read.Taken.{Taken}
@@ -47,9 +48,11 @@ OneCall {R} I A =
     → Calls I A definition e y g
     → (x ≡ y) × (f ≡ g)
 
--- An expander has at most one next item.
+-- An expander has at most one next item, which comes from at most one call.
 abbrev pub OneItem : {R : Type 0} → Reading R → Answers → Type 0
-OneItem {R} I A = (x y : Taken) (e f g : Expander R) → Emits I A e x f → Emits I A e y g → (x ≡ y) × (f ≡ g)
+OneItem {R} I A =
+    (x y : Taken) (e f g : Expander R) (first : Emits I A e x f) (second : Emits I A e y g)
+    → (x ≡ y) × (f ≡ g) × (item_call first ≡ item_call second)
 
 -- An expander has at most one list of items, or one first fault.
 abbrev pub OneList : {R : Type 0} → Reading R → Answers → Type 0

@@ -28,7 +28,7 @@ use Rattle.pp_model.specs.Painting.{unpainted}
 use Rattle.pp_model.specs.Numbering.{as_line_number}
 use Rattle.pp_model.specs.Reading.{reading_of}
 use Rattle.pp_model.specs.Calls.{Answers}
-use Rattle.pp_model.specs.LineWords.{Words, LineWords, unexpected}
+use Rattle.pp_model.specs.LineWords.{Words, LineWords}
 use Rattle.pp_model.specs.declared.numbering.Numbering.{Numbering}
 use Rattle.pp_model.specs.declared.word.LineKind.TheVariants.{Condition, LineNumber}
 use Rattle.pp_model.specs.declared.word.Word.{Word}
@@ -41,7 +41,7 @@ symbol_of_value (Punct punct) = symbol.Punct punct
 symbol_of_value _ = symbol.Other
 
 abbrev pub symbol_of : Word → Symbol
-symbol_of (Plain read) = symbol_of_value read.token.value
+symbol_of (Plain value place) = symbol_of_value value
 symbol_of (Defined place (Ok answer)) = symbol.Number (if answer then 1 else 0)
 symbol_of (Defined place (Err fault)) = symbol.Fault
 
@@ -54,7 +54,7 @@ word_from_end left words = slice_get words.words (length words.words - left)
 
 -- the fault of a word that isn't allowed at its position; a `defined` is reported as the identifier that it begins with
 abbrev pub unwanted_word : Word → PlacedFault
-unwanted_word (Plain read) = unexpected read
+unwanted_word (Plain value place) = (UnexpectedToken value, place)
 unwanted_word (Defined place answer) = (UnexpectedToken (Ident defined_name), place)
 
 -- the fault of a `defined`'s operand, if it has one

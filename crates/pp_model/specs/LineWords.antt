@@ -5,15 +5,18 @@ use Rattle.pp_lexer.specs.declared.token.Location.{Location}
 use Rattle.pp_lexer.specs.declared.token.PreprocessorError.TheVariants.{UnexpectedToken, UnexpectedEndOfInput}
 use Rattle.pp_lexer.specs.declared.token.TokenValue.{TokenValue}
 use Rattle.pp_lexer.specs.declared.token.TokenValue.TheVariants.{Ident, Integer}
-use Rattle.pp_model.specs.Places.{PlacedFault, in_source, place_of}
+use Rattle.pp_model.specs.Places.{PlacedFault, in_source, place_of, place_in, fault_in}
 use Rattle.pp_model.specs.Names.{Name, is_same_name, defined_name}
+use Rattle.pp_model.specs.SpliceList.{outermost_call}
 use Rattle.pp_model.specs.Reading.{Expander, Listed, line_reading}
 use Rattle.pp_model.specs.Taking.{Takes}
 use Rattle.pp_model.specs.Calls.{Answers, is_right_paren, paren_at}
 use Rattle.pp_model.specs.Emitting.{Emits}
+use Rattle.pp_model.specs.ItemCall.{item_call}
 use Rattle.pp_model.specs.declared.read.Read.{Read}
 use Rattle.pp_model.specs.declared.read.Taken.{Taken}
 use Rattle.pp_model.specs.declared.read.Taken.TheVariants as taken
+use Rattle.pp_model.specs.declared.splice.CallPlace.{CallPlace}
 use Rattle.pp_model.specs.declared.word.LineKind.{LineKind}
 use Rattle.pp_model.specs.declared.word.LineKind.TheVariants.{Condition, LineNumber}
 use Rattle.pp_model.specs.declared.word.Word.{Word}
@@ -75,10 +78,15 @@ has_value test _ = false
 abbrev pub is_defined : Expander Listed → Name → Bool
 is_defined e name = is_some (e.reader.visible name)
 
--- the answer, if a `)` was read, and otherwise the fault of what was read
-abbrev pub closed_by : LineKind → Location → Bool → Taken → Result Bool PlacedFault
-closed_by kind directive answer o =
-    if has_value is_right_paren o then Ok answer else Err (unwanted_closing kind directive o)
+-- the answer, if a `)` was read, and otherwise the fault of what was read in this call
+abbrev pub closed_by : LineKind → Location → Bool → Option CallPlace → Taken → Result Bool PlacedFault
+closed_by kind directive answer call o =
+    if has_value is_right_paren o then Ok answer else Err (fault_in call (unwanted_closing kind directive o))
+
+-- no part of `defined` was taken: what was taken in its place has a fault, in the call that is open among the line's
+-- entries then, and nothing else is taken
+abbrev pub IsUnwanted : Location → Taken → Expander Listed → Result Bool PlacedFault → Expander Listed → Type 0
+IsUnwanted directive o f r g = (r ≡ Err (fault_in (outermost_call f.list) (unwanted_part directive o))) × (g ≡ f)
 
 -- what the operand of a `defined` gives after its `(`: the name is taken and not looked up, and the `)` is read with
 -- expansion
@@ -86,8 +94,9 @@ abbrev pub InParentheses : LineKind → Location → Answers
     → Expander Listed → Result Bool PlacedFault → Expander Listed → Type 0
 InParentheses kind directive A e r g =
     (o : Taken) × (f : Expander Listed) × Takes line_reading e o f
-    × MatchOption (name_in o) ((r ≡ Err (unwanted_part directive o)) × (g ≡ f))
-    (λ n. (x : Taken) × Emits line_reading A f x g × (r ≡ closed_by kind directive (is_defined g n) x))
+    × MatchOption (name_in o) (IsUnwanted directive o f r g)
+    (λ n. (x : Taken) × (emits : Emits line_reading A f x g)
+    × (r ≡ closed_by kind directive (is_defined g n) (item_call emits) x))
 
 -- what the operand of a `defined` gives: it is a name, alone or in parentheses. The name or the `(` is taken and not
 -- looked up.
@@ -96,7 +105,7 @@ abbrev pub Operand : LineKind → Location → Answers
 Operand kind directive A e r g =
     (o : Taken) × (f : Expander Listed) × Takes line_reading e o f
     × MatchOption (paren_at o)
-    (MatchOption (name_in o) ((r ≡ Err (unwanted_part directive o)) × (g ≡ f))
+    (MatchOption (name_in o) (IsUnwanted directive o f r g)
     (λ n. (r ≡ Ok (is_defined f n)) × (g ≡ f)))
     (λ paren. InParentheses kind directive A f r g)
 
@@ -107,6 +116,10 @@ pub record Words : Type 0 where
 
 abbrev pub word_before : Word → Words → Words
 word_before w rest = record rest { words = w ∷ rest.words }
+
+-- a token of the line as a word, with the call that it comes from if a macro gave it
+abbrev pub word_of : Option CallPlace → Read → Word
+word_of call read = Plain read.token.value (place_in call (place_of read))
 
 -- The words of the rest of a line, after expansion. After a `defined` whose operand has a fault nothing is read.
 pub data LineWords (kind : LineKind) (directive : Location) (A : Answers) : Expander Listed → Words → Type 0 where
@@ -119,22 +132,22 @@ pub data LineWords (kind : LineKind) (directive : Location) (A : Answers) : Expa
       → ws ≡ record { words = []; ending = Some f }
       → LineWords kind directive A e ws
   refused : (read : Read) (f : PlacedFault) (e g : Expander Listed) (ws : Words)
-      → Emits line_reading A e (taken.Token read) g → reading kind read ≡ fault f
-      → ws ≡ record { words = []; ending = Some f }
+      (emits : Emits line_reading A e (taken.Token read) g) → reading kind read ≡ fault f
+      → ws ≡ record { words = []; ending = Some (fault_in (item_call emits) f) }
       → LineWords kind directive A e ws
   plain : (read w : Read) (e g : Expander Listed) (rest ws : Words)
-      → Emits line_reading A e (taken.Token read) g → reading kind read ≡ word w
+      (emits : Emits line_reading A e (taken.Token read) g) → reading kind read ≡ word w
       → LineWords kind directive A g rest
-      → ws ≡ word_before (Plain w) rest
+      → ws ≡ word_before (word_of (item_call emits) w) rest
       → LineWords kind directive A e ws
   answered : (read : Read) (answer : Bool) (e g h : Expander Listed) (rest ws : Words)
-      → Emits line_reading A e (taken.Token read) g → reading kind read ≡ operator
+      (emits : Emits line_reading A e (taken.Token read) g) → reading kind read ≡ operator
       → Operand kind directive A g (Ok answer) h
       → LineWords kind directive A h rest
-      → ws ≡ word_before (Defined (place_of read) (Ok answer)) rest
+      → ws ≡ word_before (Defined (place_in (item_call emits) (place_of read)) (Ok answer)) rest
       → LineWords kind directive A e ws
   faulty : (read : Read) (f : PlacedFault) (e g h : Expander Listed) (ws : Words)
-      → Emits line_reading A e (taken.Token read) g → reading kind read ≡ operator
+      (emits : Emits line_reading A e (taken.Token read) g) → reading kind read ≡ operator
       → Operand kind directive A g (Err f) h
-      → ws ≡ record { words = Defined (place_of read) (Err f) ∷ []; ending = None }
+      → ws ≡ record { words = Defined (place_in (item_call emits) (place_of read)) (Err f) ∷ []; ending = None }
       → LineWords kind directive A e ws

@@ -1,9 +1,10 @@
 -- Places in texts, and errors with their places (docs/RULES.md, Errors).
-use Rattle.std.specs.Prelude.{ℕ}
+use Rattle.std.specs.Prelude.{ℕ, Option, Some, None}
 use Rattle.pp_lexer.specs.declared.token.Location.{Location}
 use Rattle.pp_lexer.specs.declared.token.PreprocessorError.{PreprocessorError}
 use Rattle.pp_model.specs.declared.place.Place.{Place}
 use Rattle.pp_model.specs.declared.read.Read.{Read}
+use Rattle.pp_model.specs.declared.splice.CallPlace.{CallPlace}
 
 -- the number of the source among the texts
 abbrev pub source_text : ℕ
@@ -11,11 +12,16 @@ source_text = 0
 
 -- a place of the source
 abbrev pub in_source : Location → Place
-in_source location = record { location = location; text = source_text }
+in_source location = record { location = location; text = source_text; call = None }
 
 -- the place of a token that is read
 abbrev pub place_of : Read → Place
-place_of read = record { location = read.token.location; text = read.text }
+place_of read = record { location = read.token.location; text = read.text; call = None }
+
+-- the place, in this call if there is one
+abbrev pub place_in : Option CallPlace → Place → Place
+place_in (Some call) place = record place { call = Some call }
+place_in None place = place
 
 -- an error with its place
 abbrev pub Fault : Type 0
@@ -25,10 +31,14 @@ Fault = PreprocessorError × Location
 abbrev pub PlacedFault : Type 0
 PlacedFault = PreprocessorError × Place
 
+-- the error, in this call if there is one
+abbrev pub fault_in : Option CallPlace → PlacedFault → PlacedFault
+fault_in call fault = (fault.0, place_in call fault.1)
+
 -- an error of the source
 abbrev pub placed : Fault → PlacedFault
 placed fault = (fault.0, in_source fault.1)
 
--- the error without the text
+-- the error without the text and the call
 abbrev pub unplaced : PlacedFault → Fault
 unplaced fault = (fault.0, fault.1.location)

@@ -4,7 +4,7 @@ ghost use Rattle.std.specs.Prelude.{◌≡◌, IfOk};
 
 use crate::place::PlacedFault;
 use crate::read::Read;
-use pp_lexer::token::Token;
+use pp_lexer::token::{Token, TokenValue};
 use std::alloc::{AllocError, Global};
 
 /// Returns a copy of a token. The error is that an allocation failed.
@@ -12,6 +12,16 @@ pub fn copy_token(alloc: Global, token: &Token) -> Result<Token, AllocError>
     ensures { IfOk result (λ copy. copy ≡ token.now) }
 {
     match token.clone(alloc) {
+        Ok(copy) => Ok(copy),
+        Err(_) => Err(AllocError),
+    }
+}
+
+/// Returns a copy of a token's value. The error is that an allocation failed.
+pub fn copy_value(alloc: Global, value: &TokenValue) -> Result<TokenValue, AllocError>
+    ensures { IfOk result (λ copy. copy ≡ value.now) }
+{
+    match value.clone(alloc) {
         Ok(copy) => Ok(copy),
         Err(_) => Err(AllocError),
     }

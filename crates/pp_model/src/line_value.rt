@@ -7,9 +7,9 @@ ghost use Rattle.pp_model.specs.LineValues.{TakesExpression, ended_early, line_o
 ghost use Rattle.pp_model.specs.LineValues.{word_from_end, words_after};
 ghost use Rattle.pp_model.specs.inner.LineValues.{fault_of_operand, reported_fault};
 
-use crate::copies::{copy_fault, copy_read};
+use crate::copies::{copy_fault, copy_value};
 use crate::place::{Place, PlacedFault};
-use crate::word::{Word, Words, unexpected};
+use crate::word::{Word, Words};
 use pp_expression::evaluator::evaluate;
 use pp_expression::symbol::{ExpressionFault, Found, Symbol, Value};
 use pp_lexer::token::{Location, PreprocessorError, Text, TokenValue};
@@ -20,7 +20,7 @@ fn symbol_of(word: &Word) -> Symbol
     ensures { result ≡ symbol_of word.now }
 {
     match word {
-        Word::Plain(read) => match &read.token.value {
+        Word::Plain(value, _) => match value {
             TokenValue::Integer(integer) => Symbol::Number(integer.value),
             TokenValue::Punct(punct) => Symbol::Punct(*punct),
             _ => Symbol::Other,
@@ -64,7 +64,10 @@ pub fn unwanted_word(alloc: Global, word: &Word) -> Result<PlacedFault, AllocErr
     ensures { IfOk result (λ fault. fault ≡ unwanted_word word.now) }
 {
     match word {
-        Word::Plain(read) => Ok(unexpected(copy_read(alloc, read)?)),
+        Word::Plain(value, place) => {
+            let value = copy_value(alloc, value)?;
+            Ok((PreprocessorError::UnexpectedToken(value), *place))
+        }
         Word::Defined(place, _) => {
             let name = Text::from(String::from_str(alloc, "defined")?);
             let value = TokenValue::Ident(name);
@@ -128,10 +131,14 @@ fn reported_fault(
 }
 
 impl Words {
-    // Passes the words of an expression, up to the last `left` words.
+    // Passes the words of an expression, up to the last `left` words. Most lines have no word after it.
     fn pass(&mut self, left: usize)
         ensures { self.new ≡ words_after left self.old }
     {
+        if left == 0 {
+            self.words.clear();
+            return;
+        }
         let count = self.words.len().saturating_sub(left);
         self.words.drain(..count);
     }

@@ -1,9 +1,10 @@
 //! Places in texts, and errors with their places.
 
 ghost use Rattle.std.specs.Prelude.{◌≡◌};
-ghost use Rattle.pp_model.specs.Places.{in_source, placed, unplaced};
+ghost use Rattle.pp_model.specs.Places.{fault_in, in_source, place_in, placed, unplaced};
 
 use crate::outcome::Fault;
+use crate::splice::CallPlace;
 use pp_lexer::token::{Location, PreprocessorError};
 
 /// The number of the source among the texts. The contents that are added have the numbers from 1 on, in their order.
@@ -16,6 +17,9 @@ pub struct Place {
     pub location: Location,
     /// The number of the text.
     pub text: u32,
+    /// Where the outermost macro was called that was open when an error or a word of a line was found there, if one
+    /// was.
+    pub call: Option<CallPlace>,
 }
 
 impl Place {
@@ -26,6 +30,18 @@ impl Place {
         Place {
             location,
             text: SOURCE_TEXT,
+            call: None,
+        }
+    }
+
+    /// Returns the place in this call, if there is one, in place of any call that it has.
+    pub fn in_call(self, call: Option<CallPlace>) -> Place
+        ensures { result ≡ place_in call self }
+    {
+        Place {
+            location: self.location,
+            text: self.text,
+            call: call.or(self.call),
         }
     }
 }
@@ -40,7 +56,14 @@ pub fn placed(fault: Fault) -> PlacedFault
     (fault.0, Place::in_source(fault.1))
 }
 
-/// Returns an error without its text.
+/// Returns the error in this call, if there is one, in place of any call that it has.
+pub fn fault_in(call: Option<CallPlace>, fault: PlacedFault) -> PlacedFault
+    ensures { result ≡ fault_in call fault }
+{
+    (fault.0, fault.1.in_call(call))
+}
+
+/// Returns an error without its text and its call.
 pub fn unplaced(fault: PlacedFault) -> Fault
     ensures { result ≡ unplaced fault }
 {

@@ -46,6 +46,7 @@ impl Read {
         Place {
             location: self.token.location,
             text: self.text,
+            call: None,
         }
     }
 }

@@ -1,23 +1,34 @@
 //! The words of an `#if`, `#elif` or `#line` line.
 
 ghost use Rattle.std.specs.Prelude.{◌≡◌, is_some};
-ghost use Rattle.pp_model.specs.LineWords.{reading, unknown_name, unexpected, name_in_value};
+ghost use Rattle.pp_model.specs.LineWords.{reading, unknown_name, unexpected, name_in_value, word_of};
 ghost use Rattle.pp_model.specs.Names.{is_identifier, defined_name};
 ghost use Rattle.pp_model.specs.WordReadings.{reading_named, unwanted_read, IsOf};
 
 use crate::names::is_defined_name;
 use crate::place::{Place, PlacedFault};
 use crate::read::Read;
+use crate::splice::CallPlace;
 use pp_lexer::token::{Integer, PreprocessorError, Token, TokenValue};
 use std::marker::Model;
 
 /// A word of a line that is evaluated (GLSL ES 3.20 section 3.4).
 #[derive(Drop)]
 pub enum Word {
-    /// A token other than an identifier, or the number 0 for an unknown identifier.
-    Plain(Read),
+    /// A token other than an identifier, or the number 0 for an unknown identifier, with its place.
+    Plain(TokenValue, Place),
     /// A `defined` at this place with its operand: whether the name is defined, or the fault of the operand.
     Defined(Place, Result<bool, PlacedFault>),
+}
+
+impl Word {
+    /// Returns the word that a token is, which comes from this call if a macro gave it.
+    pub fn of_read(read: Read, call: Option<CallPlace>) -> Word
+        ensures { result ≡ word_of call read }
+    {
+        let place = read.place().in_call(call);
+        Word::Plain(read.token.value, place)
+    }
 }
 
 /// The words of a line, and the fault that ends their reading, if there is one.

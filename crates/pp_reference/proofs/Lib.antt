@@ -1,5 +1,6 @@
 pub mod FetchLemmas
 pub mod TurnLemmas
+pub mod EmittedWordLemmas
 pub mod SourceTextLemmas
 pub mod SourceStepLemmas
 pub mod RunProgramLemmas

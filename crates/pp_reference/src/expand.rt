@@ -2,14 +2,15 @@
 
 ghost use Rattle.std.specs.Prelude.{◌≡◌, ◌≤◌, IfOk};
 ghost use Rattle.pp_reference.specs.inner.Changes.{meaning_of};
-ghost use Rattle.pp_model.specs.Emitting.{Emits, Collects, Each, Alone, answers_at, expansion_limit};
+ghost use Rattle.pp_model.specs.Emitting.{Collects, Each, Alone, answers_at, expansion_limit};
 ghost use Rattle.pp_model.specs.Reading.{reading_of, argument_reading, masked_names};
-ghost use Rattle.pp_reference.specs.inner.Seen.{seen};
+ghost use Rattle.pp_reference.specs.inner.Seen.{seen, EmitsFrom};
 ghost use Rattle.pp_reference.specs.inner.SeenList.{list_state};
 
 use crate::calls::misfit;
 use crate::copies::{copy_names, copy_reads};
 use crate::definitions::Definitions;
+use crate::emitted::Emitted;
 use crate::expander::{Expander, MacroCall, Turn};
 use crate::lists::{ReadList, ReadLists};
 use crate::reader::{ArgumentReader, Reader};
@@ -140,7 +141,8 @@ fn collect(
     let mut items = Vec::new(alloc);
     'items: loop {
         budget.spend()?;
-        match emit_alone(expander, levels, budget)? {
+        let taken = emit_alone(expander, levels, budget)?.taken;
+        match taken {
             Taken::Token(read) => items.push(read)?,
             Taken::Fault(fault) => return Ok(Err(fault)),
             Taken::End => return Ok(Ok(ReadList { items })),
@@ -205,20 +207,20 @@ fn emit_alone(
     expander: &mut Expander<ArgumentReader<'_>>,
     levels: u32,
     budget: &mut Budget,
-) -> Result<Taken, Stop>
-    ensures emits { IfOk result (λ taken. Emits argument_reading (answers_at levels)
-        (seen list_state expander.old) taken (seen list_state expander.new)) }
+) -> Result<Emitted, Stop>
+    ensures emits { IfOk result (λ item. EmitsFrom argument_reading (answers_at levels)
+        (seen list_state expander.old) item (seen list_state expander.new)) }
     ensures budget { budget.new.steps ≤ budget.old.steps }
 {
     'turns: loop {
         budget.spend()?;
         match expander.turn(budget)? {
-            Turn::Item(taken) => return Ok(taken),
+            Turn::Item(item) => return Ok(item),
             Turn::Replaced => {}
             Turn::Called(call) => match answer_alone(expander, &call, levels, budget) {
                 Ok(answer) => {
-                    if let Some(fault) = expander.resolve(call, answer)? {
-                        return Ok(Taken::Fault(fault));
+                    if let Some(item) = expander.resolve(call, answer)? {
+                        return Ok(item);
                     }
                 }
                 Err(stop) => {
@@ -266,20 +268,20 @@ pub fn emit<R: Reader>(
     expander: &mut Expander<R>,
     levels: u32,
     budget: &mut Budget,
-) -> Result<Taken, Stop>
-    ensures emits { IfOk result (λ taken. Emits R.reading (answers_at levels)
-        (seen R.state expander.old) taken (seen R.state expander.new)) }
+) -> Result<Emitted, Stop>
+    ensures emits { IfOk result (λ item. EmitsFrom R.reading (answers_at levels)
+        (seen R.state expander.old) item (seen R.state expander.new)) }
     ensures budget { budget.new.steps ≤ budget.old.steps }
 {
     'turns: loop {
         budget.spend()?;
         match expander.turn(budget)? {
-            Turn::Item(taken) => return Ok(taken),
+            Turn::Item(item) => return Ok(item),
             Turn::Replaced => {}
             Turn::Called(call) => match answer_in(expander, &call, levels, budget) {
                 Ok(answer) => {
-                    if let Some(fault) = expander.resolve(call, answer)? {
-                        return Ok(Taken::Fault(fault));
+                    if let Some(item) = expander.resolve(call, answer)? {
+                        return Ok(item);
                     }
                 }
                 Err(stop) => {

@@ -10,6 +10,7 @@ ghost use Rattle.pp_reference.specs.inner.Seen.{seen, turn_after_name, Resolves,
 
 use crate::calls::{Gathered, arguments_of, paren_at};
 use crate::copies::{copy_definition, copy_names};
+use crate::emitted::{Emitted, emitted_among};
 use crate::list;
 use crate::list::{open_names, outermost_call, take_token};
 use crate::lists::ReadLists;
@@ -88,7 +89,7 @@ pub struct MacroCall {
 #[derive(Drop)]
 pub enum Turn {
     /// An item.
-    Item(Taken),
+    Item(Emitted),
     /// An object-like macro was replaced.
     Replaced,
     /// A call was gathered.
@@ -220,22 +221,23 @@ fn taken_among(names: &[Text], taken: Taken) -> Taken
     }
 }
 
-/// The turn at the name of a function-like macro. `found` is what follows the name.
-fn turn_after_name(taken: Taken, opening: Opening, found: AfterName) -> Turn
-    ensures { result ≡ turn_after_name taken opening found }
+/// The turn at the name of a function-like macro. `name` is the name as an item, `found` is what follows it, and
+/// `after` are the entries that are left then.
+fn turn_after_name(name: Emitted, opening: Opening, found: AfterName, after: &[Entry]) -> Turn
+    ensures { result ≡ turn_after_name name opening found after.now }
 {
     match found {
         AfterName::NoCall => {
             drop(opening);
-            Turn::Item(taken)
+            Turn::Item(name)
         }
         AfterName::Broken(fault) => {
-            drop(taken);
+            drop(name);
             drop(opening);
-            Turn::Item(Taken::Fault(fault))
+            Turn::Item(emitted_among(after, Taken::Fault(fault)))
         }
         AfterName::Whole(site) => {
-            drop(taken);
+            drop(name);
             Turn::Called(MacroCall { opening, site })
         }
     }
@@ -353,13 +355,13 @@ impl<R: Reader> Expander<R> {
         )
     }
 
-    /// Replaces a call by its answer, or returns the fault of the answer.
+    /// Replaces a call by its answer, or returns the fault of the answer as an item.
     pub fn resolve(
         &mut self,
         call: MacroCall,
         answer: Result<ReadLists, PlacedFault>,
-    ) -> Result<Option<PlacedFault>, AllocError>
-        ensures { IfOk result (λ fault. Resolves call answer (seen R.state self.old) fault
+    ) -> Result<Option<Emitted>, AllocError>
+        ensures { IfOk result (λ item. Resolves call answer (seen R.state self.old) item
             (seen R.state self.new)) }
     {
         match answer {
@@ -373,7 +375,7 @@ impl<R: Reader> Expander<R> {
             }
             Err(fault) => {
                 drop(call);
-                Ok(Some(fault))
+                Ok(Some(emitted_among(&self.list, Taken::Fault(fault))))
             }
         }
     }
@@ -467,7 +469,7 @@ impl<R: Reader> Expander<R> {
     {
         let taken = self.take(budget)?;
         match self.opening(&taken) {
-            Ok(None) => Ok(Turn::Item(taken)),
+            Ok(None) => Ok(Turn::Item(emitted_among(&self.list, taken))),
             Ok(Some(opening)) => self.turn_at(taken, opening, budget),
             Err(_) => {
                 drop(taken);
@@ -487,10 +489,12 @@ impl<R: Reader> Expander<R> {
             self.replace(opening)?;
             return Ok(Turn::Replaced);
         }
+        let call = outermost_call(&self.list);
+        let name = Emitted { taken, call };
         match self.find_call(budget) {
-            Ok(found) => Ok(turn_after_name(taken, opening, found)),
+            Ok(found) => Ok(turn_after_name(name, opening, found, &self.list)),
             Err(stop) => {
-                drop(taken);
+                drop(name);
                 drop(opening);
                 Err(stop)
             }

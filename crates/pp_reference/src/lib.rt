@@ -8,6 +8,7 @@ pub mod conversion;
 pub mod copies;
 pub mod define_line;
 pub mod definitions;
+pub mod emitted;
 pub mod expand;
 pub mod expander;
 pub mod item;

@@ -13,15 +13,18 @@ ghost use Rattle.pp_reference.specs.inner.Seen.{seen};
 ghost use Rattle.pp_reference.specs.inner.SeenList.{line_state};
 
 use crate::definitions::Definitions;
+use crate::emitted::Emitted;
 use crate::expand::emit;
 use crate::expander::Expander;
+use crate::list::outermost_call;
 use crate::reader::LineReader;
 use crate::stop::{Budget, Stop};
 use pp_lexer::token::{Location, PreprocessorError, Text, Token, TokenValue};
 use pp_model::numbering::Numbering;
 use pp_model::parentheses::{is_left_paren, is_right_paren};
-use pp_model::place::{Place, PlacedFault};
+use pp_model::place::{Place, PlacedFault, fault_in};
 use pp_model::read::{Read, Taken};
+use pp_model::splice::CallPlace;
 use pp_model::word::{LineKind, Word, WordReading, Words, reading_of, unwanted_reading};
 use std::alloc::{AllocError, Global};
 
@@ -101,12 +104,13 @@ fn closed_operand(
         (seen line_state expander.old) answer (seen line_state expander.new)) }
     ensures budget { budget.new.steps ≤ budget.old.steps }
 {
-    let found = emit(expander, levels, budget)?;
-    if is_close_paren(&found) {
-        drop(found);
+    let Emitted { taken, call } = emit(expander, levels, budget)?;
+    if is_close_paren(&taken) {
+        drop(taken);
         Ok(Ok(is_defined(expander, name)))
     } else {
-        Ok(Err(unwanted_word(kind, directive, found)))
+        let fault = unwanted_word(kind, directive, taken);
+        Ok(Err(fault_in(call, fault)))
     }
 }
 
@@ -126,7 +130,7 @@ fn operand_in_parentheses(
     let found = expander.take(budget)?;
     match name_or_fault(directive, found) {
         Ok(name) => closed_operand(kind, directive, expander, &name, levels, budget),
-        Err(fault) => Ok(Err(fault)),
+        Err(fault) => Ok(Err(fault_in(outermost_call(&expander.list), fault))),
     }
 }
 
@@ -149,7 +153,7 @@ fn operand(
     }
     match name_or_fault(directive, found) {
         Ok(name) => Ok(Ok(is_defined(expander, &name))),
-        Err(fault) => Ok(Err(fault)),
+        Err(fault) => Ok(Err(fault_in(outermost_call(&expander.list), fault))),
     }
 }
 
@@ -170,15 +174,16 @@ fn read_into(
 {
     'words: loop {
         budget.spend()?;
-        let read = match emit(expander, levels, budget)? {
+        let Emitted { taken, call } = emit(expander, levels, budget)?;
+        let read = match taken {
             Taken::Token(read) => read,
             Taken::Fault(fault) => return Ok(Some(fault)),
             Taken::End => return Ok(None),
         };
-        let place = read.place();
+        let place = read.place().in_call(call);
         match reading_of(kind, read) {
-            WordReading::Refused(fault) => return Ok(Some(fault)),
-            WordReading::Word(word) => words.push(Word::Plain(word))?,
+            WordReading::Refused(fault) => return Ok(Some(fault_in(call, fault))),
+            WordReading::Word(word) => words.push(Word::of_read(word, call))?,
             WordReading::Operator(operator) => {
                 drop(operator);
                 match operand(kind, directive, expander, levels, budget)? {

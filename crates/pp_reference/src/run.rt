@@ -178,8 +178,8 @@ fn reply_to(
     match call {
         Call::AddDefine(name, content) => add_define(alloc, rules, expander, name, content),
         Call::Next => {
-            let taken = emit(expander, expansion_limit(), budget)?;
-            Ok(Reply::Given(taken.into_item()))
+            let item = emit(expander, expansion_limit(), budget)?;
+            Ok(Reply::Given(item.taken.into_item()))
         }
     }
 }

@@ -3,19 +3,22 @@ use Rattle.std.proofs.Common.{◌≡◌, Bool, true, false, [], ◌∷◌, refl,
 use Rattle.std.specs.Prelude.{Result, Ok, Err, is_ok}
 use Rattle.pp_lexer.specs.declared.token.Location.{Location}
 use Rattle.pp_lexer.specs.declared.token.TokenValue.{TokenValue}
-use Rattle.pp_model.specs.Places.{PlacedFault, place_of}
+use Rattle.pp_model.specs.Places.{PlacedFault, place_of, place_in, fault_in}
+use Rattle.pp_model.specs.SpliceList.{outermost_call}
+use Rattle.pp_model.specs.ItemCall.{item_call}
+use Rattle.pp_model.specs.declared.splice.CallPlace.{CallPlace}
 use Rattle.pp_model.specs.Names.{Name, is_same_name, defined_name}
 use Rattle.pp_model.specs.Reading.{Expander, Listed, line_reading}
 use Rattle.pp_model.specs.Taking.{Takes}
 use Rattle.pp_model.specs.Calls.{Answers, is_left_paren, is_right_paren}
 use Rattle.pp_model.specs.Emitting.{Emits}
-use Rattle.pp_model.specs.LineWords.{WordReading, operator, word, fault, reading, unwanted_part, name_in, has_value, is_defined, closed_by, InParentheses, Operand, Words, word_before, LineWords, ended, failed, refused, plain, answered, faulty}
+use Rattle.pp_model.specs.LineWords.{WordReading, operator, word, fault, reading, unwanted_part, name_in, has_value, is_defined, closed_by, InParentheses, Operand, Words, word_before, word_of, LineWords, ended, failed, refused, plain, answered, faulty}
 use Rattle.pp_model.specs.ExistenceLaws.{AnAnswer, AnOperand, ALine}
 use Rattle.pp_model.specs.declared.read.Read.{Read}
 use Rattle.pp_model.specs.declared.read.Taken.{Taken}
 use Rattle.pp_model.specs.declared.read.Taken.TheVariants as taken
 use Rattle.pp_model.specs.declared.word.LineKind.{LineKind}
-use Rattle.pp_model.specs.declared.word.Word.TheVariants.{Plain, Defined}
+use Rattle.pp_model.specs.declared.word.Word.TheVariants.{Defined}
 use Rattle.pp_model.proofs.OperandCases.{no_name, named, name, in_parentheses, neither}
 use Rattle.pp_model.proofs.existence.Turns.{is_token, GoesOn, goes_on}
 use Rattle.pp_model.proofs.existence.ListLemmas.{HasFinite, every_listed}
@@ -77,28 +80,29 @@ module _ (kind : LineKind) (directive : Location) (A : Answers) where
     inside : InParentheses kind directive A e result after
     goes : is_ok result ≡ true → Worded after
 
-  answered_closed : (answer : Bool) (o : Taken) → is_ok (closed_by kind directive answer o) ≡ true → has_value is_right_paren o ≡ true
-  answered_closed answer o k = closes (has_value is_right_paren o) refl
+  answered_closed : (answer : Bool) (called : Option CallPlace) (o : Taken) → is_ok (closed_by kind directive answer called o) ≡ true
+      → has_value is_right_paren o ≡ true
+  answered_closed answer called o k = closes (has_value is_right_paren o) refl
     where
       closes : (b : Bool) → has_value is_right_paren o ≡ b → has_value is_right_paren o ≡ true
       closes true v = v
-      closes false v = let unanswered : is_ok (closed_by kind directive answer o) ≡ false = rw v refl in cc
+      closes false v = let unanswered : is_ok (closed_by kind directive answer called o) ≡ false = rw v refl in cc
 
   named_by : (e : Expander Listed) → (a : Naming e) → (m : Option Name) → name_in a.given ≡ m → Enclosing e
   named_by e a None q = record {
-    result = Err (unwanted_part directive a.given);
+    result = Err (fault_in (outermost_call a.after.list) (unwanted_part directive a.given));
     after = a.after;
-    inside = no_name kind directive A a.given e a.after (Err (unwanted_part directive a.given)) a.takes q refl;
+    inside = no_name kind directive A a.given e a.after _ a.takes q refl;
     goes = λ k. cc;
   }
   named_by e a (Some n) q =
       let c = a.goes (name_is_token a.given n q) in
-      let result = closed_by kind directive (is_defined c.after n) c.given in
+      let result = closed_by kind directive (is_defined c.after n) (item_call c.emits) c.given in
       record {
         result = result;
         after = c.after;
         inside = named kind directive A a.given c.given n e a.after c.after result a.takes q c.emits refl;
-        goes = λ k. c.goes (answered_closed (is_defined c.after n) c.given k);
+        goes = λ k. c.goes (answered_closed (is_defined c.after n) (item_call c.emits) c.given k);
       }
 
   parenthesized : (e : Expander Listed) (a : Asking e) → name_in a.given ≡ None → (b : Bool) → has_value is_left_paren a.given ≡ b → Operating e
@@ -112,9 +116,9 @@ module _ (kind : LineKind) (directive : Location) (A : Answers) where
         goes = inside.goes;
       }
   parenthesized e a q false p = record {
-    result = Err (unwanted_part directive a.given);
+    result = Err (fault_in (outermost_call a.after.list) (unwanted_part directive a.given));
     after = a.after;
-    operand = neither kind directive A a.given e a.after (Err (unwanted_part directive a.given)) a.takes q p refl;
+    operand = neither kind directive A a.given e a.after _ a.takes q p refl;
     goes = λ k. cc;
   }
 
@@ -129,14 +133,14 @@ module _ (kind : LineKind) (directive : Location) (A : Answers) where
 
   -- ---- words
 
-  operated : (e g : Expander Listed) (read : Read) → Emits line_reading A e (taken.Token read) g → reading kind read ≡ operator → (o : Operating g)
+  operated : (e g : Expander Listed) (read : Read) (i : Emits line_reading A e (taken.Token read) g) → reading kind read ≡ operator → (o : Operating g)
       → (r : Result Bool PlacedFault) → o.result ≡ r → Worded e
   operated e g read i p o (Ok answer) q =
       let rest = o.goes (rw q refl) in
-      let words = word_before (Defined (place_of read) (Ok answer)) rest.0 in
+      let words = word_before (Defined (place_in (item_call i) (place_of read)) (Ok answer)) rest.0 in
       (words, answered read answer e g o.after rest.0 words i p (rw q at o.operand) rest.1 refl)
   operated e g read i p o (Err f) q =
-      let words : Words = record { words = Defined (place_of read) (Err f) ∷ []; ending = None } in
+      let words : Words = record { words = Defined (place_in (item_call i) (place_of read)) (Err f) ∷ []; ending = None } in
       (words, faulty read f e g o.after words i p (rw q at o.operand) refl)
 
   read_token : (e g : Expander Listed) (read : Read) → Emits line_reading A e (taken.Token read) g → Lined g → (r : WordReading) → reading kind read ≡ r
@@ -145,10 +149,10 @@ module _ (kind : LineKind) (directive : Location) (A : Answers) where
       let o = asked g l.asking (name_in l.asking.given) refl in
       operated e g read i p o o.result refl
   read_token e g read i l (word w) p =
-      let words = word_before (Plain w) l.worded.0 in
+      let words = word_before (word_of (item_call i) w) l.worded.0 in
       (words, plain read w e g l.worded.0 words i p l.worded.1 refl)
   read_token e g read i l (fault f) p =
-      let words : Words = record { words = []; ending = Some f } in
+      let words : Words = record { words = []; ending = Some (fault_in (item_call i) f) } in
       (words, refused read f e g words i p refl)
 
   first_word : (e g : Expander Listed) (x : Taken) → Emits line_reading A e x g → (is_token x ≡ true → Lined g) → Worded e

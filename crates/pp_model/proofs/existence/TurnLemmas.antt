@@ -1,17 +1,18 @@
 -- One turn of an expander: what is taken opens no macro, or it leads to an expander that goes on.
-use Rattle.std.proofs.Common.{◌≡◌, ℕ, zero, suc, ◌≤◌, ◌<◌, Bool, true, false, List, [], refl, arith, Option, Some, None}
+use Rattle.std.proofs.Common.{◌≡◌, ◌∙◌, sym, ℕ, zero, suc, ◌≤◌, ◌<◌, Bool, true, false, List, [], refl, arith, Option, Some, None}
 use Rattle.pp_model.specs.Names.{is_in}
 use Rattle.pp_model.specs.Painting.{taken_among}
 use Rattle.pp_model.specs.Reading.{Reading, Expander, masked_names, Opening, opening}
 use Rattle.pp_model.specs.Taking.{Takes, held}
 use Rattle.pp_model.specs.Calls.{Answers, Called, no_call, refused, fits, Calls}
-use Rattle.pp_model.specs.Emitting.{with_macro, Emits, itself, object, name_alone, call_refused, call}
+use Rattle.pp_model.specs.Emitting.{found_among, with_macro, Emits, itself, object, name_alone, call_refused, call}
 use Rattle.pp_model.specs.ApartMarks.{IsRest}
 use Rattle.pp_model.specs.declared.read.Read.{Read}
 use Rattle.pp_model.specs.declared.read.Taken.{Taken}
 use Rattle.pp_model.specs.declared.read.Taken.TheVariants as taken
 use Rattle.pp_model.proofs.OpenNamesLemmas.{opening_known, opening_not_masked}
 use Rattle.pp_model.proofs.ApartMarksLemmas.{call_leaves_rest}
+use Rattle.pp_model.proofs.FoundLemmas.{found_same}
 use Rattle.pp_model.proofs.existence.Turns.{is_token, Item, GoesOn, goes_on, next_item, Here, token_painted}
 use Rattle.pp_model.proofs.existence.CoveredLists.{still_closed, Front, moved, here, front_goes, front_unheld, size}
 use Rattle.pp_model.proofs.existence.TakingLemmas.{taking, Comes}
@@ -73,9 +74,9 @@ module _ {R : Type 0} {I : Reading R} {A : Answers} {Fine : R → Type 0} {left 
     goes = λ k. held_goes fuel again y f g room found.0 found.1;
   }
   next_called fuel again x e f t room m p q front (refused fault) g calls found = record {
-    item = taken.Fault fault;
+    item = found_among g.list (taken.Fault fault);
     after = g;
-    emits = call_refused x (taken.Fault fault) fault m e f g t p q calls refl;
+    emits = call_refused x (found_among g.list (taken.Fault fault)) fault m e f g t p q calls refl;
     fine = found;
     goes = λ k. cc;
   }
@@ -101,7 +102,13 @@ module _ {R : Type 0} {I : Reading R} {A : Answers} {Fine : R → Type 0} {left 
       goes k = front_goes c f (front k)
 
       by : (o : Option Opening) → opening I f x ≡ o → Next e
-      by None q = record { item = x; after = f; emits = itself x e f t q; fine = fine; goes = goes }
+      by None q = record {
+        item = found_among f.list x;
+        after = f;
+        emits = itself x (found_among f.list x) e f t q refl;
+        fine = fine;
+        goes = λ k. goes (sym (found_same is_token (λ _ _. refl) f.list x) ∙ k);
+      }
       by (Some m) q = opens m q
 
       next : Next e

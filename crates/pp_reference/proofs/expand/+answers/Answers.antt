@@ -9,7 +9,6 @@ use Rattle.pp_model.specs.Reading.{Expander, Listed, argument_reading}
 use Rattle.pp_reference.specs.inner.Seen.{seen}
 use Rattle.pp_reference.specs.inner.SeenList.{list_state}
 use Rattle.pp_reference.specs.declared.expander.Turn.TheVariants.{Item, Replaced, Called}
-use Rattle.pp_model.specs.declared.read.Taken.TheVariants as taken
 use Rattle.pp_model.proofs.CollectLemmas.{after_items-before, after_lists-before, after_items-end, each_at-failed, each_at-more, each_at-end}
 use Rattle.pp_model.specs.declared.read.Read.{Read}
 use Rattle.pp_model.proofs.LevelLemmas.{answers_each}
@@ -36,37 +35,37 @@ answer_alone-returns-clause-answers t c =
 
 pub emit_alone-returns-in-Item-clause-emits : goal.emit_alone-returns-in-Item-clause-emits
 emit_alone-returns-in-Item-clause-emits t c =
-    c.turns.invariant.goes_on c.in-Item.taken (seen list_state c.turn.new.self)
-    (turns_mean argument_reading (answers_at c.args.levels) (Item c.in-Item.taken) (seen list_state c.turns.expander)
-    (seen list_state c.turn.new.self) (rw c.in-Item.is at c.in_ok-taken.ensures.turns))
+    c.turns.invariant.goes_on c.in-Item.item (seen list_state c.turn.new.self)
+    (turns_mean argument_reading (answers_at c.args.levels) (Item c.in-Item.item) (seen list_state c.turns.expander)
+    (seen list_state c.turn.new.self) (rw c.in-Item.is at c.in_ok-item.ensures.turns))
 
 pub emit_alone-turns-preserved-in-Replaced : goal.emit_alone-turns-preserved-in-Replaced
 emit_alone-turns-preserved-in-Replaced t c = record {
-  goes_on = λ o end h. c.turns.invariant.goes_on o end (turns_mean argument_reading (answers_at c.args.levels) Replaced
-      (seen list_state c.turns.expander) (seen list_state c.turn.new.self) (rw c.in-Replaced.is at c.in_ok-taken.ensures.turns) o end h);
+  goes_on = λ item end h. c.turns.invariant.goes_on item end (turns_mean argument_reading (answers_at c.args.levels) Replaced
+      (seen list_state c.turns.expander) (seen list_state c.turn.new.self) (rw c.in-Replaced.is at c.in_ok-item.ensures.turns) item end h);
   spent = omega arith;
 }
 
 pub emit_alone-returns-in-Some-clause-emits : goal.emit_alone-returns-in-Some-clause-emits
 emit_alone-returns-in-Some-clause-emits t c =
-    c.turns.invariant.goes_on (taken.Fault c.in-Some.fault) (seen list_state c.resolve.new.self)
+    c.turns.invariant.goes_on c.in-Some.item (seen list_state c.resolve.new.self)
     (resolves_fault argument_reading (answers_at c.args.levels) (seen list_state c.turns.expander) (seen list_state c.turn.new.self)
-    (seen list_state c.resolve.new.self) c.in-Called.call c.in-Ok.answer c.in-Some.fault
+    (seen list_state c.resolve.new.self) c.in-Called.call c.in-Ok.answer c.in-Some.item
     (turns_mean argument_reading (answers_at c.args.levels) (Called c.in-Called.call) (seen list_state c.turns.expander)
-    (seen list_state c.turn.new.self) (rw c.in-Called.is at c.in_ok-taken.ensures.turns))
+    (seen list_state c.turn.new.self) (rw c.in-Called.is at c.in_ok-item.ensures.turns))
     c.in-Ok.ensures.answers
-    (rw c.in-Some.is at c.in_ok-fault-in-Ok.ensures))
+    (rw c.in-Some.is at c.in_ok-item-in-Ok.ensures))
 
 pub emit_alone-turns-preserved : goal.emit_alone-turns-preserved
 emit_alone-turns-preserved t c = record {
-  goes_on = λ o end h.
-      c.turns.invariant.goes_on o end
+  goes_on = λ item end h.
+      c.turns.invariant.goes_on item end
       (resolves_next argument_reading (answers_at c.args.levels) (seen list_state c.turns.expander) (seen list_state c.turn.new.self)
       (seen list_state c.resolve.new.self) c.in-Called.call c.in-Ok.answer
       (turns_mean argument_reading (answers_at c.args.levels) (Called c.in-Called.call) (seen list_state c.turns.expander)
-      (seen list_state c.turn.new.self) (rw c.in-Called.is at c.in_ok-taken.ensures.turns))
+      (seen list_state c.turn.new.self) (rw c.in-Called.is at c.in_ok-item.ensures.turns))
       c.in-Ok.ensures.answers
-      (rw c.in_default.is at c.in_ok-fault-in-Ok.ensures) o end h);
+      (rw c.in_default.is at c.in_ok-item-in-Ok.ensures) item end h);
   spent = omega arith;
 }
 
@@ -75,18 +74,18 @@ collect-items-preserved t c = record {
   goes_on = λ out h.
       rw (c.in_ok-push-in-Token.ensures.items, ← after_items-before c.items.items.items c.in-Token.read out)
       (c.items.invariant.goes_on (read_before c.in-Token.read out)
-      (item c.in-Token.read out _ _ _ (rw c.in-Token.is at c.in_ok-read.ensures.emits) h refl));
+      (item c.in-Token.read out _ _ _ (rw c.in-Token.is at c.in_ok-taken.ensures.emits.emits) h refl));
   spent = omega arith;
 }
 
 pub collect-returns-in-Fault-clause-collects : goal.collect-returns-in-Fault-clause-collects
 collect-returns-in-Fault-clause-collects t c =
-    c.items.invariant.goes_on (Err c.in-Fault.fault) (failed c.in-Fault.fault _ _ _ (rw c.in-Fault.is at c.in_ok-read.ensures.emits) refl)
+    c.items.invariant.goes_on (Err c.in-Fault.fault) (failed c.in-Fault.fault _ _ _ (rw c.in-Fault.is at c.in_ok-taken.ensures.emits.emits) refl)
 
 pub collect-returns-in-End-clause-collects : goal.collect-returns-in-End-clause-collects
 collect-returns-in-End-clause-collects t c =
     rw (← after_items-end c.items.items.items)
-    (c.items.invariant.goes_on (Ok []) (done _ _ _ (rw c.in-End.is at c.in_ok-read.ensures.emits) refl))
+    (c.items.invariant.goes_on (Ok []) (done _ _ _ (rw c.in-End.is at c.in_ok-taken.ensures.emits.emits) refl))
 
 pub expand_argument-returns-clause-alone : goal.expand_argument-returns-clause-alone
 expand_argument-returns-clause-alone t c =

@@ -2,12 +2,12 @@ use Rattle.std.proofs.Common.{◌≤◌, ◌+◌, ◌*◌, List, drop}
 use Rattle.std.specs.Prelude.{Result}
 use Rattle.pp_reference.specs.inner.Changes.{meaning_of}
 use Rattle.pp_model.specs.Places.{PlacedFault}
-use Rattle.pp_model.specs.Emitting.{Emits, Each, Alone, Collects, answers_at}
+use Rattle.pp_model.specs.Emitting.{Each, Alone, Collects, answers_at}
 use Rattle.pp_model.specs.Reading.{Expander, Listed, argument_reading}
-use Rattle.pp_reference.specs.inner.Seen.{seen}
+use Rattle.pp_reference.specs.inner.Seen.{seen, EmitsFrom}
 use Rattle.pp_reference.specs.inner.SeenList.{list_state}
 use Rattle.pp_model.specs.declared.read.Read.{Read}
-use Rattle.pp_model.specs.declared.read.Taken.{Taken}
+use Rattle.pp_reference.specs.declared.emitted.Emitted.{Emitted}
 use Rattle.pp_model.proofs.CollectLemmas.{after_items}
 use Rattle.pp_reference.proofs.expand.+answers.Given as goal
 
@@ -31,8 +31,8 @@ decreases-expand_arguments l = 6 * l.levels + 5
 
 abbrev pub invariant-emit_alone-turns : goal.invariant-emit_alone-turns
 invariant-emit_alone-turns l = record {
-  goes_on : (o : Taken) (end : Expander Listed) → Emits argument_reading (answers_at l.levels) (seen list_state l.expander) o end
-      → Emits argument_reading (answers_at l.levels) (seen list_state l.initial.expander) o end;
+  goes_on : (item : Emitted) (end : Expander Listed) → EmitsFrom argument_reading (answers_at l.levels) (seen list_state l.expander) item end
+      → EmitsFrom argument_reading (answers_at l.levels) (seen list_state l.initial.expander) item end;
   spent : l.budget.steps ≤ l.initial.budget.steps;
 }
 

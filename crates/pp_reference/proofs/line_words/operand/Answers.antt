@@ -1,4 +1,4 @@
-use Rattle.std.proofs.Common.{sym, ap, ◌∙◌}
+use Rattle.std.proofs.Common.{sym, ap, refl, ◌∙◌}
 use Rattle.std.specs.Prelude.{Result, Ok, Err, Bool}
 use Rattle.std.proofs.lemmas.Result.{IfOk-weaker}
 use Rattle.pp_model.specs.Places.{PlacedFault}
@@ -19,4 +19,5 @@ returns-in-Ok-clause-operand c =
 pub returns-in-Err-clause-operand : goal.returns-in-Err-clause-operand
 returns-in-Err-clause-operand c =
     neither c.args.kind c.args.directive (answers_at c.args.levels) c.in_ok-found.found _ _ _ c.in_ok-found.ensures.takes c.in-Err.ensures.0
-    (sym c.is_open_paren.ensures ∙ c.if-is_open_paren.false) (ap (λ (f : PlacedFault). let r : Result Bool PlacedFault = Err f in r) c.in-Err.ensures.1)
+    (sym c.is_open_paren.ensures ∙ c.if-is_open_paren.false) (ap (λ (f : PlacedFault). let r : Result Bool PlacedFault = Err f in r)
+    (rw (c.fault_in.ensures, c.outermost_call.ensures, c.deref.ensures.value, c.in-Err.ensures.1) refl))

@@ -1,4 +1,4 @@
-use Rattle.std.proofs.Common.{ap}
+use Rattle.std.proofs.Common.{ap, refl}
 use Rattle.std.specs.Prelude.{Result, Err, Bool}
 use Rattle.std.proofs.lemmas.Result.{IfOk-weaker}
 use Rattle.pp_model.specs.Places.{PlacedFault}
@@ -16,4 +16,5 @@ returns-in-Ok-clause-inside c =
 pub returns-in-Err-clause-inside : goal.returns-in-Err-clause-inside
 returns-in-Err-clause-inside c =
     no_name c.args.kind c.args.directive (answers_at c.args.levels) c.in_ok-found.found _ _ _ c.in_ok-found.ensures.takes c.in-Err.ensures.0
-    (ap (λ (f : PlacedFault). let r : Result Bool PlacedFault = Err f in r) c.in-Err.ensures.1)
+    (ap (λ (f : PlacedFault). let r : Result Bool PlacedFault = Err f in r)
+    (rw (c.fault_in.ensures, c.outermost_call.ensures, c.deref.ensures.value, c.in-Err.ensures.1) refl))

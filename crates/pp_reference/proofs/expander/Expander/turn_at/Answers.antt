@@ -8,4 +8,5 @@ returns-then-not-is_function_like-clause-turns g c =
 
 pub returns-in-Ok-clause-turns : goal.returns-in-Ok-clause-turns
 returns-in-Ok-clause-turns g c =
-    function c.in-Ok.found _ _ _ (sym c.is_function_like.ensures ∙ c.if-not-is_function_like.false) c.in-Ok.ensures.finds c.turn_after_name.ensures
+    function c.in-Ok.found _ _ _ (sym c.is_function_like.ensures ∙ c.if-not-is_function_like.false) c.in-Ok.ensures.finds
+    (rw (c.outermost_call-call.ensures, c.deref.ensures.value, c.deref-in-Ok.ensures.value) at c.turn_after_name.ensures)
