@@ -7,7 +7,7 @@ use Rattle.pp_macros.specs.inner.Defined.{Defined, names_in}
 use Rattle.pp_macros.specs.inner.Nesting.{AreKnown, MacroProcessor, listed_in}
 use Rattle.pp_macros.specs.inner.Reader.{Listing, of_list}
 use Rattle.pp_macros.proofs.open_frames.KnownLemmas.{alone_known}
-use Rattle.pp_macros.proofs.open_frames.ListKnownLemmas.{call_known}
+use Rattle.pp_macros.proofs.open_frames.ListKnownLemmas.{call_known, list_kept}
 use Rattle.pp_macros.proofs.taking.ListedLeadsLemmas.{turned}
 use Rattle.pp_directives.specs.inner.LineItems.{IsOnLine}
 use Rattle.pp_model.specs.declared.numbering.Numbering.{Numbering}
@@ -21,5 +21,7 @@ pub line_call_known : (numbering : Numbering) (definitions : List Defined) (m n 
     → TurnsOrRefuses m.here (of_list (listed_in m.below l)) (Ok (taken.Call c)) n.here (of_list (listed_in n.below k)) → n.below ≡ m.below
     → AreKnown (names_in definitions) n
 line_call_known numbering definitions m n l k c reads turns same =
-    call_known 0 m n m m.below n.below l k definitions c reads.sound (turned _ _ _ _ _ turns refl) reads.defined same
+    let turn = turned _ _ _ _ _ turns refl in
+    call_known 0 m n m.here n.below (listed_in m.below l) k definitions c reads.sound turn
+    (list_kept definitions (Ok (taken.Call c)) m.here n.here m.below n.below l k turn refl reads.defined) same
     (subst (λ (ds : List Defined). AreKnown (names_in ds) m) reads.defined (line_known numbering definitions m l reads))

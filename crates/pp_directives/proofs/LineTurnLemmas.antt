@@ -1,28 +1,29 @@
 -- Reading the line of an `#if`, `#elif` or `#line`: each step of the code reads what the definitions read.
 use Rattle.std.proofs.Common.{◌≡◌, ◌∙◌, inl, inr, true, false, ℕ, ◌≤◌, List, [], ◌∷◌, ◌++◌, refl, sym, ap, subst, Option, Some, None, Bool}
 use Rattle.std.specs.Prelude.{if◌then◌else◌, Result, Ok, Err, option_map, unwrap_or, ⊤}
-use Rattle.pp_model.specs.Places.{PlacedFault, place_of}
+use Rattle.pp_model.specs.Places.{PlacedFault, fault_in, place_of}
 use Rattle.pp_model.specs.Numbering.{number_of}
 use Rattle.pp_model.specs.declared.read.Read.{Read}
 use Rattle.pp_model.specs.Calls.{Gathered, Site, site_of}
-use Rattle.pp_model.specs.Emitting.{Emits, answers_at}
+use Rattle.pp_model.specs.Emitting.{answers_at}
 use Rattle.pp_model.specs.Names.{Name, is_identifier, line_name}
 use Rattle.pp_model.specs.Reading.{Expander, Listed, line_reading}
-use Rattle.pp_model.specs.SpliceList.{macro_before}
+use Rattle.pp_model.specs.SpliceList.{macro_before, outermost_call}
 use Rattle.pp_model.specs.Taking.{Takes, line_number}
 use Rattle.pp_model.specs.declared.read.Taken.{Taken as Given}
 use Rattle.pp_model.specs.declared.read.Taken.TheVariants as given
+use Rattle.pp_model.specs.declared.splice.CallPlace.{CallPlace}
 use Rattle.pp_model.specs.declared.splice.Entry.{Entry}
 use Rattle.pp_macros.specs.inner.Calling.{MacroCall}
 use Rattle.pp_macros.specs.inner.CallTurns.{Sought, no_call, refused, gathered, sought_by, Seeks, alone, called, Finds, TurnsTo, passes, gives, object, seeks}
 use Rattle.pp_macros.specs.inner.Defined.{Macro, Defined}
 use Rattle.pp_macros.specs.inner.Finishing.{site_at, IsOpened}
-use Rattle.pp_macros.specs.inner.Frames.{Frame, Advance, advance, names_of, outermost_frame_line}
+use Rattle.pp_macros.specs.inner.Frames.{Frame, Advance, advance, names_of, outermost_frame_call, outermost_frame_line}
 use Rattle.pp_macros.specs.Item.{PlacedStep, wants_memory, is_out_of_memory}
 use Rattle.pp_macros.specs.inner.Left.{work_of, IsSound, most_open, most_bodies, regions}
-use Rattle.pp_directives.specs.inner.LineItems.{expander_of, IsHeld, IsOnLine, ReadsOn, IsWorkLess}
+use Rattle.pp_directives.specs.inner.LineItems.{FindsItem, expander_of, IsHeld, IsOnLine, ReadsOn, IsWorkLess}
 use Rattle.pp_macros.specs.inner.Expander as kept
-use Rattle.pp_macros.specs.inner.Expander.{outcome_of_step, step_of_outcome, taken_as, is_pause, StepsFetching, StepsTaking, held, moved, TakesNext, now, later}
+use Rattle.pp_macros.specs.inner.Expander.{kept_call, outcome_of_step, step_of_outcome, taken_as, is_pause, StepsFetching, StepsTaking, held, moved, TakesNext, now, later}
 use Rattle.pp_macros.specs.inner.Reader.{Reader, of_source, of_list, Listing, listed_step}
 use Rattle.pp_macros.specs.inner.Reading.{painted_step}
 use Rattle.pp_macros.specs.inner.Turns.{Moves, as_pause, frame_move, masks}
@@ -38,7 +39,9 @@ use Rattle.pp_macros.proofs.open_frames.ReportedLemmas.{wants_taken, not_refused
 use Rattle.pp_macros.proofs.work.ReachLemmas.{frame_steps_level}
 use Rattle.pp_macros.proofs.taking.SearchSimulates.{StandsHeld, next_simulates}
 use Rattle.pp_macros.proofs.work.SpendLemmas.{step_spends, next_left, next_spends, no_more}
-use Rattle.pp_macros.proofs.taking.TurnLeadsLemmas.{LeadsTo}
+use Rattle.pp_macros.proofs.taking.PauseLemmas.{EmitsLater}
+use Rattle.pp_macros.proofs.taking.TurnLeadsLemmas.{LeadsTo, calls_same}
+use Rattle.pp_macros.proofs.open_frames.FlatLemmas.{outermost_flat}
 use Rattle.pp_macros.proofs.work.WorkFallsLemmas.{frame_of, no_more_work}
 use Rattle.pp_model.specs.declared.numbering.Numbering.{Numbering}
 
@@ -135,6 +138,11 @@ next_quiet m n r s step list holds (later step1 m1 between n1 r1 s1 t1 steps nex
     let h = step_quiet m between r s1 (Err Continue) list holds steps refl in
     next_quiet between n s1 s step h.list (free_held between.held (step_frees m between r s1 (Err Continue) steps)) next reported
 
+-- so what is taken next is no fault
+pub next_no_fault : (m n : kept.Expander) (l k : Listing) (fault : PlacedFault) → IsHeld m.held → TakesNext m (of_list l) (Err (Error fault)) n (of_list k)
+    → is_out_of_memory fault.0 ≡ false → ⊥
+next_no_fault m n l k fault holds next reported = (next_quiet m n (of_list l) (of_list k) (Err (Error fault)) tt holds next reported).quiet
+
 -- what is held after a turn; after a call it is said elsewhere
 abbrev HoldsAfter : PlacedStep Taken → kept.Expander → Type 0
 HoldsAfter (Ok (taken.Token read)) n = IsHeld n.held
@@ -226,10 +234,9 @@ module _ (numbering : Numbering) (definitions : List Defined) where
         record { sound = sound; holds = holds; line = listed.2; unhidden = listed.1; defined = listed.3; numbered = listed.4 },
       )
 
--- the items from here on are those from the beginning on
+-- the items from here on are those from the beginning on, and come from the same calls
 abbrev pub GoesOn : ℕ → kept.Expander → Listing → kept.Expander → Listing → Type 0
-GoesOn levels m l n k = (o : Given) (g : Expander Listed) → Emits line_reading (answers_at levels) (expander_of n k) o g
-    → Emits line_reading (answers_at levels) (expander_of m l) o g
+GoesOn levels m l n k = EmitsLater line_reading (answers_at levels) (expander_of m l) (expander_of n k)
 
 module _ (levels : ℕ) (numbering : Numbering) (definitions : List Defined) (m n : kept.Expander) (l k : Listing) (on : IsOnLine numbering definitions m l) where
   leads : (step : PlacedStep Taken) → TurnsTo m (of_list l) step n (of_list k) → wants_taken step ≡ false
@@ -240,12 +247,18 @@ module _ (levels : ℕ) (numbering : Numbering) (definitions : List Defined) (m 
 
   -- a token
   pub token_read : (read : Read) → TurnsTo m (of_list l) (Ok (taken.Token read)) n (of_list k)
-      → Emits line_reading (answers_at levels) (expander_of m l) (given.Token read) (expander_of n k) × IsOnLine numbering definitions n k × IsWorkLess levels m l n k
+      → FindsItem levels (expander_of m l) (Ok (record { found = Some read; call = kept_call n.held (outermost_frame_call m.frames) n.frames })) (expander_of n k)
+      × IsOnLine numbering definitions n k × IsWorkLess levels m l n k
   token_read read turns =
       let h = leads (Ok (taken.Token read)) turns refl in
       let less : IsLess levels m (of_list l) n (of_list k) = turn_falls levels m (of_list l) on.sound (Ok (taken.Token read)) n (of_list k) turns refl in
       let at = here numbering definitions n k h.0 h.2 (turn_holds m n (of_list l) (of_list k) (Ok (taken.Token read)) tt on.holds turns) less.sound in
-      (subst (λ (f : Expander Listed). Emits line_reading (answers_at levels) (expander_of m l) (given.Token read) f) at.0 h.1, at.1, less.falls)
+      let call = kept_call n.held (outermost_frame_call m.frames) n.frames in (
+        subst (λ (f : Expander Listed). FindsItem levels (expander_of m l) (Ok (record { found = Some read; call = call })) f) at.0
+            (h.1, h.3 ∙ sym (calls_same n.held (expander_of m l).list h.0.list m.frames n.frames refl h.2.list)),
+        at.1,
+        less.falls,
+      )
 
   -- a pause
   pub pause_read : TurnsTo m (of_list l) (Err Continue) n (of_list k) → GoesOn levels m l n k × IsOnLine numbering definitions n k × IsWorkLess levels m l n k
@@ -253,11 +266,12 @@ module _ (levels : ℕ) (numbering : Numbering) (definitions : List Defined) (m 
       let h = leads (Err Continue) turns refl in
       let less : IsLess levels m (of_list l) n (of_list k) = turn_falls levels m (of_list l) on.sound (Err Continue) n (of_list k) turns refl in
       let at = here numbering definitions n k h.0 h.1 (turn_holds m n (of_list l) (of_list k) (Err Continue) tt on.holds turns) less.sound in
-      (λ o g emits. (h.2 o g (subst (λ (f : Expander Listed). Emits line_reading (answers_at levels) f o g) (sym at.0) emits)).0, at.1, less.falls)
+      (subst (λ (f : Expander Listed). EmitsLater line_reading (answers_at levels) (expander_of m l) f) at.0 h.2, at.1, less.falls)
 
   -- the end
   pub end_read : TurnsTo m (of_list l) (Err Finished) n (of_list k)
-      → Emits line_reading (answers_at levels) (expander_of m l) given.End (expander_of n k) × ReadsOn levels numbering definitions m l n k
+      → FindsItem levels (expander_of m l) (Ok (record { found = None; call = outermost_frame_call n.frames })) (expander_of n k)
+      × ReadsOn levels numbering definitions m l n k
   end_read turns =
       let h = leads (Err Finished) turns refl in
       let sound : IsSound n (of_list k) = turn_falls levels m (of_list l) on.sound (Err Finished) n (of_list k) turns refl in
@@ -267,13 +281,24 @@ module _ (levels : ℕ) (numbering : Numbering) (definitions : List Defined) (m 
       let spent = step_spends (frame_of levels r) (most_open r) level (Err Finished) m n r (of_list k)
       (end_taken m n r (of_list k) (Err Finished) refl turns) refl in
       let less : work_of levels n (of_list k) ≤ work_of levels m r =
-      no_more_work levels m n r (of_list k) spent.tightens (rw spent.spends (no_more (frame_of levels r) (most_open r) level (regions m r))) in
-      (subst (λ (f : Expander Listed). Emits line_reading (answers_at levels) (expander_of m l) given.End f) at.0 h.1, record { stands = at.1; least = less })
+      no_more_work levels m n r (of_list k) spent.tightens (rw spent.spends (no_more (frame_of levels r) (most_open r) level (regions m r))) in (
+        subst (λ (f : Expander Listed). FindsItem levels (expander_of m l) (Ok (record { found = None; call = outermost_frame_call n.frames })) f) at.0
+            (h.1, h.4 ∙ ap outermost_call h.2.list ∙ outermost_flat n.frames),
+        record { stands = at.1; least = less },
+      )
 
-  -- a fault
+  -- a fault, in the call of the outermost frame
+  fault_found : (fault : PlacedFault) (call outermost : Option CallPlace) (f : Expander Listed) → call ≡ outermost
+      → FindsItem levels (expander_of m l) (Err (fault_in call fault)) f → FindsItem levels (expander_of m l) (Err (fault_in outermost fault)) f
+  fault_found fault call outermost f same = subst (λ (o : Option CallPlace). FindsItem levels (expander_of m l) (Err (fault_in o fault)) f) same
+
   pub fault_read : (fault : PlacedFault) → TurnsTo m (of_list l) (Err (Error fault)) n (of_list k) → is_out_of_memory fault.0 ≡ false
-      → (f : Expander Listed) × Emits line_reading (answers_at levels) (expander_of m l) (given.Fault fault) f
-  fault_read fault turns reported = let h = leads (Err (Error fault)) turns reported in (h.0, h.1)
+      → (f : Expander Listed) × FindsItem levels (expander_of m l) (Err (fault_in (outermost_frame_call n.frames) fault)) f
+  fault_read fault turns reported =
+      let h = leads (Err (Error fault)) turns reported in (
+        h.0,
+        fault_found fault (outermost_call h.0.list) (outermost_frame_call n.frames) h.0 (ap outermost_call h.2 ∙ outermost_flat n.frames) (h.1, h.4),
+      )
 
   module _ (c : MacroCall) (turns : TurnsTo m (of_list l) (Ok (taken.Call c)) n (of_list k)) where
     pending : IsPending levels m (of_list l) c n (of_list k)
@@ -288,8 +313,13 @@ module _ (levels : ℕ) (numbering : Numbering) (definitions : List Defined) (m 
 
     -- a call that has a fault
     pub call_fault_read : (fault : PlacedFault) → answers_at levels c.opened.definition (site_at c numbering definitions (names_of n.frames ++ [])) (Err fault)
-        → (f : Expander Listed) × Emits line_reading (answers_at levels) (expander_of m l) (given.Fault fault) f
-    call_fault_read fault answers = (led.0, (led.2 fault (subst (λ (x : Site). answers_at levels c.opened.definition x (Err fault)) (sym site) answers)).0)
+        → (f : Expander Listed) × FindsItem levels (expander_of m l) (Err (fault_in (outermost_frame_call n.frames) fault)) f
+    call_fault_read fault answers =
+        let stood : StandsListed true numbering definitions [] n k led.0 = led.1 in (
+          led.0,
+          fault_found fault (outermost_call led.0.list) (outermost_frame_call n.frames) led.0 (ap outermost_call stood.list ∙ outermost_flat n.frames)
+              (led.2 fault (subst (λ (x : Site). answers_at levels c.opened.definition x (Err fault)) (sym site) answers)),
+        )
 
     -- a call whose frame opened
     pub call_read : (p : kept.Expander) → IsOpened levels numbering definitions (names_of n.frames ++ []) c n p → GoesOn levels m l p k × IsOnLine numbering definitions p k
@@ -308,8 +338,8 @@ module _ (levels : ℕ) (numbering : Numbering) (definitions : List Defined) (m 
           names = stood.names;
         }) in
         let at = here numbering definitions p k f stands (free_held p.held (ap (λ (q : kept.Expander). q.held) opened.opens ∙ pending.free)) less.sound in (
-          λ o g emits. (led.3 opened.arguments (subst (λ (x : Site). answers_at levels c.opened.definition x (Ok opened.arguments))
-              (sym site) opened.answers) o g (subst (λ (e : Expander Listed). Emits line_reading (answers_at levels) e o g) (sym at.0) emits)).0,
+          subst (λ (e : Expander Listed). EmitsLater line_reading (answers_at levels) (expander_of m l) e) at.0
+              (led.3 opened.arguments (subst (λ (x : Site). answers_at levels c.opened.definition x (Ok opened.arguments)) (sym site) opened.answers)),
           at.1,
           less.falls,
         )

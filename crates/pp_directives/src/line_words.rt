@@ -4,7 +4,9 @@ ghost use Rattle.std.specs.Prelude.{◌≡◌, [], IfOk, is_some};
 ghost use Rattle.pp_model.specs.LineWords.{unwanted_closing};
 ghost use Rattle.pp_model.specs.inner.LineWords.{is_open_paren, is_close_paren};
 ghost use Rattle.pp_macros.specs.inner.Defined.{meaning_of};
+ghost use Rattle.pp_macros.specs.Halting.{halt_in};
 ghost use Rattle.pp_macros.specs.Held.{AllHoldOrdinary};
+ghost use Rattle.pp_macros.specs.inner.Frames.{outermost_frame_call};
 ghost use Rattle.pp_directives.specs.inner.ReadingWords.{IsReading, GivesItem, TakesOff, GivesTaken, IsNameOrFault};
 ghost use Rattle.pp_directives.specs.inner.ReadingWords.{GivesOperand, GivesInParentheses, GivesClosed, AreWordsOf};
 ghost use Rattle.pp_directives.specs.inner.ReadingWords.{AreWordsOfLine};
@@ -21,8 +23,9 @@ use pp_macros::macro_processor::{MacroProcessor, SpareCounts};
 use pp_macros::step::PlacedExit;
 use pp_model::line_value::ended_early;
 use pp_model::parentheses::{is_left_paren, is_right_paren};
-use pp_model::place::PlacedFault;
+use pp_model::place::{PlacedFault, fault_in};
 use pp_model::read::Read;
+use pp_model::splice::CallPlace;
 use pp_model::word::{LineKind, Word, WordReading, Words, reading_of, unwanted_reading};
 use std::alloc::{AllocError, Global};
 
@@ -31,6 +34,13 @@ use std::alloc::{AllocError, Global};
 struct LineExpander<'a> {
     expander: MacroProcessor,
     lexer: ListLexer<'a>,
+}
+
+// What was found on a line, or nothing at its end, and where it was called from, if a macro gave it.
+#[derive(Drop)]
+struct LineItem {
+    found: Option<Read>,
+    call: Option<CallPlace>,
 }
 
 // The reader of a line's words: the kind of the line, the place of its directive, what holds there, and how many
@@ -64,32 +74,52 @@ fn is_close_paren(found: &Option<Read>) -> bool
     }
 }
 
+// Why a line has no value, in the call of the outermost macro that is open on it, if one is.
+fn found_in(line: &LineExpander<'_>, halt: PlacedHalt) -> PlacedHalt
+    ensures { result ≡ halt_in (outermost_frame_call line.now.expander.here.frames) halt }
+{
+    halt.in_call(line.expander.outermost_call())
+}
+
 // Ends the reading of a line, and gives back the counts of its processor.
 fn close_line(mut line: LineExpander<'_>) -> SpareCounts {
     line.expander.take_counts()
 }
 
 impl<'a> WordReader<'a> {
-    // The next item of the line, or `None` at its end.
+    // The next item of the line.
     #[inline(always)]
-    fn next_item(&self, line: &mut LineExpander<'_>) -> Result<Option<Read>, PlacedHalt>
+    fn next_item(&self, line: &mut LineExpander<'_>) -> Result<LineItem, PlacedHalt>
         requires { IsReading self.now line.old }
         ensures reads { GivesItem self.now line.old result line.new }
         ensures less { TakesOff self.now line.old result line.new }
     {
         'items: loop {
+            let before = line.expander.outermost_call();
             match step_list(&mut line.expander, &mut line.lexer) {
-                Ok(Taken::Token(read)) => return Ok(Some(read)),
-                Ok(Taken::Call(call)) => finish_call(
+                Ok(Taken::Token(read)) => {
+                    let call = line.expander.item_call(before);
+                    return Ok(LineItem {
+                        found: Some(read),
+                        call,
+                    });
+                }
+                Ok(Taken::Call(call)) => match finish_call(
                     self.alloc,
                     &mut line.expander,
                     call,
                     &self.scope,
                     self.levels,
-                )?,
+                ) {
+                    Ok(()) => {}
+                    Err(halt) => return Err(found_in(line, halt)),
+                },
                 Err(PlacedExit::Continue) => {}
-                Err(PlacedExit::Finished) => return Ok(None),
-                Err(PlacedExit::Error(fault)) => return Err(halt_of(fault)),
+                Err(PlacedExit::Finished) => {
+                    let call = line.expander.outermost_call();
+                    return Ok(LineItem { found: None, call });
+                }
+                Err(PlacedExit::Error(fault)) => return Err(found_in(line, halt_of(fault))),
             }
         }
     }
@@ -147,12 +177,13 @@ impl<'a> WordReader<'a> {
         requires { IsReading self.now line.old }
         ensures { GivesClosed self.now name.now line.old result line.new }
     {
-        let found = self.next_item(line)?;
-        if is_close_paren(&found) {
-            drop(found);
+        let item = self.next_item(line)?;
+        if is_close_paren(&item.found) {
+            drop(item);
             Ok(self.is_defined(name))
         } else {
-            Err(PlacedHalt::Fault(self.unwanted_word(found)))
+            let fault = self.unwanted_word(item.found);
+            Err(PlacedHalt::Fault(fault_in(item.call, fault)))
         }
     }
 
@@ -164,7 +195,7 @@ impl<'a> WordReader<'a> {
         let found = self.take(line)?;
         match self.name_or_fault(found) {
             Ok(name) => self.closed_operand(line, &name),
-            Err(fault) => Err(PlacedHalt::Fault(fault)),
+            Err(fault) => Err(found_in(line, PlacedHalt::Fault(fault))),
         }
     }
 
@@ -180,7 +211,7 @@ impl<'a> WordReader<'a> {
         }
         match self.name_or_fault(found) {
             Ok(name) => Ok(self.is_defined(&name)),
-            Err(fault) => Err(PlacedHalt::Fault(fault)),
+            Err(fault) => Err(found_in(line, PlacedHalt::Fault(fault))),
         }
     }
 
@@ -191,16 +222,21 @@ impl<'a> WordReader<'a> {
     {
         let mut words = Vec::with_capacity(self.alloc, 16)?;
         'words: loop {
-            let read = match self.next_item(line) {
-                Ok(Some(read)) => read,
-                Ok(None) => return Ok(Words::new(words, None)),
+            let item = match self.next_item(line) {
+                Ok(item) => item,
                 Err(PlacedHalt::Fault(fault)) => return Ok(Words::new(words, Some(fault))),
                 Err(PlacedHalt::OutOfMemory) => return Err(AllocError),
             };
-            let place = read.place();
+            let call = item.call;
+            let Some(read) = item.found else {
+                return Ok(Words::new(words, None));
+            };
+            let place = read.place().in_call(call);
             match reading_of(self.kind, read) {
-                WordReading::Refused(fault) => return Ok(Words::new(words, Some(fault))),
-                WordReading::Word(word) => words.push(Word::Plain(word))?,
+                WordReading::Refused(fault) => {
+                    return Ok(Words::new(words, Some(fault_in(call, fault))));
+                }
+                WordReading::Word(word) => words.push(Word::of_read(word, call))?,
                 WordReading::Operator(operator) => {
                     drop(operator);
                     match self.operand(line) {

@@ -1,7 +1,8 @@
 -- Why reading a part of the source stopped without a value, as the exit of a step.
 use Rattle.std.specs.Prelude.{if◌then◌else◌, Option, Result, Ok, Err}
 use Rattle.pp_lexer.specs.declared.token.Token.{Token}
-use Rattle.pp_model.specs.Places.{PlacedFault, placed, unplaced}
+use Rattle.pp_model.specs.Places.{PlacedFault, fault_in, placed, unplaced}
+use Rattle.pp_model.specs.declared.splice.CallPlace.{CallPlace}
 use Rattle.pp_macros.specs.Item.{PlacedStep, is_out_of_memory, no_memory}
 use Rattle.pp_macros.specs.inner.Turns.{as_pause}
 use Rattle.pp_macros.specs.declared.halt.Halt.{Halt}
@@ -24,6 +25,15 @@ unplaced_halt placed_halt.OutOfMemory = halt.OutOfMemory
 abbrev pub unplaced_result : {A : Type 0} → Result A PlacedHalt → Result A Halt
 unplaced_result (Ok value) = Ok value
 unplaced_result (Err halt) = Err (unplaced_halt halt)
+
+-- the same in this call, if there is one
+abbrev pub halt_in : Option CallPlace → PlacedHalt → PlacedHalt
+halt_in call (placed_halt.Fault fault) = placed_halt.Fault (fault_in call fault)
+halt_in call placed_halt.OutOfMemory = placed_halt.OutOfMemory
+
+abbrev pub result_in : {A : Type 0} → Option CallPlace → Result A PlacedHalt → Result A PlacedHalt
+result_in call (Ok value) = Ok value
+result_in call (Err halt) = Err (halt_in call halt)
 
 -- the exit of a step that stops so
 abbrev pub exit_of : PlacedHalt → PlacedExit

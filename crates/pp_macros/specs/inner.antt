@@ -26,6 +26,7 @@ pub mod Left
 pub mod Calling
 pub mod CallTurns
 pub mod Seeking
+pub mod Noting
 pub mod Finishing
 pub mod ParameterReading
 pub mod ParameterPositions

@@ -2,12 +2,14 @@
 
 ghost use Rattle.std.specs.Prelude.{◌≡◌};
 ghost use Rattle.pp_model.specs.Places.{placed};
-ghost use Rattle.pp_macros.specs.Halting.{halt_of};
+ghost use Rattle.pp_macros.specs.Halting.{halt_in, halt_of};
+ghost use Rattle.pp_macros.specs.inner.Noting.{noted_halt};
 ghost use Rattle.pp_macros.specs.declared.halt.PlacedHalt.TheVariants as placed_halt;
 
 use crate::step::{PlacedExit, is_out_of_memory, no_memory};
 use pp_lexer::token::{Location, PreprocessorError};
-use pp_model::place::{PlacedFault, placed};
+use pp_model::place::{PlacedFault, fault_in, placed};
+use pp_model::splice::CallPlace;
 use std::alloc::{AllocError, AllocFailed};
 
 /// Why a part of a line has no value.
@@ -52,7 +54,8 @@ impl From<(PreprocessorError, Location)> for Halt {
     }
 }
 
-/// Why a directive or a call has no value. A fault has the text of its place, which may be that of a macro's body.
+/// Why a directive or a call has no value. A fault has the text of its place, which may be that of a macro's body, and
+/// the call in which it was found.
 #[derive(Drop)]
 pub enum PlacedHalt {
     /// Its first fault.
@@ -115,6 +118,41 @@ impl PlacedHalt {
     {
         PlacedHalt::Fault(placed((error, location)))
     }
+
+    /// The same in this call, if there is one.
+    pub fn in_call(self, call: Option<CallPlace>) -> PlacedHalt
+        ensures { result ≡ halt_in call self }
+    {
+        match self {
+            PlacedHalt::Fault(fault) => PlacedHalt::Fault(fault_in(call, fault)),
+            PlacedHalt::OutOfMemory => PlacedHalt::OutOfMemory,
+        }
+    }
+}
+
+/// A call has no value. Its fault is noted apart from the results, so that calls inside each other take little of the
+/// stack. If none is noted, an allocation failed.
+#[derive(Drop)]
+pub struct Halted;
+
+impl From<AllocError> for Halted {
+    ghost use Rattle.std.specs.Prelude.{⊤};
+
+    ghost from_gives = { λ error halted. ⊤ };
+
+    fn from(_error: AllocError) -> Self {
+        Halted
+    }
+}
+
+impl<T: Drop> From<AllocFailed<T>> for Halted {
+    ghost use Rattle.std.specs.Prelude.{⊤};
+
+    ghost from_gives = { λ error halted. ⊤ };
+
+    fn from(_error: AllocFailed<T>) -> Self {
+        Halted
+    }
 }
 
 impl From<Halt> for PlacedExit {
@@ -151,4 +189,14 @@ pub fn halt_of(fault: PlacedFault) -> PlacedHalt
         return PlacedHalt::OutOfMemory;
     }
     PlacedHalt::Fault(fault)
+}
+
+/// Why a call has no value for which this fault was noted, if one was.
+pub fn noted_halt(fault: Option<PlacedFault>) -> PlacedHalt
+    ensures { result ≡ noted_halt fault }
+{
+    match fault {
+        Some(fault) => PlacedHalt::Fault(fault),
+        None => PlacedHalt::OutOfMemory,
+    }
 }

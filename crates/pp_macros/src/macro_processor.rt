@@ -20,7 +20,7 @@ ghost use Rattle.pp_macros.specs.inner.Idle.{is_idle};
 ghost use Rattle.pp_macros.specs.inner.Nesting.{AreKnown, nothing_open, open_names, stepped, with_frames};
 ghost use Rattle.pp_macros.specs.inner.Reader.{definitions_of, shown_line};
 ghost use Rattle.pp_macros.specs.inner.Reading.{painted_from};
-ghost use Rattle.pp_macros.specs.inner.Expander.{step_of_outcome, taken_as};
+ghost use Rattle.pp_macros.specs.inner.Expander.{kept_call, step_of_outcome, taken_as};
 ghost use Rattle.pp_macros.specs.inner.Turns.{Moves};
 
 use crate::argument_lists::{ArgumentLists, Part};
@@ -233,6 +233,8 @@ impl MacroProcessor {
     }
 
     /// Ends the expansion of an argument, also after a fault: closes what is open in it, and drops what is held.
+    // It is a function of its own, so that calls inside each other keep no room for it on the stack.
+    #[inline(never)]
     pub fn unnest(&mut self, around: usize)
         requires { around ≤ length self.old.below }
         ensures { (frames : List spec.Frame) (outer : List spec.Frame) → self.old.below ≡ frames ++ outer
@@ -366,6 +368,17 @@ impl MacroProcessor {
             Some(frame) => Some(frame.call()),
             None => None,
         }
+    }
+
+    /// Where the item that the last turn gave was called from. Before that turn the outermost macro was called there.
+    #[inline(always)]
+    pub fn item_call(&self, before: Option<CallPlace>) -> Option<CallPlace>
+        ensures { result ≡ kept_call self.now.here.held before self.now.here.frames }
+    {
+        if self.is_holding() {
+            return before;
+        }
+        self.outermost_call()
     }
 
     // Closes the innermost frame: its macro is open once less, and its lists are kept to be used again.

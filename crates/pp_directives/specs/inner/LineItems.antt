@@ -9,11 +9,14 @@ use Rattle.pp_model.specs.Names.{Name}
 use Rattle.pp_model.specs.Reading.{Expander, Listed, line_reading}
 use Rattle.pp_model.specs.Taking.{Takes}
 use Rattle.pp_model.specs.Emitting.{Emits, answers_at}
+use Rattle.pp_model.specs.ItemCall.{item_call}
 use Rattle.pp_model.specs.LineWords.{InParentheses, Operand}
 use Rattle.pp_model.specs.inner.WordsRead.{Closes}
 use Rattle.pp_model.specs.declared.read.Taken.{Taken}
 use Rattle.pp_model.specs.declared.read.Taken.TheVariants as given
+use Rattle.pp_model.specs.declared.splice.CallPlace.{CallPlace}
 use Rattle.pp_model.specs.declared.word.LineKind.{LineKind}
+use Rattle.pp_directives.specs.declared.line_words.LineItem.{LineItem}
 use Rattle.pp_macros.specs.inner.Defined.{Defined, meaning_of}
 use Rattle.pp_macros.specs.inner.Frames.{flat}
 use Rattle.pp_macros.specs.Item.{PlacedStep}
@@ -79,22 +82,33 @@ abbrev pub taken_of_read : Option Read → Taken
 taken_of_read (Some read) = given.Token read
 taken_of_read None = given.End
 
-abbrev pub taken_of_item : Result (Option Read) PlacedFault → Taken
-taken_of_item (Ok found) = taken_of_read found
+abbrev pub taken_of_item : Result LineItem PlacedFault → Taken
+taken_of_item (Ok item) = taken_of_read item.found
 taken_of_item (Err fault) = given.Fault fault
 
--- the next item
-abbrev pub ReadsItem : ℕ → Numbering → List Defined → kept.Expander → Listing → Result (Option Read) PlacedHalt
-    → kept.Expander → Listing → Type 0
-ReadsItem levels numbering definitions m l = ReadsOfLine levels numbering definitions m l (λ item f.
-    Emits line_reading (answers_at levels) (expander_of m l) (taken_of_item item) f)
+-- where it was called from
+abbrev pub call_of_item : Result LineItem PlacedFault → Option CallPlace
+call_of_item (Ok item) = item.call
+call_of_item (Err fault) = fault.1.call
 
--- what is taken next
+-- the next item, with its call
+abbrev pub FindsItem : ℕ → Expander Listed → Result LineItem PlacedFault → Expander Listed → Type 0
+FindsItem levels e item f =
+    (emits : Emits line_reading (answers_at levels) e (taken_of_item item) f) × (item_call emits ≡ call_of_item item)
+
+abbrev pub ReadsItem : ℕ → Numbering → List Defined → kept.Expander → Listing → Result LineItem PlacedHalt
+    → kept.Expander → Listing → Type 0
+ReadsItem levels numbering definitions m l =
+    ReadsOfLine levels numbering definitions m l (FindsItem levels (expander_of m l))
+
+-- what is taken next; that has no fault, for a line's tokens have none of their own
 abbrev pub ReadsTaken : ℕ → Numbering → List Defined → kept.Expander → Listing → Result (Option Read) PlacedHalt
     → kept.Expander → Listing → Type 0
-ReadsTaken levels numbering definitions m l =
-    ReadsOfLine levels numbering definitions m l
-    (λ item f. Takes line_reading (expander_of m l) (taken_of_item item) f)
+ReadsTaken levels numbering definitions m l (Ok found) n k =
+    Takes line_reading (expander_of m l) (taken_of_read found) (expander_of n k)
+    × ReadsOn levels numbering definitions m l n k
+ReadsTaken levels numbering definitions m l (Err (halt.Fault fault)) n k = ⊥
+ReadsTaken levels numbering definitions m l (Err halt.OutOfMemory) n k = ⊤
 
 -- what the operand of a `defined` gives; the same after its `(`; and after the `(` and the name
 abbrev pub ReadsOperand : LineKind → Location → ℕ → Numbering → List Defined → kept.Expander → Listing

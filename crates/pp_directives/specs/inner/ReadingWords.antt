@@ -18,6 +18,7 @@ use Rattle.pp_macros.specs.inner.Reader.{Listing}
 use Rattle.pp_macros.specs.declared.halt.PlacedHalt.{PlacedHalt}
 use Rattle.pp_directives.specs.declared.line_words.WordReader.{WordReader}
 use Rattle.pp_directives.specs.declared.line_words.LineExpander.{LineExpander}
+use Rattle.pp_directives.specs.declared.line_words.LineItem.{LineItem}
 use Rattle.pp_model.specs.declared.numbering.Numbering.{Numbering}
 
 -- the rest of the line, as the line's processor has it
@@ -30,15 +31,15 @@ IsReading reader line =
     IsOnLine reader.scope.numbering reader.scope.definitions.now line.expander.here (rest_of line)
 
 -- the next item
-abbrev pub GivesItem : WordReader → LineExpander → Result (Option Read) PlacedHalt → LineExpander → Type 0
+abbrev pub GivesItem : WordReader → LineExpander → Result LineItem PlacedHalt → LineExpander → Type 0
 GivesItem reader old result new =
     ReadsItem reader.levels reader.scope.numbering reader.scope.definitions.now old.expander.here (rest_of old)
     result new.expander.here (rest_of new)
 
 -- if a token is given, less of the line is left after it
-abbrev pub TakesOff : WordReader → LineExpander → Result (Option Read) PlacedHalt → LineExpander → Type 0
+abbrev pub TakesOff : WordReader → LineExpander → Result LineItem PlacedHalt → LineExpander → Type 0
 TakesOff reader old result new =
-    IfOk result (λ found. IfSome found (λ read.
+    IfOk result (λ item. IfSome item.found (λ read.
     IsWorkLess reader.levels old.expander.here (rest_of old) new.expander.here (rest_of new)))
 
 -- what is taken next

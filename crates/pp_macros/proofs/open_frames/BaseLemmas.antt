@@ -225,17 +225,3 @@ ended held base n fs frames outer m view none parted number =
     rw (at, order) (alike None _ _ _ _
     (ap reverse (drop-append_seam (reverse outer) (reverse frames)) ∙ reverse-reverse frames)
     (ap reverse (take-append_seam (reverse outer) (reverse frames)) ∙ reverse-reverse outer))
-
--- the names that are open around an argument are all that are open where its call is
-pub around_argument : (m n : MacroProcessor) → n ≡ record { here = record { held = None; frames = [] }; below = m.here.frames ++ m.below }
-    → names_of n.below ≡ open_names m
-around_argument m n is = ap (λ (p : MacroProcessor). names_of p.below) is ∙ names_of-append m.here.frames m.below
-
--- after an argument the processor is what it was
-pub unnested : (m n p q : MacroProcessor) (around : ℕ) → m.here.held ≡ None
-    → n ≡ record { here = record { held = None; frames = [] }; below = m.here.frames ++ m.below } → p.below ≡ n.below → around ≡ length m.below
-    → ((frames : List Frame) (outer : List Frame) → p.below ≡ frames ++ outer → around ≡ length outer
-    → q ≡ record { here = record { held = None; frames = frames }; below = outer }) → q ≡ m
-unnested m n p q around free is same number ends =
-    ends m.here.frames m.below (same ∙ ap (λ (k : MacroProcessor). k.below) is) number
-    ∙ ap (λ (o : Option (PlacedStep Read)). record m { here = record m.here { held = o } }) (sym free)

@@ -103,13 +103,12 @@ list_known m n below l definitions sound same around known =
     record { here = sound.numbers; around = rw (same, around) known.around }
 
 -- the same where a call is pending
-pub call_known : (levels : ℕ) (m n p : MacroProcessor) (below around : List Frame) (l k : Listing) (definitions : List Defined) (c : MacroCall)
-    → IsSound p.here (of_list (listed_in below l)) → TurnsTo p.here (of_list (listed_in below l)) (Ok (taken.Call c)) n.here (of_list (listed_in around k))
-    → l.definitions ≡ definitions → n.below ≡ m.below → AreKnown (names_in definitions) m → AreKnown (names_in definitions) n
-call_known levels m n p below around l k definitions c sound turns same kept known =
-    let pending : IsPending levels p.here (of_list (listed_in below l)) c n.here (of_list (listed_in around k)) =
-    turn_falls levels p.here (of_list (listed_in below l)) sound (Ok (taken.Call c)) n.here (of_list (listed_in around k)) turns refl in
-    let there = list_kept definitions (Ok (taken.Call c)) p.here n.here below around l k turns refl same in
+pub call_known : (levels : ℕ) (m n : MacroProcessor) (p : Expander) (below : List Frame) (l k : Listing) (definitions : List Defined) (c : MacroCall)
+    → IsSound p (of_list l) → TurnsTo p (of_list l) (Ok (taken.Call c)) n.here (of_list (listed_in below k))
+    → k.definitions ≡ definitions → n.below ≡ m.below → AreKnown (names_in definitions) m → AreKnown (names_in definitions) n
+call_known levels m n p below l k definitions c sound turns there kept known =
+    let pending : IsPending levels p (of_list l) c n.here (of_list (listed_in below k)) =
+    turn_falls levels p (of_list l) sound (Ok (taken.Call c)) n.here (of_list (listed_in below k)) turns refl in
     record { here = subst (λ (ds : List Defined). HaveNumbers (names_in ds) n.here.frames) there pending.sound.numbers.1; around = rw kept known.around }
 
 -- the numbers of both lists

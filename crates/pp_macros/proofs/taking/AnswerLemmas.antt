@@ -1,14 +1,15 @@
 -- Calls that are finished, as the code finishes them.
-use Rattle.std.proofs.Common.{◌≡◌, ◌≢◌, ℕ, ◌+◌, ◌-◌, ◌≤◌, arith, All, List, [], ◌∷◌, ◌++◌, length, refl, sym, subst, None, le_trans, true, false, Bool}
+use Rattle.std.proofs.Common.{◌≡◌, ◌≢◌, ℕ, ◌+◌, ◌-◌, ◌≤◌, arith, ap, All, List, [], ◌∷◌, ◌++◌, length, refl, sym, subst, None, le_trans, true, false, Bool, Option}
 use Rattle.std.specs.Prelude.{if◌then◌else◌, Result, Ok, Err, IfOk, ◌&&◌, ◌==◌}
 use Rattle.std.proofs.lemmas.List.Elements.{All-cons, All-nil, All-append}
-use Rattle.pp_model.specs.Places.{PlacedFault}
+use Rattle.pp_model.specs.Places.{PlacedFault, fault_in}
+use Rattle.pp_model.specs.declared.splice.CallPlace.{CallPlace}
 use Rattle.pp_model.specs.declared.read.Read.{Read}
 use Rattle.pp_model.specs.Names.{Name}
 use Rattle.pp_model.specs.Calls.{pieces, arguments_of, misfit, cut_before, Pieces, is_comma, nesting_after}
 use Rattle.pp_model.specs.Emitting.{answers_at}
 use Rattle.pp_model.proofs.LevelLemmas as level
-use Rattle.pp_macros.specs.Halting.{halt_of}
+use Rattle.pp_macros.specs.Halting.{halt_of, result_in}
 use Rattle.pp_macros.specs.Item.{is_out_of_memory}
 use Rattle.pp_macros.specs.inner.Calling.{MacroCall}
 use Rattle.pp_macros.specs.inner.Defined.{Defined, body_tokens}
@@ -16,17 +17,29 @@ use Rattle.pp_macros.specs.inner.Finishing.{site_at, Finishes, ExpandsEach, AreO
 use Rattle.pp_macros.specs.inner.Frames.{names_of}
 use Rattle.pp_macros.specs.inner.Left.{most_alone}
 use Rattle.pp_macros.specs.inner.Expander.{Expander, Satisfies}
+use Rattle.pp_macros.specs.inner.Noting.{noted, noted_halt}
+use Rattle.pp_macros.specs.declared.halt.Halted.{Halted}
 use Rattle.pp_macros.specs.declared.halt.PlacedHalt.{PlacedHalt}
 use Rattle.pp_macros.specs.declared.halt.PlacedHalt.TheVariants as halt
 use Rattle.pp_macros.specs.inner.Reach.{frame_steps}
 use Rattle.pp_macros.proofs.work.ReachLemmas.{most_level, frame_steps_level}
 use Rattle.pp_model.specs.declared.numbering.Numbering.{Numbering}
 
+-- without a value there is the fault that was noted, if one was
+pub noted_err : {A : Type 0} (r : Result A Halted) (h : Halted) (fault : Option PlacedFault) → r ≡ Err h → noted r fault ≡ Err (noted_halt fault)
+noted_err {A} r h fault is = ap (λ (x : Result A Halted). noted x fault) is
+
 -- a fault is passed on, where it is the fault of the whole
 pub satisfies_exit : {A : Type 0} (r : Result A PlacedHalt) (h : PlacedHalt) (P : Result A PlacedFault → Type 0) → r ≡ Err h
     → ((fault : PlacedFault) → h ≡ halt.Fault fault → P (Err fault)) → Satisfies r P
 satisfies_exit {A} r (halt.Fault fault) P is passes = subst (λ (x : Result A PlacedHalt). Satisfies x P) (sym is) (passes fault refl)
 satisfies_exit {A} r halt.OutOfMemory P is passes = subst (λ (x : Result A PlacedHalt). Satisfies x P) (sym is) tt
+
+-- the same in a call
+pub satisfies_exit_in : {A : Type 0} (k : Option CallPlace) (r : Result A PlacedHalt) (h : PlacedHalt) (P : Result A PlacedFault → Type 0) → r ≡ Err h
+    → ((fault : PlacedFault) → h ≡ halt.Fault fault → P (Err (fault_in k fault))) → Satisfies (result_in k r) P
+satisfies_exit_in {A} k r (halt.Fault fault) P is passes = subst (λ (x : Result A PlacedHalt). Satisfies (result_in k x) P) (sym is) (passes fault refl)
+satisfies_exit_in {A} k r halt.OutOfMemory P is passes = subst (λ (x : Result A PlacedHalt). Satisfies (result_in k x) P) (sym is) tt
 
 -- the fault of a step, unless it is that memory was refused
 pub satisfies_fault : {A : Type 0} (h : PlacedHalt) (fault : PlacedFault) (P : Result A PlacedFault → Type 0) → h ≡ halt_of fault
@@ -46,6 +59,13 @@ pub finish_fault : (levels : ℕ) (numbering : Numbering) (definitions : List De
 finish_fault levels numbering definitions hidden call old new h fault e s =
     let k : Finishes levels numbering definitions hidden call old (Err (halt.Fault fault)) new =
     subst (λ (x : PlacedHalt). Finishes levels numbering definitions hidden call old (Err x) new) e s in k.0
+
+-- after a fault the same macros are open
+pub finish_left : (levels : ℕ) (numbering : Numbering) (definitions : List Defined) (hidden : List Name) (call : MacroCall) (old new : Expander) (h : PlacedHalt) (fault : PlacedFault)
+    → h ≡ halt.Fault fault → Finishes levels numbering definitions hidden call old (Err h) new → new ≡ old
+finish_left levels numbering definitions hidden call old new h fault e s =
+    let k : Finishes levels numbering definitions hidden call old (Err (halt.Fault fault)) new =
+    subst (λ (x : PlacedHalt). Finishes levels numbering definitions hidden call old (Err x) new) e s in k.1
 
 -- no piece is longer than the tokens
 pub pieces_short : (n : ℕ) (tokens : List Read) → (length (pieces n tokens).first ≤ length tokens)
@@ -73,12 +93,12 @@ answers_each levels numbering definitions around call some fits out expands =
     level.answers_each levels call.opened.definition (site_at call numbering definitions around) out some fits expands.each
 
 -- no argument of a call is longer than what all of its tokens may come to
-pub of_call : (levels : ℕ) (numbering : Numbering) (definitions : List Defined) (around : List Name) (call : MacroCall) (r : Result (List (List Read)) PlacedHalt)
-    → Satisfies r (ExpandsEach (levels - 1) numbering definitions around (arguments_of call.tokens)) → IfOk r (AreOfCall levels definitions call)
-of_call levels numbering definitions around call (Ok arguments) expands = let here = pieces_short 0 call.tokens in
+pub of_call : (levels : ℕ) (numbering : Numbering) (definitions : List Defined) (around : List Name) (call : MacroCall) (r : Result (List (List Read)) Halted) (fault : Option PlacedFault)
+    → Satisfies (noted r fault) (ExpandsEach (levels - 1) numbering definitions around (arguments_of call.tokens)) → IfOk r (AreOfCall levels definitions call)
+of_call levels numbering definitions around call (Ok arguments) fault expands = let here = pieces_short 0 call.tokens in
     expands.least (length call.tokens) (All-cons (λ (a : List Read). length a ≤ length call.tokens) (pieces 0 call.tokens).first
     (pieces 0 call.tokens).others here.0 here.1)
-of_call levels numbering definitions around call (Err h) expands = tt
+of_call levels numbering definitions around call (Err h) fault expands = tt
 
 -- what a search gives satisfies what follows from it
 pub satisfies_more : {A : Type 0} (r : Result A PlacedHalt) (P Q : Result A PlacedFault → Type 0) → ((out : Result A PlacedFault) → P out → Q out)

@@ -1,14 +1,14 @@
 -- The expander over an argument is the definitions' expander of it.
-use Rattle.std.proofs.Common.{◌≡◌, false, ℕ, ◌+◌, ◌<◌, ◌≤◌, arith, List, [], ◌∷◌, ◌++◌, length, length-append, refl, sym, ap, subst, None}
+use Rattle.std.proofs.Common.{◌≡◌, ◌∙◌, false, ℕ, ◌+◌, ◌<◌, ◌≤◌, arith, List, [], ◌∷◌, ◌++◌, length, length-append, refl, sym, ap, subst, None}
 use Rattle.std.specs.Prelude.{Result, Ok, Err}
-use Rattle.pp_model.specs.Places.{PlacedFault}
+use Rattle.pp_model.specs.Places.{PlacedFault, fault_in}
 use Rattle.pp_model.specs.declared.read.Read.{Read}
 use Rattle.pp_model.specs.Names.{Name}
 use Rattle.pp_model.specs.Reading.{Expander, Listed, argument_reading, reading_of}
 use Rattle.pp_model.specs.Calls.{Site}
 use Rattle.pp_model.specs.Emitting.{Emits, Alone, Collects, done, failed, item, answers_at}
 use Rattle.pp_model.specs.inner.Emitting.{read_before}
-use Rattle.pp_model.specs.SpliceList.{macro_before}
+use Rattle.pp_model.specs.SpliceList.{macro_before, outermost_call}
 use Rattle.pp_model.specs.declared.read.Taken.{Taken as Given}
 use Rattle.pp_model.specs.declared.read.Taken.TheVariants as given
 use Rattle.pp_model.proofs.CollectLemmas.{after_items, after_items-before, after_items-end}
@@ -16,7 +16,7 @@ use Rattle.pp_macros.specs.inner.Calling.{MacroCall}
 use Rattle.pp_macros.specs.inner.CallTurns.{TurnsTo}
 use Rattle.pp_macros.specs.inner.Defined.{Defined, meaning_of}
 use Rattle.pp_macros.specs.inner.Finishing.{site_at, IsOpened}
-use Rattle.pp_macros.specs.inner.Frames.{names_of}
+use Rattle.pp_macros.specs.inner.Frames.{names_of, outermost_frame_call}
 use Rattle.pp_macros.specs.Item.{is_out_of_memory}
 use Rattle.pp_macros.specs.inner.Left.{work_of, most_alone, IsSound}
 use Rattle.pp_macros.specs.inner.Expander as kept
@@ -24,6 +24,7 @@ use Rattle.pp_macros.specs.inner.Reader.{of_list, Listing}
 use Rattle.pp_macros.specs.declared.calls.Taken.TheVariants as taken
 use Rattle.pp_macros.specs.declared.step.PlacedExit.TheVariants.{Error, Continue, Finished}
 use Rattle.pp_macros.proofs.work.CallFallsLemmas.{IsLess, IsPending, turn_falls}
+use Rattle.pp_macros.proofs.open_frames.FlatLemmas.{outermost_flat}
 use Rattle.pp_macros.proofs.taking.TurnLeadsLemmas.{LeadsTo}
 use Rattle.pp_macros.proofs.work.WorkFallsLemmas.{start_work}
 use Rattle.pp_macros.proofs.taking.ListedLeadsLemmas.{IsListed, list_simulates, list_shows, list_hides, list_sees, StandsListed, listed_leads, stands_listed, site_same, opened_less}
@@ -108,10 +109,12 @@ module _ (levels : ℕ) (numbering : Numbering) (definitions : List Defined) (hi
 
   -- a fault
   pub reached_fault : (fault : PlacedFault) → TurnsTo m (of_list l) (Err (Error fault)) n (of_list k) → is_out_of_memory fault.0 ≡ false
-      → Alone levels tokens numbering (meaning_of definitions) hidden (Err fault)
+      → Alone levels tokens numbering (meaning_of definitions) hidden (Err (fault_in (outermost_frame_call n.frames) fault))
   reached_fault fault turns reported =
       let h = listed_leads false numbering definitions hidden (answers_at levels) m n l k (Err (Error fault)) r.state r.stands turns reported in
-      r.goes_on (Err fault) (failed fault r.state h.0 (Err fault) h.1 refl)
+      let same : outermost_call h.0.list ≡ outermost_frame_call n.frames = ap outermost_call h.2 ∙ outermost_flat n.frames in
+      let found = fault_in (outermost_call h.0.list) fault in
+      rw (← same) (r.goes_on (Err found) (failed found r.state h.0 (Err found) h.1 refl))
 
   pending : (c : MacroCall) → TurnsTo m (of_list l) (Ok (taken.Call c)) n (of_list k) → IsPending levels m (of_list l) c n (of_list k)
   pending c turns = turn_falls levels m (of_list l) r.sound (Ok (taken.Call c)) n (of_list k) turns refl
@@ -119,12 +122,14 @@ module _ (levels : ℕ) (numbering : Numbering) (definitions : List Defined) (hi
   -- a call that has a fault
   pub reached_call_fault : (c : MacroCall) (fault : PlacedFault) → TurnsTo m (of_list l) (Ok (taken.Call c)) n (of_list k)
       → answers_at levels c.opened.definition (site_at c numbering definitions (names_of n.frames ++ hidden)) (Err fault)
-      → Alone levels tokens numbering (meaning_of definitions) hidden (Err fault)
+      → Alone levels tokens numbering (meaning_of definitions) hidden (Err (fault_in (outermost_frame_call n.frames) fault))
   reached_call_fault c fault turns answers =
       let h = listed_leads false numbering definitions hidden (answers_at levels) m n l k (Ok (taken.Call c)) r.state r.stands turns refl in
-      r.goes_on (Err fault) (failed fault r.state h.0 (Err fault)
+      let same : outermost_call h.0.list ≡ outermost_frame_call n.frames = ap outermost_call h.1.list ∙ outermost_flat n.frames in
+      let found = fault_in (outermost_call h.0.list) fault in
+      rw (← same) (r.goes_on (Err found) (failed found r.state h.0 (Err found)
       (h.2 fault (subst (λ (x : Site). answers_at levels c.opened.definition x (Err fault))
-      (sym (site_same false numbering definitions hidden n k c h.0 h.1 (pending c turns).free)) answers)).0 refl)
+      (sym (site_same false numbering definitions hidden n k c h.0 h.1 (pending c turns).free)) answers)).0 refl))
 
   -- a call whose frame opened
   module _ (c : MacroCall) (turns : TurnsTo m (of_list l) (Ok (taken.Call c)) n (of_list k))

@@ -20,7 +20,7 @@ EmitsLater {R} I A e f = (o : Given) (g : Expander R) (later : Emits I A f o g) 
 
 -- a pause keeps what is emitted
 pub pause_emits : {R : Type 0} (I : Reading R) (A : Answers) (e f : Expander R) → PausesTo I e f → EmitsLater I A e f
-pause_emits I A e f takes o g (itself o1 f1 h t n) = (itself o1 e h (takes o1 h t) n, refl)
+pause_emits I A e f takes o g (itself x o1 f1 h t n is) = (itself x o1 e h (takes x h t) n is, refl)
 pause_emits I A e f takes o g (object x o1 m f1 h g1 t n k next) = (object x o1 m e h g1 (takes x h t) n k next, refl)
 pause_emits I A e f takes o g (name_alone x y o1 m f1 h i g1 t n k calls is at) = (name_alone x y o1 m e h i g1 (takes x h t) n k calls is at, refl)
 pause_emits I A e f takes o g (call_refused x o1 fault m f1 h g1 t n k calls is) = (call_refused x o1 fault m e h g1 (takes x h t) n k calls is, refl)

@@ -96,17 +96,18 @@ plain_collects : (A : Answers) (numbering : Numbering) (definitions : List Defin
     → Collects argument_reading A (reading_of tokens numbering (meaning_of definitions) hidden) (Ok tokens)
 plain_collects A numbering definitions hidden [] e =
     let e0 : Expander Listed = reading_of [] numbering (meaning_of definitions) hidden in
-    done e0 e0 (Ok []) (itself given.End e0 e0 (record {
+    done e0 e0 (Ok []) (itself given.End given.End e0 e0 (record {
       first = given.End;
       fetches = taking.read given.End given.End e0.reader e0 e0 refl refl (refl, refl) refl refl;
       paints = refl;
-    }) refl) refl
+    }) refl refl) refl
 plain_collects A numbering definitions hidden (read ∷ rest) e =
     let e0 : Expander Listed = reading_of (read ∷ rest) numbering (meaning_of definitions) hidden in
     let e1 : Expander Listed = reading_of rest numbering (meaning_of definitions) hidden in
     let h = and_parts (is_plain definitions hidden read) (list_all (is_plain definitions hidden) rest) e in
     item read (Ok rest) (Ok (read ∷ rest)) e0 e1
-    (itself (given.Token read) e0 e1 (plain_takes numbering definitions hidden read rest h.0) (plain_opens numbering definitions hidden rest read read.token.value h.0))
+    (itself (given.Token read) (given.Token read) e0 e1 (plain_takes numbering definitions hidden read rest h.0)
+    (plain_opens numbering definitions hidden rest read read.token.value h.0) refl)
     (plain_collects A numbering definitions hidden rest h.1) refl
 
 -- tokens that give themselves, alone

@@ -2,7 +2,7 @@
 use Rattle.std.proofs.Common.{◌≡◌, ◌∙◌, true, false, ℕ, Bool, List, [], ◌∷◌, refl, sym, ap, subst, Option, Some, None}
 use Rattle.std.specs.Prelude.{if◌then◌else◌, ◌||◌, Result, Ok, Err}
 use Rattle.pp_model.specs.declared.place.Place.{Place}
-use Rattle.pp_model.specs.Places.{PlacedFault}
+use Rattle.pp_model.specs.Places.{PlacedFault, fault_in}
 use Rattle.pp_model.specs.declared.read.Read.{Read}
 use Rattle.pp_lexer.specs.declared.token.TokenValue.{TokenValue}
 use Rattle.pp_lexer.specs.declared.token.TokenValue.TheVariants.{Ident}
@@ -23,9 +23,9 @@ use Rattle.pp_model.specs.declared.read.Taken.TheVariants as given
 use Rattle.pp_model.specs.declared.splice.CallPlace.{CallPlace}
 use Rattle.pp_macros.specs.inner.CallTurns.{Sought, no_call, Seeks, alone, called, Finds, TurnsTo, passes, gives, object, seeks, paren_of, sought_by}
 use Rattle.pp_macros.specs.Item.{PlacedStep, wants_memory}
-use Rattle.pp_macros.specs.inner.Frames.{new_frame, flat, bare_call}
+use Rattle.pp_macros.specs.inner.Frames.{Frame, new_frame, flat, bare_call, outermost_frame_call}
 use Rattle.pp_macros.specs.inner.Expander as kept
-use Rattle.pp_macros.specs.inner.Expander.{outcome_of_step, StepsTaking, TakesNext}
+use Rattle.pp_macros.specs.inner.Expander.{kept_call, outcome_of_step, StepsTaking, TakesNext}
 use Rattle.pp_macros.specs.inner.Reader.{Reader, Reads, hidden_of, shown_line, visible}
 use Rattle.pp_macros.specs.inner.Turns.{macro_of, macro_of_value}
 use Rattle.pp_macros.specs.inner.Defined.{Macro, opened_by}
@@ -48,6 +48,18 @@ abbrev pub item_call_after : Option (PlacedStep Read) → List Entry → List En
 item_call_after None before after = outermost_call after
 item_call_after (Some step) before after = outermost_call before
 
+-- over frames that is the call that is kept
+pub calls_same : (o : Option (PlacedStep Read)) (first last : List Entry) (frames left : List Frame) → first ≡ flat frames → last ≡ flat left
+    → kept_call o (outermost_frame_call frames) left ≡ item_call_after o first last
+calls_same None first last frames left is becomes = sym (ap outermost_call becomes ∙ outermost_flat left)
+calls_same (Some step) first last frames left is becomes = sym (ap outermost_call is ∙ outermost_flat frames)
+
+-- with nothing held it is that of the outermost frame
+pub free_call_same : (o : Option (PlacedStep Read)) (call : Option CallPlace) (left : List Frame) → o ≡ None → (after : List Entry) → after ≡ flat left
+    → kept_call o call left ≡ outermost_call after
+free_call_same None call left free after becomes = sym (ap outermost_call becomes ∙ outermost_flat left)
+free_call_same (Some step) call left free after becomes = cc
+
 module _ {R : Type 0} (I : Reading R) (StandsR : Reader → R → Type 0) (hidden : List Name)
     (simulates : (r s : Reader) (x : R) (step : PlacedStep Read) → StandsR r x → Reads r step s → wants_memory step ≡ false → ReadsTo I StandsR hidden step x s)
     (shows : (s : Reader) (y : R) (line : ℕ) → StandsR s y → I.shown_line y line ≡ shown_line s line)
@@ -61,14 +73,16 @@ module _ {R : Type 0} (I : Reading R) (StandsR : Reader → R → Type 0) (hidde
   LeadsTo (Ok (taken.Call c)) e n s =
       (f : Expander R) × StandsIn I StandsR hidden n s f
       × ((fault : PlacedFault) → A c.opened.definition (site_of I f c.paren c.tokens) (Err fault)
-      → (emits : Emits I A e (given.Fault fault) f) × (item_call emits ≡ outermost_call f.list))
+      → (emits : Emits I A e (given.Fault (fault_in (outermost_call f.list) fault)) f)
+      × (item_call emits ≡ (fault_in (outermost_call f.list) fault).1.call))
       × ((arguments : List (List Read)) → A c.opened.definition (site_of I f c.paren c.tokens) (Ok arguments)
       → EmitsLater I A e (record f { list = macro_before c.opened.name c.opened.definition c.call arguments f.list }))
   LeadsTo (Err Continue) e n s = (f : Expander R) × StandsIn I StandsR hidden n s f × EmitsLater I A e f
   LeadsTo (Err Finished) e n s = (f : Expander R) × (emits : Emits I A e given.End f) × StandsIn I StandsR hidden n s f
       × (n.held ≡ None) × (item_call emits ≡ outermost_call f.list)
-  LeadsTo (Err (Error fault)) e n s = (f : Expander R) × (emits : Emits I A e (given.Fault fault) f)
-      × (f.list ≡ flat n.frames) × (n.held ≡ None) × (item_call emits ≡ outermost_call f.list)
+  LeadsTo (Err (Error fault)) e n s =
+      (f : Expander R) × (emits : Emits I A e (given.Fault (fault_in (outermost_call f.list) fault)) f)
+      × (f.list ≡ flat n.frames) × (n.held ≡ None) × (item_call emits ≡ (fault_in (outermost_call f.list) fault).1.call)
 
   -- the macro that a token opens over frames is the one that it opens over their list
   opens_same : (s : Reader) (f : Expander R) (read : Read) → StandsR s f.reader
@@ -112,14 +126,14 @@ module _ {R : Type 0} (I : Reading R) (StandsR : Reader → R → Type 0) (hidde
   exit_leads Finished m n r s e stands steps reported =
       let h = step_simulates I StandsR hidden simulates shows hides m n r s (Err Finished) e stands steps refl in (
         h.0,
-        emitting.itself given.End e h.0 h.1 refl,
+        emitting.itself given.End given.End e h.0 h.1 refl refl,
         h.2,
         step_frees I StandsR hidden simulates shows hides m n r s (Err Finished) steps,
         refl,
       )
   exit_leads (Error fault) m n r s e stands steps reported =
       let h = step_simulates I StandsR hidden simulates shows hides m n r s (Err (Error fault)) e stands steps reported in
-      (h.0, emitting.itself (given.Fault fault) e h.0 h.1 refl, h.4, h.6, refl)
+      (h.0, emitting.itself (given.Fault fault) (given.Fault (fault_in (outermost_call h.0.list) fault)) e h.0 h.1 refl refl, h.4, h.6, refl)
 
   no_paren : (next : PlacedStep Read) → paren_of next ≡ None → paren_at (outcome_of_step next) ≡ None
   no_paren (Ok read) h = h
@@ -142,7 +156,7 @@ module _ {R : Type 0} (I : Reading R) (StandsR : Reader → R → Type 0) (hidde
       let m : Opening = record { text = read.text; token = read.token; name = opened.name; definition = opened.definition } in
       rw (is, becomes) (
         k,
-        emitting.call_refused (given.Token read) (given.Fault fault) fault m e f k takes macro_of function
+        emitting.call_refused (given.Token read) (given.Fault (fault_in (outermost_call k.list) fault)) fault m e f k takes macro_of function
             (calls.broken (given.Token first) paren fault f h k (calls.refused fault) takes_paren at gathers refl) refl,
         list,
         freed,
@@ -154,7 +168,7 @@ module _ {R : Type 0} (I : Reading R) (StandsR : Reader → R → Type 0) (hidde
         k,
         stands,
         (λ fault answers. (
-          emitting.call_refused (given.Token read) (given.Fault fault) fault m e f k takes macro_of function
+          emitting.call_refused (given.Token read) (given.Fault (fault_in (outermost_call k.list) fault)) fault m e f k takes macro_of function
               (calls.whole (given.Token first) paren g (Err fault) f h k (calls.refused fault) takes_paren at gathers answers refl) refl,
           refl,
         )),
@@ -222,7 +236,7 @@ module _ {R : Type 0} (I : Reading R) (StandsR : Reader → R → Type 0) (hidde
       let freed : None ≡ n.held = sym (step_frees I StandsR hidden simulates shows hides m n r s (Ok read) steps) in
       rw is (
         h.0,
-        emitting.itself (given.Token read) e h.0 h.1 (as_opens s h.0 read None h.3 none),
+        emitting.itself (given.Token read) (given.Token read) e h.0 h.1 (as_opens s h.0 read None h.3 none) refl,
         h.2,
         ap (λ o. item_call_after o e.list h.0.list) freed,
       )

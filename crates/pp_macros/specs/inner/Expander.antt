@@ -11,7 +11,8 @@ use Rattle.pp_model.specs.declared.read.Taken.{Taken as Given}
 use Rattle.pp_model.specs.declared.read.Taken.TheVariants as given
 use Rattle.pp_macros.specs.Held.{HoldsOrdinary}
 use Rattle.pp_macros.specs.Item.{PlacedStep, is_out_of_memory}
-use Rattle.pp_macros.specs.inner.Frames.{Frame}
+use Rattle.pp_model.specs.declared.splice.CallPlace.{CallPlace}
+use Rattle.pp_macros.specs.inner.Frames.{Frame, outermost_frame_call}
 use Rattle.pp_macros.specs.inner.Reader.{Reader, nests}
 use Rattle.pp_macros.specs.inner.Reading.{painted_step}
 use Rattle.pp_macros.specs.inner.Turns.{Moves, taken_in, masks}
@@ -22,6 +23,12 @@ use Rattle.pp_macros.specs.declared.step.PlacedExit.TheVariants.{Error, Continue
 pub record Expander : Type 0 where
   pub held : Option (PlacedStep Read)
   pub frames : List Frame
+
+-- where the item of a turn was called from: if a step is held that turn gave a name, and this was the outermost call
+-- before it
+abbrev pub kept_call : Option (PlacedStep Read) → Option CallPlace → List Frame → Option CallPlace
+kept_call None call frames = outermost_frame_call frames
+kept_call (Some step) call frames = call
 
 -- an outcome as a step
 abbrev pub step_of_outcome : Given → PlacedStep Read

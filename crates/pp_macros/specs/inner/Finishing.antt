@@ -1,22 +1,29 @@
--- What is done with a call once its tokens are gathered: its arguments are expanded, and its frame opens
--- (docs/RULES.md, Expansion 7 to 9).
-use Rattle.std.specs.Prelude.{◌≡◌, ◌≤◌, ◌-◌, ℕ, false, List, [], ◌∷◌, ◌++◌, All, length, None, Result, Ok, Err, IfOk, ⊤}
+-- What is done with a call once its tokens are gathered: its arguments are expanded, and its frame opens; and how the
+-- next call of a list is come to (docs/RULES.md, Expansion 7 to 9).
+use Rattle.std.specs.Prelude.{◌≡◌, ◌≤◌, ◌-◌, ℕ, false, List, [], ◌∷◌, ◌++◌, All, length, Option, Some, None}
+use Rattle.std.specs.Prelude.{Result, Ok, Err, IfOk, ⊤}
 use Rattle.pp_model.specs.Places.{PlacedFault}
 use Rattle.pp_model.specs.declared.numbering.Numbering.{Numbering}
 use Rattle.pp_model.specs.declared.read.Read.{Read}
 use Rattle.pp_model.specs.Calls.{Site, arguments_of}
 use Rattle.pp_model.specs.Emitting.{Alone, Each, answers_at}
 use Rattle.pp_model.specs.Names.{Name}
+use Rattle.pp_macros.specs.Item.{PlacedStep, is_out_of_memory}
 use Rattle.pp_macros.specs.inner.Calling.{MacroCall}
+use Rattle.pp_macros.specs.inner.CallTurns.{TurnsTo}
 use Rattle.pp_macros.specs.inner.Defined.{Defined, meaning_of}
 use Rattle.pp_macros.specs.inner.Frames.{new_frame, names_of}
+use Rattle.pp_macros.specs.inner.Giving.{GivesEach}
 use Rattle.pp_macros.specs.inner.Left.{most_alone}
 use Rattle.pp_macros.specs.inner.Expander.{Expander}
 use Rattle.pp_macros.specs.inner.Parts.{addition}
-use Rattle.pp_macros.specs.inner.Reader.{Listing}
+use Rattle.pp_macros.specs.inner.Reader.{Listing, of_list}
 use Rattle.pp_macros.specs.inner.Reading.{AllReadOrdinary}
+use Rattle.pp_macros.specs.declared.calls.Taken.{Taken}
+use Rattle.pp_macros.specs.declared.calls.Taken.TheVariants as taken
 use Rattle.pp_macros.specs.declared.halt.PlacedHalt.{PlacedHalt}
 use Rattle.pp_macros.specs.declared.halt.PlacedHalt.TheVariants as halt
+use Rattle.pp_macros.specs.declared.step.PlacedExit.TheVariants.{Error, Continue, Finished}
 
 -- the site of the call: the place of its `(`, its arguments, how their lines are numbered, the definitions, and the
 -- names that are open around
@@ -93,3 +100,43 @@ pub record ExpandsEach (levels : ℕ) (numbering : Numbering) (definitions : Lis
     (arguments : List (List Read)) (out : Result (List (List Read)) PlacedFault) : Type 0 where
   pub each : Each (Alone levels) numbering (meaning_of definitions) hidden arguments out
   pub least : IfOk out (AreShort levels definitions arguments)
+
+-- one turn over a list: a token, which is put after the items, or a pause
+pub data TurnsOnce (m : Expander) (l : Listing) (items : List Read) (n : Expander) (k : Listing) (more : List Read)
+    : Type 0 where
+  puts : (read : Read)
+      → TurnsTo m (of_list l) (Ok (taken.Token read)) n (of_list k)
+      → more ≡ items ++ read ∷ []
+      → TurnsOnce m l items n k more
+  waits : TurnsTo m (of_list l) (Err Continue) n (of_list k) → more ≡ items → TurnsOnce m l items n k more
+
+-- any number of such turns; before each the open macros give what they have
+pub data TurnsOver (m : Expander) (l : Listing) (items : List Read) : Expander → Listing → List Read → Type 0 where
+  unturned : (n : Expander) (k : Listing) (more : List Read)
+      → n ≡ m → k ≡ l → more ≡ items
+      → TurnsOver m l items n k more
+  onward : (n last p : Expander) (k j : Listing) (some given more : List Read)
+      → TurnsOver m l items n k some
+      → GivesEach (of_list k) n some last given
+      → TurnsOnce last k given p j more
+      → TurnsOver m l items p j more
+
+-- such turns, then what the open macros give, and then a turn with this step
+pub record ComesTo (m : Expander) (l : Listing) (items : List Read) (step : PlacedStep Taken)
+    (n : Expander) (k : Listing) (more : List Read) : Type 0 where
+  pub between : Expander
+  pub list : Listing
+  pub some : List Read
+  pub over : TurnsOver m l items between list some
+  pub last : Expander
+  pub gives : GivesEach (of_list list) between some last more
+  pub turns : TurnsTo last (of_list list) step n (of_list k)
+
+-- The next call of a list is come to, or the list ends, or it has this fault. If memory runs out, this says nothing.
+abbrev pub ComesToCall : Expander → Listing → List Read → Result (Option MacroCall) PlacedHalt
+    → Expander → Listing → List Read → Type 0
+ComesToCall m l items (Ok (Some call)) n k more = ComesTo m l items (Ok (taken.Call call)) n k more
+ComesToCall m l items (Ok None) n k more = ComesTo m l items (Err Finished) n k more
+ComesToCall m l items (Err (halt.Fault fault)) n k more =
+    ComesTo m l items (Err (Error fault)) n k more × (is_out_of_memory fault.0 ≡ false)
+ComesToCall m l items (Err halt.OutOfMemory) n k more = ⊤

@@ -1,15 +1,19 @@
 -- Turns of the open macros that leave the reader as it is: pauses, macros without parentheses that open, and tokens
 -- that are given.
-use Rattle.std.specs.Prelude.{◌≡◌, Bool, List, [], ◌∷◌, ◌++◌, Option, Some, None, Ok, Err, IfSome}
-use Rattle.std.specs.Prelude.{MatchOption}
+use Rattle.std.specs.Prelude.{◌≡◌, Bool, true, false, List, [], ◌∷◌, ◌++◌, Option, Some, None, Ok, Err, IfSome}
+use Rattle.std.specs.Prelude.{MatchOption, IsSome, is_some, ⊤}
 use Rattle.pp_lexer.specs.declared.token.Token.{Token}
 use Rattle.pp_model.specs.declared.read.Read.{Read}
 use Rattle.pp_macros.specs.Held.{HoldsOrdinary}
-use Rattle.pp_macros.specs.inner.Ahead.{painted_as, token_given, given_next, frames_after}
+use Rattle.pp_macros.specs.inner.Ahead.{painted_as, token_given, given_next, frames_after, read_of}
 use Rattle.pp_macros.specs.inner.CallTurns.{TurnsTo, TakesSomething}
+use Rattle.pp_macros.specs.inner.Defined.{Macro}
 use Rattle.pp_macros.specs.inner.Expander.{Expander}
+use Rattle.pp_macros.specs.inner.Frames.{new_frame, bare_call, outermost_frame_call}
 use Rattle.pp_macros.specs.inner.Reader.{Reader}
 use Rattle.pp_macros.specs.declared.calls.Taken.TheVariants as taken
+use Rattle.pp_macros.specs.declared.calls.giving.Next.{Next}
+use Rattle.pp_macros.specs.declared.calls.giving.Next.TheVariants as next
 use Rattle.pp_macros.specs.declared.calls.giving.Turn.{Turn}
 use Rattle.pp_macros.specs.declared.calls.giving.Turn.TheVariants as turn
 use Rattle.pp_macros.specs.declared.step.PlacedExit.TheVariants.{Continue}
@@ -42,6 +46,23 @@ abbrev pub TurnsFrames : Reader → Expander → Turn → Expander → Type 0
 TurnsFrames r m turn.Passed n = TurnsTo m r (Err Continue) n r
 TurnsFrames r m (turn.Token painted) n = (n ≡ m) × SomeAhead r m painted
 TurnsFrames r m turn.Other n = n ≡ m
+
+-- the name of a macro without parentheses is next, and the macro opens
+pub record OpensAhead (r : Reader) (m : Expander) (opened : Macro) (name : Read) : Type 0 where
+  pub some : IsSome (given_next m.frames)
+  pub turns : TurnsTo m r (Err Continue) (record m {
+    frames = new_frame opened (bare_call name.text name.token.location) [] ∷ frames_after m.frames;
+  }) r
+  pub takes : TakesSomething m r
+
+-- what the next step of the innermost frame is
+abbrev pub IsNext : Reader → Expander → Next → Type 0
+IsNext r m next.Pause =
+    (is_some (outermost_frame_call m.frames) ≡ true) × (given_next m.frames ≡ None)
+    × TurnsTo m r (Err Continue) (passed m) r
+IsNext r m (next.Opens opened ahead) = OpensAhead r m opened.now.value (read_of ahead)
+IsNext r m (next.Token ahead) = GivesAhead r m ahead.painted (read_of ahead)
+IsNext r m next.Other = ⊤
 
 -- any number of pauses
 pub data PausesEach (r : Reader) (m : Expander) : Expander → Type 0 where
@@ -85,3 +106,8 @@ pub data GivesEach (r : Reader) (m : Expander) (items : List Read) : Expander �
       → GivesEach r m items n some
       → GivesOne r n some p more
       → GivesEach r m items p more
+
+-- such a turn, if there is one
+abbrev pub GivesIf : Bool → Reader → Expander → List Read → Expander → List Read → Type 0
+GivesIf true r m items n more = GivesOne r m items n more
+GivesIf false r m items n more = (n ≡ m) × (more ≡ items)

@@ -1,169 +1,132 @@
-use Rattle.std.proofs.Common.{◌≡◌, ◌≢◌, ◌+◌, ◌-◌, ◌≤◌, get_or, drop, refl, arith, ◌∙◌, sym, ap, subst, rules, List, [], length-append, ◌∷◌, ◌++◌, length}
+use Rattle.std.proofs.Common.{inl, ◌≡◌, ◌≢◌, ◌+◌, ◌-◌, ◌≤◌, get_or, drop, refl, arith, ◌∙◌, sym, ap, subst, rules, List, [], length-append, ◌∷◌, ◌++◌, length}
 use Rattle.std.specs.Prelude.{Ok, Err, None}
 use Rattle.pp_model.specs.Calls.{arguments_of, misfit}
 use Rattle.pp_macros.specs.declared.argument_lists.Part.{Part}
-use Rattle.pp_model.specs.Emitting.{answers_at}
+use Rattle.pp_model.specs.Emitting.{Alone, answers_at}
 use Rattle.pp_model.specs.Names.{Name}
-use Rattle.pp_macros.specs.inner.Expander.{Satisfies}
+use Rattle.pp_macros.specs.inner.Expander.{Expander, Satisfies}
+use Rattle.pp_macros.specs.inner.Defined.{meaning_of}
+use Rattle.pp_model.specs.Places.{fault_in}
 use Rattle.pp_macros.specs.inner.Finishing.{Finishes, site_at}
 use Rattle.pp_macros.specs.inner.Reader.{Listing}
-use Rattle.pp_macros.specs.inner.Frames.{names_of}
+use Rattle.pp_macros.specs.inner.Frames.{names_of, outermost_frame_call}
+use Rattle.pp_macros.specs.inner.Noting.{noted, noted_halt}
 use Rattle.pp_macros.specs.inner.Nesting.{MacroProcessor, open_names}
 use Rattle.pp_macros.specs.inner.Parts.{addition, list_of, lists_of}
 use Rattle.std.proofs.lemmas.Result.{err_from_is_err_and}
 use Rattle.pp_model.specs.Emitting.{first_failed, more, none}
 use Rattle.pp_model.specs.inner.Emitting.{list_before}
 use Rattle.pp_model.proofs.CollectLemmas.{after_lists-before, after_items-end}
-use Rattle.pp_macros.specs.declared.step.PlacedExit.TheVariants.{Error}
 use Rattle.std.proofs.lemmas.List.{append-nil, drop_more, drop_all}
 use Rattle.std.proofs.lemmas.List.Edits.{length-between}
-use Rattle.std.proofs.lemmas.List.Elements.{All-append, All-push}
+use Rattle.std.proofs.lemmas.List.Elements.{All-append}
 use Rattle.std.proofs.lemmas.Slice.{drop-put_mid}
 use Rattle.pp_model.specs.declared.read.Read.{Read}
 use Rattle.pp_macros.specs.Held.{HoldsOrdinary}
-use Rattle.pp_macros.proofs.taking.AnswerLemmas.{satisfies_exit, satisfies_fault, fault_of, finish_fault, answers_each, of_call, satisfies_more, finishes_without, short_more, short_list}
-use Rattle.pp_macros.proofs.taking.ListLeadsLemmas.{reached_start, reached_token, token_less, reached_pause, pause_less, reached_end, reached_fault, reached_call_fault, call_less, reached_call}
-use Rattle.pp_macros.proofs.taking.GivingLemmas.{reached_added}
-use Rattle.pp_macros.proofs.taking.ListedLeadsLemmas.{turned}
-use Rattle.pp_macros.proofs.taking.PartLemmas.{AreLeft, added_is, added_push, left_within, left_first, left_rest, lists_more, in_order_push, part_has, part_all}
+use Rattle.pp_macros.proofs.taking.AnswerLemmas.{noted_err, satisfies_exit, satisfies_exit_in, fault_of, finish_fault, finish_left, answers_each, of_call, satisfies_more, finishes_without, short_more, short_list}
+use Rattle.pp_macros.proofs.taking.ListLeadsLemmas.{reached_start, reached_end, reached_fault, reached_call_fault, call_less, reached_call}
+use Rattle.pp_macros.proofs.taking.GivingLemmas.{fault_comes, reached_last}
+use Rattle.pp_macros.proofs.taking.PartLemmas.{AreLeft, added_is, left_within, left_first, left_rest, lists_more, in_order_push, part_has, part_all}
 use Rattle.pp_macros.proofs.taking.PlainLemmas.{plain_alone, plain_short, plain_each, plain_are_short}
-use Rattle.pp_macros.proofs.open_frames.BaseLemmas.{around_argument, unnested}
-use Rattle.pp_macros.proofs.open_frames.ListKnownLemmas.{call_known, list_known, list_kept, nested_known}
+use Rattle.pp_macros.proofs.open_frames.ListKnownLemmas.{call_known, nested_known}
 use Rattle.pp_macros.proofs.work.CallFallsLemmas.{call_free}
 use Rattle.pp_macros.proofs.arguments.+answers.Goals as goal
 
-pub expand_list-items-init : goal.expand_list-items-init
-expand_list-items-init t c =
+pub expand_list-calls-init : goal.expand_list-calls-init
+expand_list-calls-init t c =
     let none_added : addition c.args.items.now.items c.args.items.now.items ≡ [] = added_is c.args.items.now.items c.args.items.now.items [] (sym (append-nil c.args.items.now.items)) in
     record {
       keeps = sym (append-nil c.args.items.now.items) ∙ ap (λ (out : List Read). c.args.items.now.items ++ out) (sym none_added);
       reached = reached_start _ _ _ _ _ _ _ _ c.requires.start.idle c.requires.start.argument none_added;
       holds = c.requires.before;
       below = refl;
+      none = c.requires.none;
       same = ap (λ (l : Listing). l.definitions) c.requires.start.argument;
     }
 
-pub expand_list-give_frames-requires-clause-known : goal.expand_list-give_frames-requires-clause-known
-expand_list-give_frames-requires-clause-known t c =
-    list_known c.args.processor.now c.items.processor c.items.processor.below c.items.lexer c.args.scope.now.definitions.now c.items.invariant.reached.sound
-    c.items.invariant.same c.items.invariant.below c.requires.known
+-- after a call nothing is held
+pub expand_list-finish-requires : goal.expand_list-finish-requires
+expand_list-finish-requires t c =
+    let comes = rw (c.in-Some.is, c.next_call.ensures.below) at c.in_ok-call.ensures.comes in
+    let on = reached_last _ _ _ _ _ _ _ c.args.items.now.items _ c.calls.invariant.keeps c.calls.invariant.reached _ _ _ _ comes in (
+      omega arith,
+      (
+        call_free _ _ _ _ _ c.in-Some.call refl (inl comes.turns),
+        (
+          call_known 0 c.args.processor.now c.next_call.new.processor comes.last _ comes.list c.next_call.new.lexer c.args.scope.now.definitions.now
+              c.in-Some.call on.reached.sound comes.turns (c.in_ok-call.ensures.same ∙ c.calls.invariant.same)
+              (c.next_call.ensures.below ∙ c.calls.invariant.below) c.requires.known,
+          c.in_ok-call.ensures.none,
+        ),
+      ),
+    )
 
-pub expand_list-step_list-requires : goal.expand_list-step_list-requires
-expand_list-step_list-requires t c =
-    let on = reached_added _ _ _ _ _ _ _ c.args.items.now.items _ _ _ c.items.invariant.keeps c.items.invariant.reached c.in_ok-give_frames.ensures.gives in
-    list_known c.args.processor.now c.give_frames.new.self c.items.processor.below c.items.lexer c.args.scope.now.definitions.now on.reached.sound
-    c.items.invariant.same (c.in_ok-give_frames.ensures.below ∙ c.items.invariant.below) c.requires.known
-
-pub expand_list-items-smaller-in-Continue-branch-3 : goal.expand_list-items-smaller-in-Continue-branch-3
-expand_list-items-smaller-in-Continue-branch-3 t c =
-    let on = reached_added _ _ _ _ _ _ _ c.args.items.now.items _ _ _ c.items.invariant.keeps c.items.invariant.reached c.in_ok-give_frames.ensures.gives in
+pub expand_list-calls-smaller : goal.expand_list-calls-smaller
+expand_list-calls-smaller t c =
+    let comes = rw (c.in-Some.is, c.next_call.ensures.below) at c.in_ok-call.ensures.comes in
+    let on = reached_last _ _ _ _ _ _ _ c.args.items.now.items _ c.calls.invariant.keeps c.calls.invariant.reached _ _ _ _ comes in
     omega (
       arith,
       on.least,
-      token_less _ _ _ _ _ _ _ _ on.reached _ _ c.in-Ok-Token.read (turned _ _ _ _ _
-          (rw (c.in-Ok-Token.field-0-is, c.in_ok-give_frames.ensures.below) at c.in-Ok-Token.ensures.turns) refl),
+      call_less _ _ _ _ _ _ _ _ on.reached _ _ c.in-Some.call comes.turns _
+          (rw (c.next_call.ensures.below ∙ c.calls.invariant.below) at c.in_ok-finish.ensures.finishes),
     )
 
-pub expand_list-items-preserved-in-Continue-branch-3 : goal.expand_list-items-preserved-in-Continue-branch-3
-expand_list-items-preserved-in-Continue-branch-3 t c =
-    let on = reached_added _ _ _ _ _ _ _ c.args.items.now.items _ _ _ c.items.invariant.keeps c.items.invariant.reached c.in_ok-give_frames.ensures.gives in
-    let put = added_push c.args.items.now.items c.give_frames.new.items.items c.push.new.self.items c.in-Ok-Token.read on.keeps
-    c.in_ok-push-in-Ok-Token.ensures.items in
-    let one_more : addition c.args.items.now.items c.push.new.self.items ≡ addition c.args.items.now.items c.give_frames.new.items.items ++ c.in-Ok-Token.read ∷ [] =
-    added_is c.args.items.now.items c.push.new.self.items _ put in
-    record {
-      keeps = put ∙ ap (λ (out : List Read). c.args.items.now.items ++ out) (sym one_more);
-      reached =
-          reached_token _ _ _ _ _ _ _ _ on.reached _ _ c.in-Ok-Token.read _
-          (turned _ _ _ _ _ (rw (c.in-Ok-Token.field-0-is, c.in_ok-give_frames.ensures.below) at c.in-Ok-Token.ensures.turns) refl) one_more;
-      holds =
-          rw c.in_ok-push-in-Ok-Token.ensures.items (All-push (λ (read : Read). HoldsOrdinary read.token.value) _ _ c.in_ok-give_frames.ensures.holds
-          (rw c.in-Ok-Token.field-0-is at c.in-Ok-Token.ensures.holds));
-      below = c.step_list.ensures.below ∙ c.in_ok-give_frames.ensures.below ∙ c.items.invariant.below;
-      same = list_kept c.args.scope.now.definitions.now _ _ _ _ _ c.items.lexer c.step_list.new.list
-          (turned _ _ _ _ _ (rw (c.in-Ok-Token.field-0-is, c.in_ok-give_frames.ensures.below) at c.in-Ok-Token.ensures.turns) refl) refl c.items.invariant.same;
-    }
-
-pub expand_list-items-smaller-in-Continue-branch-4 : goal.expand_list-items-smaller-in-Continue-branch-4
-expand_list-items-smaller-in-Continue-branch-4 t c =
-    let on = reached_added _ _ _ _ _ _ _ c.args.items.now.items _ _ _ c.items.invariant.keeps c.items.invariant.reached c.in_ok-give_frames.ensures.gives in
-    omega (
-      arith,
-      on.least,
-      call_less _ _ _ _ _ _ _ _ on.reached _ _ c.in-Ok-Call.call (turned _ _ _ _ _
-          (rw (c.in-Ok-Call.field-0-is, c.in_ok-give_frames.ensures.below) at c.in-Ok-Call.ensures.turns) refl) _ (rw (c.step_list.ensures.below ∙ c.in_ok-give_frames.ensures.below ∙ c.items.invariant.below) at c.in_ok-finish_call-in-Ok-Call.ensures.finishes),
-    )
-
-pub expand_list-items-preserved-in-Continue-branch-4 : goal.expand_list-items-preserved-in-Continue-branch-4
-expand_list-items-preserved-in-Continue-branch-4 t c =
-    let on = reached_added _ _ _ _ _ _ _ c.args.items.now.items _ _ _ c.items.invariant.keeps c.items.invariant.reached c.in_ok-give_frames.ensures.gives in
+pub expand_list-calls-preserved : goal.expand_list-calls-preserved
+expand_list-calls-preserved t c =
+    let comes = rw (c.in-Some.is, c.next_call.ensures.below) at c.in_ok-call.ensures.comes in
+    let on = reached_last _ _ _ _ _ _ _ c.args.items.now.items _ c.calls.invariant.keeps c.calls.invariant.reached _ _ _ _ comes in
     record {
       keeps = on.keeps;
       reached =
-          rw c.in_ok-finish_call-in-Ok-Call.ensures.below (reached_call _ _ _ _ _ _ _ _ on.reached _ _ c.in-Ok-Call.call
-          (turned _ _ _ _ _ (rw (c.in-Ok-Call.field-0-is, c.in_ok-give_frames.ensures.below) at c.in-Ok-Call.ensures.turns) refl) _ (rw (c.step_list.ensures.below ∙ c.in_ok-give_frames.ensures.below ∙ c.items.invariant.below) at c.in_ok-finish_call-in-Ok-Call.ensures.finishes));
-      holds = c.in_ok-give_frames.ensures.holds;
-      below = c.in_ok-finish_call-in-Ok-Call.ensures.below ∙ c.step_list.ensures.below ∙ c.in_ok-give_frames.ensures.below ∙ c.items.invariant.below;
-      same = list_kept c.args.scope.now.definitions.now _ _ _ _ _ c.items.lexer c.step_list.new.list
-          (turned _ _ _ _ _ (rw (c.in-Ok-Call.field-0-is, c.in_ok-give_frames.ensures.below) at c.in-Ok-Call.ensures.turns) refl) refl c.items.invariant.same;
+          rw (c.in_ok-finish.ensures.below, c.next_call.ensures.below) (reached_call _ _ _ _ _ _ _ _ on.reached _ _ c.in-Some.call comes.turns _
+          (rw (c.next_call.ensures.below ∙ c.calls.invariant.below) at c.in_ok-finish.ensures.finishes));
+      holds = c.in_ok-call.ensures.holds;
+      below = c.in_ok-finish.ensures.below ∙ c.next_call.ensures.below ∙ c.calls.invariant.below;
+      same = c.in_ok-call.ensures.same ∙ c.calls.invariant.same;
+      none = c.in_ok-finish.ensures.none;
     }
 
-pub expand_list-items-smaller : goal.expand_list-items-smaller
-expand_list-items-smaller t c =
-    let on = reached_added _ _ _ _ _ _ _ c.args.items.now.items _ _ _ c.items.invariant.keeps c.items.invariant.reached c.in_ok-give_frames.ensures.gives in
-    omega (
-      arith,
-      on.least,
-      pause_less _ _ _ _ _ _ _ _ on.reached _ _ (turned _ _ _ _ _
-          (rw (c.in-Err-Continue.field-0-is, c.in_ok-give_frames.ensures.below) at c.in-Err-Continue.ensures.turns) refl),
-    )
-
-pub expand_list-items-preserved : goal.expand_list-items-preserved
-expand_list-items-preserved t c =
-    let on = reached_added _ _ _ _ _ _ _ c.args.items.now.items _ _ _ c.items.invariant.keeps c.items.invariant.reached c.in_ok-give_frames.ensures.gives in
+pub expand_list-returns-clause-expands : goal.expand_list-returns-clause-expands
+expand_list-returns-clause-expands t c =
+    let comes = rw (c.in_default.is, c.next_call.ensures.below) at c.in_ok-call.ensures.comes in
+    let on = reached_last _ _ _ _ _ _ _ c.args.items.now.items _ c.calls.invariant.keeps c.calls.invariant.reached _ _ _ _ comes in
     record {
       keeps = on.keeps;
-      reached = reached_pause _ _ _ _ _ _ _ _ on.reached _ _
-          (turned _ _ _ _ _ (rw (c.in-Err-Continue.field-0-is, c.in_ok-give_frames.ensures.below) at c.in-Err-Continue.ensures.turns) refl);
-      holds = c.in_ok-give_frames.ensures.holds;
-      below = c.step_list.ensures.below ∙ c.in_ok-give_frames.ensures.below ∙ c.items.invariant.below;
-      same = list_kept c.args.scope.now.definitions.now _ _ _ _ _ c.items.lexer c.step_list.new.list
-          (turned _ _ _ _ _ (rw (c.in-Err-Continue.field-0-is, c.in_ok-give_frames.ensures.below) at c.in-Err-Continue.ensures.turns) refl) refl c.items.invariant.same;
+      alone = reached_end _ _ _ _ _ _ _ _ on.reached _ _ comes.turns;
+      least = omega (arith, on.reached.least);
+      holds = c.in_ok-call.ensures.holds;
     }
 
-pub expand_list-returns-in-Err-Finished : goal.expand_list-returns-in-Err-Finished
-expand_list-returns-in-Err-Finished t c =
-    let on = reached_added _ _ _ _ _ _ _ c.args.items.now.items _ _ _ c.items.invariant.keeps c.items.invariant.reached c.in_ok-give_frames.ensures.gives in
-    record {
-      below = c.step_list.ensures.below ∙ c.in_ok-give_frames.ensures.below ∙ c.items.invariant.below;
-      expands = record {
-        keeps = on.keeps;
-        alone = reached_end _ _ _ _ _ _ _ _ on.reached _ _
-            (turned _ _ _ _ _ (rw (c.in-Err-Finished.field-0-is, c.in_ok-give_frames.ensures.below) at c.in-Err-Finished.ensures.turns) refl);
-        least = omega (arith, on.reached.least);
-        holds = c.in_ok-give_frames.ensures.holds;
-      };
-    }
+pub expand_list-returns-in_err-call-clause-expands : goal.expand_list-returns-in_err-call-clause-expands
+expand_list-returns-in_err-call-clause-expands t c =
+    let e = err_from_is_err_and c.from_residual.result c.from_residual.ensures.1 in
+    satisfies_exit_in _ _ (noted_halt c.next_call.new.fault) _ (noted_err _ _ _ e.1)
+    (λ fault is.
+    let found = fault_comes _ _ _ _ _ _ _ fault is (rw c.next_call.ensures.below at c.in_err-call.ensures.comes) in
+    let on = reached_last _ _ _ _ _ _ _ c.args.items.now.items _ c.calls.invariant.keeps c.calls.invariant.reached _ _ _ _ found.0 in
+    reached_fault _ _ _ _ _ _ _ _ on.reached _ _ fault found.0.turns found.1)
 
-pub expand_list-returns-in-Err-Error-clause-expands : goal.expand_list-returns-in-Err-Error-clause-expands
-expand_list-returns-in-Err-Error-clause-expands t c =
-    let on = reached_added _ _ _ _ _ _ _ c.args.items.now.items _ _ _ c.items.invariant.keeps c.items.invariant.reached c.in_ok-give_frames.ensures.gives in
-    satisfies_fault c.halt_of.result c.in-Err-Error.fault _ c.halt_of.ensures
-    (λ reported. reached_fault _ _ _ _ _ _ _ _ on.reached _ _ c.in-Err-Error.fault
-    (turned _ _ _ _ (Err (Error c.in-Err-Error.fault)) (rw (c.in-Err-Error.field-0-is, c.in_ok-give_frames.ensures.below) at c.in-Err-Error.ensures.turns) reported) reported)
-
-pub expand_list-returns-in_err-finish_call-in-Ok-Call-clause-expands : goal.expand_list-returns-in_err-finish_call-in-Ok-Call-clause-expands
-expand_list-returns-in_err-finish_call-in-Ok-Call-clause-expands t c =
-    let e = err_from_is_err_and c.from_residual-in_err-finish_call-in-Ok-Call.result c.from_residual-in_err-finish_call-in-Ok-Call.ensures.1 in
-    let on = reached_added _ _ _ _ _ _ _ c.args.items.now.items _ _ _ c.items.invariant.keeps c.items.invariant.reached c.in_ok-give_frames.ensures.gives in
-    satisfies_exit _ c.in_err-finish_call-in-Ok-Call.field-0.0 _ (e.1 ∙ ap Err e.2)
-    (λ fault is. reached_call_fault _ _ _ _ _ _ _ _ on.reached _ _ c.in-Ok-Call.call fault
-    (turned _ _ _ _ _ (rw (c.in-Ok-Call.field-0-is, c.in_ok-give_frames.ensures.below) at c.in-Ok-Call.ensures.turns) refl)
-    (finish_fault c.args.levels c.args.scope.now.numbering c.args.scope.now.definitions.now (names_of c.args.processor.now.below) c.in-Ok-Call.call c.step_list.new.processor.here c.finish_call.new.processor.here
-    c.in_err-finish_call-in-Ok-Call.field-0.0 fault is
-    (subst (λ (hidden : List Name). Finishes c.args.levels c.args.scope.now.numbering c.args.scope.now.definitions.now hidden c.in-Ok-Call.call c.step_list.new.processor.here
-    (Err c.in_err-finish_call-in-Ok-Call.field-0.0) c.finish_call.new.processor.here)
-    (ap names_of (c.step_list.ensures.below ∙ c.in_ok-give_frames.ensures.below ∙ c.items.invariant.below)) c.in_err-finish_call-in-Ok-Call.ensures.finishes)))
+pub expand_list-returns-in_err-finish-clause-expands : goal.expand_list-returns-in_err-finish-clause-expands
+expand_list-returns-in_err-finish-clause-expands t c =
+    let e = err_from_is_err_and c.from_residual-in_err-finish.result c.from_residual-in_err-finish.ensures.1 in
+    let comes = rw (c.in-Some.is, c.next_call.ensures.below) at c.in_ok-call.ensures.comes in
+    let on = reached_last _ _ _ _ _ _ _ c.args.items.now.items _ c.calls.invariant.keeps c.calls.invariant.reached _ _ _ _ comes in
+    let hidden = names_of c.args.processor.now.below in
+    let finishes : Finishes c.args.levels c.args.scope.now.numbering c.args.scope.now.definitions.now hidden c.in-Some.call c.next_call.new.processor.here
+    (Err (noted_halt c.finish.new.fault)) c.finish.new.processor.here =
+    subst (λ (hidden : List Name). Finishes c.args.levels c.args.scope.now.numbering c.args.scope.now.definitions.now hidden c.in-Some.call c.next_call.new.processor.here
+    (Err (noted_halt c.finish.new.fault)) c.finish.new.processor.here)
+    (ap names_of (c.next_call.ensures.below ∙ c.calls.invariant.below)) c.in_err-finish.ensures.finishes in
+    satisfies_exit_in _ _ (noted_halt c.finish.new.fault) _ (noted_err _ _ _ e.1)
+    (λ fault is.
+    let left = finish_left c.args.levels c.args.scope.now.numbering c.args.scope.now.definitions.now hidden c.in-Some.call c.next_call.new.processor.here
+    c.finish.new.processor.here (noted_halt c.finish.new.fault) fault is finishes in
+    subst (λ (m : Expander). Alone c.args.levels c.args.lexer.now.tokens c.args.scope.now.numbering (meaning_of c.args.scope.now.definitions.now) hidden
+    (Err (fault_in (outermost_frame_call m.frames) fault))) (sym left)
+    (reached_call_fault _ _ _ _ _ _ _ _ on.reached _ _ c.in-Some.call fault comes.turns
+    (finish_fault c.args.levels c.args.scope.now.numbering c.args.scope.now.definitions.now hidden c.in-Some.call c.next_call.new.processor.here
+    c.finish.new.processor.here (noted_halt c.finish.new.fault) fault is finishes)))
 
 pub expand_argument-returns-then-are_plain-clause-expands : goal.expand_argument-returns-then-are_plain-clause-expands
 expand_argument-returns-then-are_plain-clause-expands t c =
@@ -198,7 +161,7 @@ expand_parts-expand_argument-requires t c =
       omega arith,
       (
         rw same (part_all (λ (read : Read). HoldsOrdinary read.token.value) c.args.tokens.now part c.requires.holds),
-        (c.loop-part.invariant.holds, (rw c.loop-part.invariant.same c.requires.free, rw c.loop-part.invariant.same c.requires.known)),
+        (c.loop-part.invariant.holds, (rw c.loop-part.invariant.same c.requires.free, (rw c.loop-part.invariant.same c.requires.known, c.loop-part.invariant.none))),
       ),
     )
 
@@ -210,10 +173,10 @@ expand_parts-returns-in_err-expand_argument-clause-expands t c =
     let same : list_of c.loop-part.tokens part ≡ list_of c.args.tokens.now part =
     left_first c.args.tokens.now c.loop-part.tokens part _ (rw here at c.loop-part.invariant.left) in
     let e = err_from_is_err_and c.from_residual-in_err-expand_argument.result c.from_residual-in_err-expand_argument.ensures.1 in
-    satisfies_exit _ c.in_err-expand_argument.field-0.0 _ (e.1 ∙ ap Err e.2)
+    satisfies_exit _ (noted_halt c.expand_argument.new.fault) _ (noted_err _ _ _ e.1)
     (λ fault is. record {
       each = c.loop-part.invariant.goes_on (Err fault) (rw here (first_failed (list_of c.args.tokens.now part) _ fault (Err fault)
-          (rw (same, c.loop-part.invariant.same) at (fault_of c.in_err-expand_argument.field-0.0 fault _ is c.in_err-expand_argument.ensures.expands)) refl));
+          (rw (same, c.loop-part.invariant.same) at (fault_of (noted_halt c.expand_argument.new.fault) fault _ is c.in_err-expand_argument.ensures.expands)) refl));
       least = tt;
     })
 
@@ -250,6 +213,7 @@ expand_parts-loop-part-preserved t c =
           (c.expand_argument.auto.tokens ∙ length-between c.loop-part.tokens part.start part.end (omega (arith, within.1, c.loop-part.auto.tokens))));
       holds = c.in_ok-expand_argument.ensures.expands.holds;
       same = c.expand_argument.ensures.same ∙ c.loop-part.invariant.same;
+      none = c.in_ok-expand_argument.ensures.none;
     }
 
 pub expand_parts-returns-clause-expands : goal.expand_parts-returns-clause-expands
@@ -277,52 +241,30 @@ expand_call-returns t c =
     let some : c.args.levels ≢ 0 = λ e. omega (arith, e, c.if-levels-eq0.false) in
     let around = open_names c.arguments_of.new.processor in
     record {
-      answers = subst (λ (p : MacroProcessor). Satisfies c.expand_arguments.result
+      answers = subst (λ (p : MacroProcessor). Satisfies (noted c.expand_arguments.result c.expand_arguments.new.fault)
           (λ out. answers_at c.args.levels c.args.call.now.opened.definition (site_at c.args.call.now c.args.scope.now.numbering c.args.scope.now.definitions.now (open_names p)) out))
           c.arguments_of.ensures.same
-          (satisfies_more c.expand_arguments.result _ _ (answers_each c.args.levels c.args.scope.now.numbering c.args.scope.now.definitions.now around c.args.call.now some fits)
+          (satisfies_more (noted c.expand_arguments.result c.expand_arguments.new.fault) _ _ (answers_each c.args.levels c.args.scope.now.numbering c.args.scope.now.definitions.now around c.args.call.now some fits)
           (rw cut at c.expand_arguments.ensures.expands));
-      least = of_call c.args.levels c.args.scope.now.numbering c.args.scope.now.definitions.now around c.args.call.now c.expand_arguments.result (rw cut at c.expand_arguments.ensures.expands);
+      least = of_call c.args.levels c.args.scope.now.numbering c.args.scope.now.definitions.now around c.args.call.now c.expand_arguments.result _ (rw cut at c.expand_arguments.ensures.expands);
       same = c.expand_arguments.ensures.same ∙ c.arguments_of.ensures.same;
+      none = c.expand_arguments.ensures.none;
       left = left;
     }
 
--- after a call nothing is held
-pub expand_list-finish_call-requires : goal.expand_list-finish_call-requires
-expand_list-finish_call-requires t c =
-    let on = reached_added _ _ _ _ _ _ _ c.args.items.now.items _ _ _ c.items.invariant.keeps c.items.invariant.reached c.in_ok-give_frames.ensures.gives in (
-      omega arith,
-      (
-        call_free _ _ _ _ _ c.in-Ok-Call.call refl (rw c.in-Ok-Call.field-0-is at c.in-Ok-Call.ensures.turns),
-        call_known 0 c.args.processor.now c.step_list.new.processor c.give_frames.new.self _ _ c.items.lexer c.step_list.new.list c.args.scope.now.definitions.now
-            c.in-Ok-Call.call on.reached.sound
-            (turned _ _ _ _ _ (rw (c.in-Ok-Call.field-0-is, c.in_ok-give_frames.ensures.below) at c.in-Ok-Call.ensures.turns) refl)
-            c.items.invariant.same (c.step_list.ensures.below ∙ c.in_ok-give_frames.ensures.below ∙ c.items.invariant.below) c.requires.known,
-      ),
-    )
-
 -- an argument with a token that doesn't give itself
 pub expand_argument-expand_list-ended-requires : goal.expand_argument-expand_list-ended-requires
-expand_argument-expand_list-ended-requires t c = (omega arith, (record { idle = ap (λ (m : MacroProcessor). m.here) c.nest-around.ensures.is; argument = rw c.argument-lexer.ensures refl }, (c.requires.before, nested_known _ c.args.processor.now c.nest-around.new.self c.nest-around.ensures.is c.requires.known)))
+expand_argument-expand_list-ended-requires t c = (omega arith, (record { idle = ap (λ (m : MacroProcessor). m.here) c.nest-around.ensures.is; argument = rw c.argument-lexer.ensures refl }, (c.requires.before, (nested_known _ c.args.processor.now c.nest-around.new.self c.nest-around.ensures.is c.requires.known, c.requires.none))))
 
-pub expand_argument-returns-clause-expands : goal.expand_argument-returns-clause-expands
-expand_argument-returns-clause-expands t c =
-    rw (around_argument c.args.processor.now c.nest-around.new.self c.nest-around.ensures.is, c.argument-lexer.ensures) at c.expand_list-ended.ensures.expands
-
-pub expand_argument-returns-clause-same : goal.expand_argument-returns-clause-same
-expand_argument-returns-clause-same t c =
-    unnested c.args.processor.now c.nest-around.new.self c.expand_list-ended.new.processor c.unnest.new.self c.nest-around.result
-    c.requires.free c.nest-around.ensures.is c.expand_list-ended.ensures.below c.nest-around.ensures.around c.unnest.ensures
-
-pub finish_call-returns-in_err-expanded-clause-finishes : goal.finish_call-returns-in_err-expanded-clause-finishes
-finish_call-returns-in_err-expanded-clause-finishes t c =
+pub finish-returns-in_err-expanded-clause-finishes : goal.finish-returns-in_err-expanded-clause-finishes
+finish-returns-in_err-expanded-clause-finishes t c =
     let e = err_from_is_err_and c.from_residual.result c.from_residual.ensures.1 in
     finishes_without c.args.levels c.args.scope.now.numbering c.args.scope.now.definitions.now (names_of c.args.processor.now.below) c.args.call c.args.processor.now.here
-    c.expand_call.new.processor.here _ c.in_err-expanded.field-0.0 (e.1 ∙ ap Err e.2) c.in_err-expanded.ensures.answers
+    c.expand_call.new.processor.here _ (noted_halt c.expand_call.new.fault) (noted_err _ _ _ e.1) c.in_err-expanded.ensures.answers
     (ap (λ (m : MacroProcessor). m.here) c.in_err-expanded.ensures.same)
 
-pub finish_call-returns-clause-finishes : goal.finish_call-returns-clause-finishes
-finish_call-returns-clause-finishes t c = record {
+pub finish-returns-clause-finishes : goal.finish-returns-clause-finishes
+finish-returns-clause-finishes t c = record {
   arguments = c.in_ok-expanded.expanded;
   answers = c.in_ok-expanded.ensures.answers;
   least = c.in_ok-expanded.ensures.least;

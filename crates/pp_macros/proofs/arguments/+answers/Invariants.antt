@@ -1,5 +1,5 @@
 use Rattle.std.proofs.Common.{◌≡◌, ◌+◌, ◌*◌, List, ◌++◌, length, drop}
-use Rattle.std.specs.Prelude.{Result}
+use Rattle.std.specs.Prelude.{None, Result}
 use Rattle.pp_model.specs.Places.{PlacedFault}
 use Rattle.pp_model.specs.declared.read.Read.{Read}
 use Rattle.pp_model.specs.Emitting.{Each, Alone}
@@ -16,8 +16,8 @@ use Rattle.pp_macros.proofs.taking.ListLeadsLemmas.{Reached}
 use Rattle.pp_macros.proofs.taking.PartLemmas.{AreLeft}
 use Rattle.pp_macros.proofs.arguments.+answers.Given as goal
 
-abbrev pub decreases-finish_call : goal.decreases-finish_call
-decreases-finish_call l = 8 * l.levels + 1
+abbrev pub decreases-finish : goal.decreases-finish
+decreases-finish l = 8 * l.levels + 1
 
 abbrev pub decreases-expand_call : goal.decreases-expand_call
 decreases-expand_call l = 8 * l.levels
@@ -35,18 +35,19 @@ abbrev pub decreases-expand_arguments : goal.decreases-expand_arguments
 decreases-expand_arguments l = 8 * l.levels + 6
 
 -- what was added so far, and the state from which the rest comes
-abbrev pub invariant-expand_list-items : goal.invariant-expand_list-items
-invariant-expand_list-items l = record {
+abbrev pub invariant-expand_list-calls : goal.invariant-expand_list-calls
+invariant-expand_list-calls l = record {
   keeps : l.items.items ≡ l.fn.items.items ++ addition l.fn.items.items l.items.items;
   reached : Reached l.levels l.scope.numbering l.scope.definitions.now (names_of l.fn.processor.below) l.fn.lexer.tokens l.processor.here (listed_in l.processor.below l.lexer)
       (addition l.fn.items.items l.items.items);
   holds : AllReadOrdinary l.items.items;
   below : l.processor.below ≡ l.fn.processor.below;
   same : l.lexer.definitions ≡ l.scope.definitions.now;
+  none : l.fault ≡ None;
 }
 
-abbrev pub decreases-expand_list-items : goal.decreases-expand_list-items
-decreases-expand_list-items l = work_of l.levels l.processor.here (seen_by l.processor.below (of_list l.lexer))
+abbrev pub decreases-expand_list-calls : goal.decreases-expand_list-calls
+decreases-expand_list-calls l = work_of l.levels l.processor.here (seen_by l.processor.below (of_list l.lexer))
 
 -- the lists so far, and the parts that are left
 abbrev pub invariant-expand_parts-loop-part : goal.invariant-expand_parts-loop-part
@@ -59,4 +60,5 @@ invariant-expand_parts-loop-part l = record {
   left : AreLeft l.fn.tokens l.tokens (drop l.part-index l.parts);
   holds : AllReadOrdinary l.items.items;
   same : l.processor ≡ l.fn.processor;
+  none : l.fault ≡ None;
 }

@@ -17,5 +17,5 @@ returns-in-Ok c =
 pub returns-in-Err : goal.returns-in-Err
 returns-in-Err c =
     operand_fault c.args.self.now.kind c.args.self.now.directive c.args.self.now.levels c.args.self.now.scope.numbering c.args.self.now.scope.definitions.now
-    c.args.line.now.expander.here (rest_of c.args.line.now) _ _ c.in_ok-found.found c.in_ok-found.ensures c.in-Err.fault
-    (sym c.is_open_paren.ensures ∙ c.if-is_open_paren.false) c.in-Err.ensures
+    c.args.line.now.expander.here (rest_of c.args.line.now) _ _ c.in_ok-found.found c.in_ok-found.ensures c.in-Err.fault c.found_in.result
+    (sym c.is_open_paren.ensures ∙ c.if-is_open_paren.false) c.in-Err.ensures c.found_in.ensures

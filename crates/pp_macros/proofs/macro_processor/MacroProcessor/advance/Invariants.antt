@@ -1,4 +1,4 @@
-use Rattle.std.proofs.Common.{◌≡◌}
+use Rattle.std.proofs.Common.{◌≡◌, None}
 use Rattle.pp_macros.specs.inner.Giving.{PausesEach}
 use Rattle.pp_macros.specs.inner.Left.{work_of, IsSound}
 use Rattle.pp_macros.specs.inner.Nesting.{seen_by}
@@ -9,6 +9,7 @@ abbrev pub invariant-turns : goal.invariant-turns
 invariant-turns g l = record {
   pauses : PausesEach (seen_by l.fn.self.below (g.L.MeLexer.reader l.fn.lexer)) l.fn.self.here l.self.here;
   sound : IsSound l.self.here (seen_by l.fn.self.below (g.L.MeLexer.reader l.fn.lexer));
+  free : l.self.here.held ≡ None;
   below : l.self.below ≡ l.fn.self.below;
 }
 

@@ -1,43 +1,47 @@
-use Rattle.std.proofs.Common.{◌∙◌, ap, refl}
-use Rattle.std.proofs.lemmas.List.Elements.{All-push}
-use Rattle.pp_model.specs.declared.read.Read.{Read}
-use Rattle.pp_macros.specs.Held.{HoldsOrdinary}
-use Rattle.pp_macros.specs.inner.Giving.{none}
-use Rattle.pp_macros.specs.inner.Nesting.{MacroProcessor}
+use Rattle.std.proofs.Common.{◌∙◌, refl, sym}
+use Rattle.pp_macros.specs.inner.Giving.{further, none}
 use Rattle.pp_macros.specs.inner.Reader.{of_list}
 use Rattle.pp_macros.proofs.open_frames.KnownLemmas.{sound_known}
-use Rattle.pp_macros.proofs.taking.GivingLemmas.{given_more, gives_pauses}
+use Rattle.pp_macros.proofs.taking.ExpanderLemmas.{none_held}
+use Rattle.pp_macros.proofs.taking.GivingLemmas.{giving_less}
 use Rattle.pp_macros.proofs.macro_processor.MacroProcessor.give_frames.Goals as goal
 
-pub tokens-init : goal.tokens-init
-tokens-init c = record { gives = none _ _ refl refl; sound = c.requires.sound; holds = c.requires.ordinary; below = refl }
+pub turns-init : goal.turns-init
+turns-init c = record {
+  gives = none _ _ refl refl;
+  sound = c.requires.sound;
+  holds = c.requires.ordinary;
+  free = none_held c.args.self.now.here.held (sym c.is_holding.ensures ∙ c.if-is_holding.false);
+  below = refl;
+}
 
-pub advance-requires-clause-known : goal.advance-requires-clause-known
-advance-requires-clause-known c =
-    sound_known c.args.self.now c.tokens.self (of_list c.args.list.now) c.tokens.invariant.sound c.tokens.invariant.below c.requires.known
+pub give_one-requires-clause-known : goal.give_one-requires-clause-known
+give_one-requires-clause-known c =
+    sound_known c.args.self.now c.turns.self (of_list c.args.list.now) c.turns.invariant.sound c.turns.invariant.below c.requires.known
 
-pub tokens-preserved : goal.tokens-preserved
-tokens-preserved c =
-    let before = c.tokens.invariant in
-    let advanced = rw before.below at (c.in_ok-painted.ensures {u = tt}).advances in
-    let found = rw c.in-Some.is at advanced.gives in
-    let put = (c.in_ok-put_token.ensures {u = tt}).puts found.0 found.1.ahead in
-    let more = given_more _ _ _ _ _ _ _ _ _ _ before.gives before.sound advanced.pauses found.1 (ap (λ (m : MacroProcessor). m.here) (c.in_ok-put_token.ensures {u = tt}).passes) put in
+pub turns-preserved : goal.turns-preserved
+turns-preserved c =
+    let before = c.turns.invariant in
+    let one = rw (before.below, c.if-branch.true) at (c.in_ok-give_one.ensures {u = tt}).gives in
     record {
-      gives = more.gives;
-      sound = more.sound;
-      below = c.put_token.ensures.below ∙ c.advance.ensures.below ∙ before.below;
-      holds = rw put (All-push (λ (read : Read). HoldsOrdinary read.token.value) _ _ before.holds found.1.holds);
+      gives = further _ _ _ _ before.gives one;
+      sound = (giving_less 0 _ _ _ _ _ before.sound one).sound;
+      holds = (c.in_ok-give_one.ensures {u = tt}).holds;
+      free = (c.in_ok-give_one.ensures {u = tt}).free;
+      below = c.give_one.ensures.below ∙ before.below;
     }
 
-pub tokens-smaller : goal.tokens-smaller
-tokens-smaller c =
-    let before = c.tokens.invariant in
-    let advanced = rw before.below at (c.in_ok-painted.ensures {u = tt}).advances in
-    let found = rw c.in-Some.is at advanced.gives in
-    let put = (c.in_ok-put_token.ensures {u = tt}).puts found.0 found.1.ahead in
-    (given_more _ _ _ _ _ _ _ _ _ _ before.gives before.sound advanced.pauses found.1 (ap (λ (m : MacroProcessor). m.here) (c.in_ok-put_token.ensures {u = tt}).passes) put).less
+pub turns-smaller : goal.turns-smaller
+turns-smaller c =
+    let before = c.turns.invariant in
+    let one = rw (before.below, c.if-branch.true) at (c.in_ok-give_one.ensures {u = tt}).gives in
+    (giving_less 0 _ _ _ _ _ before.sound one).falls
 
 pub returns-clause-gives : goal.returns-clause-gives
 returns-clause-gives c =
-    gives_pauses _ _ _ _ _ _ c.tokens.invariant.gives (rw c.tokens.invariant.below at (c.in_ok-painted.ensures {u = tt}).advances).pauses
+    let left = rw c.if-branch.false at (c.in_ok-give_one.ensures {u = tt}).gives in
+    rw (left.0, left.1) c.turns.invariant.gives
+
+-- something is held
+pub returns-then-is_holding-clause-gives : goal.returns-then-is_holding-clause-gives
+returns-then-is_holding-clause-gives c = none _ _ refl refl
