@@ -13,8 +13,7 @@ use Rattle.pp_model.specs.SourceReader.{SourceReader}
 use Rattle.pp_model.specs.declared.read.Read.{Read}
 use Rattle.pp_model.specs.declared.splice.CallPlace.{CallPlace}
 use Rattle.pp_model.specs.declared.splice.Origin.{Origin}
-use Rattle.pp_macros.specs.Item.{PlacedStep}
-use Rattle.pp_macros.specs.inner.Frames.{Frame, outermost_frame_call}
+use Rattle.pp_macros.specs.inner.Expander.{kept_call}
 use Rattle.pp_macros.specs.inner.Giving.{GivesAhead}
 use Rattle.pp_macros.specs.inner.Left.{work_of}
 use Rattle.pp_macros.specs.LexerErrors.{ErrorAt}
@@ -25,14 +24,14 @@ use Rattle.pp_rs.specs.inner.Stands.{StandsFor}
 use Rattle.pp_macros.specs.inner.Unreported.{unreported_with}
 
 -- the open macros with what is held, the source after them, whether memory ran out, the place of the last error, the
--- text of the last item, where the outermost macro was called that was open when the name was taken after which the
--- held step was met, and the rules by which the source and contents are read
+-- text of the last item and its call if it was an error, where the outermost macro was called that was open when the
+-- name was taken after which the held step was met, and the rules by which the source and contents are read
 pub record Preprocessing : Type 0 where
   pub expander : kept.Expander
   pub source : Source
   pub spent : Bool
   pub place : Location
-  pub text : ℕ
+  pub last : Origin
   pub name_call : Option CallPlace
   pub rules : Rules
 
@@ -62,18 +61,22 @@ errors_left p = unreported_with p.expander.held (unreported_of p.source)
 unfoldable pub error_place : Preprocessing → Location
 error_place p = p.place
 
--- the call that is kept if a step is held, and otherwise that of the outermost frame
-abbrev pub kept_call : Option (PlacedStep Read) → Option CallPlace → List Frame → Option CallPlace
-kept_call None call frames = outermost_frame_call frames
-kept_call (Some step) call frames = call
+-- what is noted of an item that is no error
+abbrev pub from_text : ℕ → Origin
+from_text text = record { text = text; call = None }
+
+-- the call of an error, or if it has none this one
+abbrev pub call_or : Option CallPlace → Option CallPlace → Option CallPlace
+call_or (Some call) other = Some call
+call_or None other = other
 
 -- where the macro was called from which the last item came
 unfoldable pub call_place : Preprocessing → Option CallPlace
-call_place p = kept_call p.expander.held p.name_call p.expander.frames
+call_place p = call_or p.last.call (kept_call p.expander.held p.name_call p.expander.frames)
 
 -- the text in which the place of the last item is
 unfoldable pub item_text : Preprocessing → ℕ
-item_text p = p.text
+item_text p = p.last.text
 
 -- where the last item came from
 abbrev pub origin_of : Preprocessing → Origin

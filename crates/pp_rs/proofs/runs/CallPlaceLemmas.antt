@@ -16,10 +16,11 @@ use Rattle.pp_macros.specs.inner.Reader.{Reader, of_source}
 use Rattle.pp_macros.specs.inner.Source.{Source}
 use Rattle.pp_macros.proofs.taking.ExpanderLemmas.{is_idle-idle}
 use Rattle.pp_macros.proofs.taking.CallStaysLemmas.{token_call}
-use Rattle.pp_rs.specs.Kept.{Preprocessing, IsAhead, kept_call, call_place, item_text}
+use Rattle.pp_macros.specs.inner.Expander.{kept_call}
+use Rattle.pp_rs.specs.Kept.{Preprocessing, IsAhead, call_place, from_text, item_text}
 
 -- if nothing is held, the call is that of the outermost frame
-free_call : (o : Option (PlacedStep Read)) (call : Option CallPlace) (frames : List Frame) → o ≡ None → kept_call o call frames ≡ outermost_frame_call frames
+pub free_call : (o : Option (PlacedStep Read)) (call : Option CallPlace) (frames : List Frame) → o ≡ None → kept_call o call frames ≡ outermost_frame_call frames
 free_call o call frames free = rw free refl
 
 -- a token that is taken, with nothing held after it, leaves the outermost macro open
@@ -38,7 +39,7 @@ turn_call m n r s step read (seeks other opened (gathered paren g) step1 m1 n1 p
 -- the call that gives the token that is ahead
 pub ahead_call : (p : Preprocessing) (read : Read) → IsAhead p read
     → (now : Expander) → p.expander ≡ now → (source : Source) (spent : Bool) (place : Location) (text : ℕ) (name_call : Option CallPlace) (rules : Rules)
-    → call_place (record { expander = passed now; source = source; spent = spent; place = place; text = text; name_call = name_call; rules = rules })
+    → call_place (record { expander = passed now; source = source; spent = spent; place = place; last = from_text text; name_call = name_call; rules = rules })
     ≡ outermost_frame_call p.expander.frames
 unfolding IsAhead call_place
 ahead_call p read ahead now is source spent place text name_call rules =
@@ -47,11 +48,11 @@ ahead_call p read ahead now is source spent place text name_call rules =
     ∙ turn_call p.expander (passed p.expander) (of_source p.source) (of_source p.source) _ _ is_given.turns refl is_given.free)
 
 -- the text of the last item is kept
-pub text_kept : (p : Preprocessing) → item_text p ≡ p.text
+pub text_kept : (p : Preprocessing) → item_text p ≡ p.last.text
 unfolding item_text
 text_kept p = refl
 
 -- no macro is open in live text
-pub call_outside : (p : Preprocessing) → is_idle p.expander ≡ true → call_place p ≡ None
+pub call_outside : (p : Preprocessing) → is_idle p.expander ≡ true → p.last.call ≡ None → call_place p ≡ None
 unfolding call_place
-call_outside p waits = ap (λ (m : Expander). kept_call m.held p.name_call m.frames) (is_idle-idle p.expander waits)
+call_outside p waits none = rw none (ap (λ (m : Expander). kept_call m.held p.name_call m.frames) (is_idle-idle p.expander waits))

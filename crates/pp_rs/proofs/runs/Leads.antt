@@ -13,7 +13,9 @@ use Rattle.pp_model.specs.declared.splice.CallPlace.{CallPlace}
 use Rattle.pp_macros.specs.Item.{PlacedStep}
 use Rattle.pp_macros.proofs.taking.PauseLemmas.{EmitsLater}
 use Rattle.pp_rs.specs.Comes.{source_rules}
-use Rattle.pp_rs.specs.Kept.{kept_call}
+use Rattle.pp_macros.specs.inner.Expander.{kept_call}
+use Rattle.pp_macros.specs.inner.Frames.{outermost_frame_call}
+use Rattle.pp_model.specs.Places.{fault_in}
 use Rattle.pp_macros.specs.inner.Source.{Source}
 use Rattle.pp_macros.specs.inner.Expander as kept
 use Rattle.pp_rs.specs.inner.Stands.{StandsFor}
@@ -27,8 +29,9 @@ LeadsFrom A e (Ok read) call expander source = (f : Expander SourceReader) × (e
 LeadsFrom A e (Err Continue) call expander source = (f : Expander SourceReader) × StandsFor expander source f × EmitsLater source_rules A e f
 LeadsFrom A e (Err Finished) call expander source = (f : Expander SourceReader) × (emits : Emits source_rules A e taken.End f)
     × StandsFor expander source f × (kept_call expander.held call expander.frames ≡ item_call emits)
-LeadsFrom A e (Err (Error fault)) call expander source = (f : Expander SourceReader) × (emits : Emits source_rules A e (taken.Fault fault) f)
-    × (kept_call expander.held call expander.frames ≡ item_call emits)
+LeadsFrom A e (Err (Error fault)) call expander source =
+    (f : Expander SourceReader) × (emits : Emits source_rules A e (taken.Fault (fault_in (outermost_frame_call expander.frames) fault)) f)
+    × (item_call emits ≡ (fault_in (outermost_frame_call expander.frames) fault).1.call)
 
 -- the same of each state that the expander and the source stand for; one step, or many that pause before it
 pub record Leads (A : Answers) (expander : kept.Expander) (source : Source) (step : PlacedStep Read) (call : Option CallPlace)
@@ -53,8 +56,8 @@ leads_on A e f (Err Finished) call expander source keeps leads =
     let first = keeps taken.End leads.0 leads.1 in
     (leads.0, first.0, leads.2, leads.3 ∙ sym first.1)
 leads_on A e f (Err (Error fault)) call expander source keeps leads =
-    let first = keeps (taken.Fault fault) leads.0 leads.1 in
-    (leads.0, first.0, leads.2 ∙ sym first.1)
+    let first = keeps (taken.Fault (fault_in (outermost_frame_call expander.frames) fault)) leads.0 leads.1 in
+    (leads.0, first.0, first.1 ∙ leads.2)
 
 -- a pause, and then a step
 pub leads_then : (A : Answers) (expander expander_then expander_last : kept.Expander) (source source_then source_last : Source) (step : PlacedStep Read)

@@ -4,11 +4,14 @@ use Rattle.std.specs.Prelude.{Ok, Err, MatchBool, unwrap_or}
 use Rattle.pp_lexer.specs.PreprocessorError.{out_of_memory}
 use Rattle.pp_lexer.specs.declared.rules.Rules.{Rules}
 use Rattle.pp_lexer.specs.declared.token.Location.{Location}
-use Rattle.pp_model.specs.Places.{PlacedFault, unplaced}
+use Rattle.pp_model.specs.Places.{PlacedFault, fault_in, unplaced}
 use Rattle.pp_model.specs.declared.read.Read.{Read}
 use Rattle.pp_model.specs.Emitting.{Emits, answers_at, expansion_limit}
 use Rattle.pp_model.specs.Painting.{item_of}
 use Rattle.pp_model.specs.declared.read.Taken.{Taken}
+use Rattle.pp_model.specs.declared.read.Taken.TheVariants as taken
+use Rattle.pp_model.specs.declared.outcome.Outcome.TheVariants as outcome
+use Rattle.pp_model.specs.declared.splice.Origin.{Origin}
 use Rattle.pp_model.specs.Reading.{Expander}
 use Rattle.pp_model.specs.SourceReader.{SourceReader}
 use Rattle.pp_model.specs.declared.splice.CallPlace.{CallPlace}
@@ -20,16 +23,18 @@ use Rattle.pp_macros.specs.inner.CallTurns.{TakesSomething}
 use Rattle.pp_macros.specs.inner.Left.{work_of}
 use Rattle.pp_macros.specs.LexerErrors.{ErrorAt, PassesErrors}
 use Rattle.pp_macros.specs.inner.Expander as kept
+use Rattle.pp_macros.specs.inner.Expander.{kept_call}
 use Rattle.pp_macros.specs.inner.Frames.{outermost_frame_call}
 use Rattle.pp_macros.specs.inner.Reader.{of_source}
 use Rattle.pp_macros.specs.inner.Source.{Source, unreported_of}
 use Rattle.pp_rs.specs.inner.SourceTurns.{TurnsSource, StepsOver}
 use Rattle.pp_rs.specs.inner.Stands.{StandsFor}
-use Rattle.pp_rs.specs.Kept.{Preprocessing, Stands, is_spent, most_items, errors_left, error_place, kept_call, call_place, item_text, rules_of}
+use Rattle.pp_rs.specs.Kept.{Preprocessing, Stands, is_spent, most_items, errors_left, error_place, call_or, call_place, from_text, item_text, rules_of}
 use Rattle.pp_rs.specs.Preprocessing.{IsLessLeft, IsErrorAt, of_lexer, of_its_own, IsRefusedItem, IsGivenItem, IsNextItem}
 use Rattle.pp_macros.specs.inner.Unreported.{with_read}
 use Rattle.pp_macros.specs.declared.step.PlacedExit.TheVariants.{Error, Continue, Finished}
 use Rattle.pp_directives.proofs.PassedErrorsLemmas.{passes_none}
+use Rattle.pp_rs.proofs.runs.CallPlaceLemmas.{free_call}
 use Rattle.pp_rs.proofs.runs.Leads.{LeadsFrom, Leads, leads_then}
 use Rattle.pp_rs.proofs.runs.LeftLemmas.{SomethingLeft, some_left, left_is_work, no_work}
 use Rattle.pp_rs.proofs.runs.UnreportedTurnLemmas.{errors_of, ErrorsLeft, left_then, turn_errors}
@@ -38,6 +43,16 @@ use Rattle.pp_rs.proofs.runs.SourceTurnLemmas.{turned_source, source_fits, sourc
 -- what is given next comes next
 abbrev comes : (e f : Expander SourceReader) (x : Taken) → Emits source_rules (answers_at expansion_limit) e x f → Comes e (item_of x) f
 comes e f x emits = record { taken = x; emits = emits; is = refl }
+
+-- the error of a fault in a call is that of the fault
+unplaced_found : (k : Option CallPlace) (fault : PlacedFault) → unplaced (fault_in k fault) ≡ unplaced fault
+unplaced_found (Some call) fault = refl
+unplaced_found None fault = refl
+
+-- and so is its text
+text_found : (k : Option CallPlace) (fault : PlacedFault) → (fault_in k fault).1.text ≡ fault.1.text
+text_found (Some call) fault = refl
+text_found None fault = refl
 
 -- a state from which the same comes next as from the first, by these rules
 pub record Reached (rules : Rules) (expander : kept.Expander) (source : Source) (expander_now : kept.Expander) (source_now : Source) : Type 0 where
@@ -62,9 +77,9 @@ reached_first {rules} expander now source source_now e f fit = rw (e, f) (record
 
 module _ {rules : Rules} (expander now after : kept.Expander) (source source_now source_after : Source) (r : Reached rules expander source now source_now) where
   -- what is kept after the turn
-  abbrev pub kept_with : Source → Bool → Location → ℕ → Option CallPlace → Preprocessing
-  kept_with source spent place text call =
-      record { expander = after; source = source; spent = spent; place = place; text = text; name_call = call; rules = rules }
+  abbrev pub kept_with : Source → Bool → Location → Origin → Option CallPlace → Preprocessing
+  kept_with source spent place last call =
+      record { expander = after; source = source; spent = spent; place = place; last = last; name_call = call; rules = rules }
 
   abbrev pub Over : PlacedStep Read → Type 0
   Over step = StepsOver expansion_limit now source_now step after source_after
@@ -150,10 +165,10 @@ module _ {rules : Rules} (expander now after : kept.Expander) (source source_now
     }
 
     -- less is left after a token or a fault
-    less_last : (step : PlacedStep Read) (place : Location) (text : ℕ) (call : Option CallPlace) → Over step → wants_memory step ≡ false → (step ≡ Err Finished → ⊥)
-        → most_items (kept_with source_after false place text call) < most_items old
+    less_last : (step : PlacedStep Read) (place : Location) (last : Origin) (call : Option CallPlace) → Over step → wants_memory step ≡ false → (step ≡ Err Finished → ⊥)
+        → most_items (kept_with source_after false place last call) < most_items old
     unfolding most_items
-    less_last step place text call turn reported goes =
+    less_last step place last call turn reported goes =
         let lower = falls step turn reported goes in
         omega (arith, lower, r.less, most_first)
 
@@ -169,19 +184,19 @@ module _ {rules : Rules} (expander now after : kept.Expander) (source source_now
         subst (λ (rs : Rules). PassesErrors rs.passes_dead_errors (errors_left old) left) ruled
         (subst (λ (es : List ErrorAt). PassesErrors rules.passes_dead_errors es left) (sym errors_first) h)
 
-    pub next_token : (read : Read) (spent : Bool) (place : Location) (text : ℕ) (call : Option CallPlace) → spent ≡ false → place ≡ old.place
-        → text ≡ read.text
+    pub next_token : (read : Read) (spent : Bool) (place : Location) (last : Origin) (call : Option CallPlace) → spent ≡ false → place ≡ old.place
+        → last ≡ from_text read.text
         → kept_call after.held call after.frames ≡ kept_call after.held (outermost_frame_call now.frames) after.frames → Over (Ok read)
         → HoldsOrdinary read.token.value
-        → IsNextItem old (Some (Ok read.token)) (kept_with source_after spent place text call)
+        → IsNextItem old (Some (Ok read.token)) (kept_with source_after spent place last call)
     unfolding Stands is_spent errors_left error_place call_place item_text
-    next_token read true place text call fresh_now same of kept turn holds = cc
-    next_token read false place text call fresh_now same of kept turn holds =
-        as_next (Some (Ok read.token)) (kept_with source_after false place text call) (inr (record {
+    next_token read true place last call fresh_now same of kept turn holds = cc
+    next_token read false place last call fresh_now same of kept turn holds =
+        as_next (Some (Ok read.token)) (kept_with source_after false place last call) (inr (record {
           item = λ e stands.
               let leads : LeadsFrom (answers_at expansion_limit) e (Ok read) (outermost_frame_call now.frames) after source_after =
               (leads_last (Ok read) turn refl).from e (stands_first e stands) in
-              record { after = leads.0; emits = comes e leads.0 _ leads.1; text = of; call = kept ∙ leads.3; goes_on = leads.2 };
+              record { after = leads.0; emits = comes e leads.0 _ leads.1; text = ap (λ (o : Origin). o.text) of; call = rw of (kept ∙ leads.3); goes_on = leads.2 };
           no_refusal = refl;
           holds = holds;
           reports = record {
@@ -190,7 +205,7 @@ module _ {rules : Rules} (expander now after : kept.Expander) (source source_now
             reports = (refl, same);
           };
           spent = refl;
-        })) (less_last (Ok read) place text call turn refl (λ e. cc)) ruled
+        })) (less_last (Ok read) place last call turn refl (λ e. cc)) ruled
 
     -- memory is refused, and there was something to take
     pub next_refused : TakesSomething now (of_source source_now) → (new : Preprocessing) → new.spent ≡ true → new.rules ≡ old.rules
@@ -202,19 +217,19 @@ module _ {rules : Rules} (expander now after : kept.Expander) (source source_now
         (rw spent (omega (arith, left_is_work expansion_limit expander source left, most_first))) same
 
     -- less is left after a pause
-    pub less_more : (spent : Bool) (place : Location) (text : ℕ) (call : Option CallPlace) → spent ≡ false → Over (Err Continue)
-        → most_items (record { expander = after; source = source_after; spent = spent; place = place; text = text; name_call = call; rules = rules }) < most_items old
-    less_more true place text call fresh_now turn = cc
-    less_more false place text call fresh_now turn = less_last (Err Continue) place text call turn refl (λ e. cc)
+    pub less_more : (spent : Bool) (place : Location) (last : Origin) (call : Option CallPlace) → spent ≡ false → Over (Err Continue)
+        → most_items (record { expander = after; source = source_after; spent = spent; place = place; last = last; name_call = call; rules = rules }) < most_items old
+    less_more true place last call fresh_now turn = cc
+    less_more false place last call fresh_now turn = less_last (Err Continue) place last call turn refl (λ e. cc)
 
     -- before a pause something is left
     pub some_items : Over (Err Continue) → 0 < most_items old
     some_items turn = omega (arith, falls_more turn, r.less, most_first)
 
-    end_last : (place : Location) (text : ℕ) (call : Option CallPlace) → Over (Err Finished)
-        → most_items (kept_with source_after false place text call) ≡ 0
+    end_last : (place : Location) (last : Origin) (call : Option CallPlace) → Over (Err Finished)
+        → most_items (kept_with source_after false place last call) ≡ 0
     unfolding most_items
-    end_last place text call turn =
+    end_last place last call turn =
         let e = source_ends expansion_limit now source_now source_after r.fit after (turned (Err Finished) turn refl) in
         no_work expansion_limit after source_after e.0 e.1 e.2 e.3
 
@@ -232,12 +247,13 @@ module _ {rules : Rules} (expander now after : kept.Expander) (source source_now
     end_free : Over (Err Finished) → after.held ≡ None
     end_free turn = (source_ends expansion_limit now source_now source_after r.fit after (turned (Err Finished) turn refl)).0
 
-    pub next_end : (spent : Bool) (place : Location) (text : ℕ) (call : Option CallPlace) → spent ≡ false → place ≡ old.place → Over (Err Finished)
-        → IsNextItem old None (kept_with source_after spent place text call)
+    pub next_end : (spent : Bool) (place : Location) (last : Origin) (call : Option CallPlace) → spent ≡ false → place ≡ old.place → last.call ≡ None
+        → Over (Err Finished)
+        → IsNextItem old None (kept_with source_after spent place last call)
     unfolding Stands is_spent errors_left error_place call_place
-    next_end true place text call fresh_now same turn = cc
-    next_end false place text call fresh_now same turn =
-        as_next None (kept_with source_after false place text call) (inr (record {
+    next_end true place last call fresh_now same none turn = cc
+    next_end false place last call fresh_now same none turn =
+        as_next None (kept_with source_after false place last call) (inr (record {
           item = λ e stands.
               let leads : LeadsFrom (answers_at expansion_limit) e (Err Finished) (outermost_frame_call now.frames) after source_after =
               (leads_last (Err Finished) turn refl).from e (stands_first e stands) in
@@ -245,7 +261,7 @@ module _ {rules : Rules} (expander now after : kept.Expander) (source source_now
                 after = leads.0;
                 emits = comes e leads.0 _ leads.1;
                 text = tt;
-                call = free_kept_call after.held call (end_free turn) ∙ leads.3;
+                call = rw none (free_kept_call after.held call (end_free turn) ∙ leads.3);
                 goes_on = leads.2;
               };
           no_refusal = refl;
@@ -256,43 +272,57 @@ module _ {rules : Rules} (expander now after : kept.Expander) (source source_now
             reports = (none_unreported turn, none_unreported turn, same);
           };
           spent = refl;
-        })) (end_last place text call turn) ruled
+        })) (end_last place last call turn) ruled
 
     -- a fault is reported where it stands: the place that was taken is that of an error of the lexer
-    module _ (fault : PlacedFault) (reported_source : Source) (place : Location) (text : ℕ) (call : Option CallPlace) (is : reported_source ≡ record source_after { error_place = None }) where
+    module _ (fault : PlacedFault) (reported_source : Source) (place : Location) (last : Origin) (call : Option CallPlace) (is : reported_source ≡ record source_after { error_place = None }) where
       error_reported : (taken : Option Location) (left : List ErrorAt)
-          → place ≡ unwrap_or taken fault.1.location → errors_left (kept_with reported_source false place text call) ≡ left
-          → IsErrorAt (unplaced fault) (with_read (unplaced fault) taken left) (kept_with reported_source false place text call)
+          → place ≡ unwrap_or taken fault.1.location → errors_left (kept_with reported_source false place last call) ≡ left
+          → IsErrorAt (unplaced fault) (with_read (unplaced fault) taken left) (kept_with reported_source false place last call)
       unfolding error_place
       error_reported (Some there) left at same = of_lexer (ap (λ (es : List ErrorAt). record { item = unplaced fault; place = there } ∷ es) (sym same)
           ∙ ap (λ (p : Location). record { item = unplaced fault; place = p } ∷ errors_left
-          (kept_with reported_source false place text call)) (sym at))
+          (kept_with reported_source false place last call)) (sym at))
       error_reported None left at same = of_its_own at same
 
       errors_now : Over (Err (Error fault)) → is_out_of_memory fault.0 ≡ false
-          → errors_left (kept_with reported_source false place text call) ≡ (unreported_of source_after).later
+          → errors_left (kept_with reported_source false place last call) ≡ (unreported_of source_after).later
       unfolding errors_left
       errors_now turn reported = rw (is, (errors_last (Err (Error fault)) turn reported).0) refl
 
       less_now : Over (Err (Error fault)) → is_out_of_memory fault.0 ≡ false
-          → most_items (kept_with reported_source false place text call) < most_items old
+          → most_items (kept_with reported_source false place last call) < most_items old
       unfolding most_items
-      less_now turn reported = rw is (less_last (Err (Error fault)) place text call turn reported (λ e. cc))
+      less_now turn reported = rw is (less_last (Err (Error fault)) place last call turn reported (λ e. cc))
+
+      -- the fault in its call
+      abbrev pub found : PlacedFault
+      found = fault_in (outermost_frame_call after.frames) fault
+
+      -- that is the call that is kept
+      found_call : (k kept : Option CallPlace) → kept ≡ k → call_or (fault_in k fault).1.call kept ≡ (fault_in k fault).1.call
+      found_call (Some outer) kept same = refl
+      found_call None kept same = rw same (none_other fault.1.call)
+        where
+          none_other : (own : Option CallPlace) → call_or own None ≡ own
+          none_other (Some own) = refl
+          none_other None = refl
 
       next_fault : Over (Err (Error fault)) → is_out_of_memory fault.0 ≡ false → place ≡ unwrap_or source_after.error_place fault.1.location
-          → text ≡ fault.1.text
-          → IsNextItem old (Some (Err (unplaced fault))) (kept_with reported_source false place text call)
+          → last ≡ record { text = fault.1.text; call = found.1.call }
+          → IsNextItem old (Some (Err (unplaced fault))) (kept_with reported_source false place last call)
       unfolding is_spent call_place item_text
       next_fault turn reported at of =
-          as_next (Some (Err (unplaced fault))) (kept_with reported_source false place text call) (inr (record {
+          as_next (Some (Err (unplaced fault))) (kept_with reported_source false place last call) (inr (record {
             item = λ e stands.
                 let leads : LeadsFrom (answers_at expansion_limit) e (Err (Error fault)) (outermost_frame_call now.frames) after source_after =
                 (leads_last (Err (Error fault)) turn reported).from e (stands_first e stands) in
                 record {
                   after = leads.0;
-                  emits = comes e leads.0 _ leads.1;
-                  text = of;
-                  call = free_kept_call after.held call (errors_last (Err (Error fault)) turn reported).0 ∙ leads.2;
+                  emits = record { taken = taken.Fault found; emits = leads.1; is = ap outcome.Fault (sym (unplaced_found (outermost_frame_call after.frames) fault)) };
+                  text = ap (λ (o : Origin). o.text) of ∙ sym (text_found (outermost_frame_call after.frames) fault);
+                  call = rw of (found_call (outermost_frame_call after.frames) (kept_call after.held call after.frames)
+                      (free_call after.held call after.frames (errors_last (Err (Error fault)) turn reported).0) ∙ sym leads.2);
                   goes_on = tt;
                 };
             no_refusal = reported;
@@ -306,18 +336,18 @@ module _ {rules : Rules} (expander now after : kept.Expander) (source source_now
           })) (less_now turn reported) ruled
 
       next_refusal : Over (Err (Error fault)) → IsNextItem old (Some (Err out_of_memory))
-          (kept_with reported_source true place text call)
+          (kept_with reported_source true place last call)
       unfolding is_spent most_items
       next_refusal turn =
           let left : SomethingLeft expander source = left_now (Err (Error fault)) turn (λ e. cc) in
-          as_next (Some (Err out_of_memory)) (kept_with reported_source true place text call)
+          as_next (Some (Err out_of_memory)) (kept_with reported_source true place last call)
           (inl (record { item = refl; spent = refl })) (omega (arith, left_is_work expansion_limit expander source left, most_first)) ruled
 
       pub next_error : (want : Bool) → is_out_of_memory fault.0 ≡ want → Over (Err (Error fault))
           → place ≡ unwrap_or source_after.error_place (if want then out_of_memory else unplaced fault).1
-          → text ≡ fault.1.text
+          → last ≡ record { text = fault.1.text; call = found.1.call }
           → IsNextItem old (Some (Err (if want then out_of_memory else unplaced fault)))
-          (kept_with reported_source want place text call)
+          (kept_with reported_source want place last call)
       next_error true e turn at of = next_refusal turn
       next_error false e turn at of = next_fault turn e at of
 

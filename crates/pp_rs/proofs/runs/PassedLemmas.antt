@@ -14,11 +14,12 @@ use Rattle.pp_macros.specs.inner.Giving.{GivesAhead, passed}
 use Rattle.pp_macros.specs.inner.Idle.{is_idle}
 use Rattle.pp_macros.specs.inner.Reader.{of_source}
 use Rattle.pp_macros.specs.inner.Plain.{gives_itself}
-use Rattle.pp_macros.specs.inner.Expander.{Expander}
+use Rattle.pp_model.specs.declared.splice.Origin.{Origin}
+use Rattle.pp_macros.specs.inner.Expander.{Expander, kept_call}
 use Rattle.pp_macros.specs.inner.Source.{Source}
 use Rattle.pp_macros.specs.declared.step.PlacedExit.TheVariants.{Continue}
 use Rattle.pp_directives.specs.inner.PlainText.{IsStep}
-use Rattle.pp_rs.specs.Kept.{Preprocessing, Stands, IsAhead, is_spent, most_items, errors_left, error_place, kept_call, rules_of}
+use Rattle.pp_rs.specs.Kept.{Preprocessing, Stands, IsAhead, is_spent, most_items, errors_left, error_place, from_text, rules_of}
 use Rattle.pp_rs.specs.inner.NextWord.{IsPassed}
 use Rattle.pp_macros.specs.LexerErrors.{PassesErrors}
 use Rattle.pp_rs.specs.Preprocessing.{IsNextItem}
@@ -126,10 +127,11 @@ module _ {rules : Rules} (p : Preprocessing) (now : Expander) (source_now : Sour
   pub ahead_passes : (spent : Bool) (place : Location) (text : ℕ) (call : Option CallPlace) → spent ≡ false → place ≡ p.place → text ≡ read.text
       → rules ≡ p.rules
       → IsNextItem p (Some (Ok read.token))
-      (record { expander = passed now; source = source_now; spent = spent; place = place; text = text; name_call = call; rules = rules })
+      (record { expander = passed now; source = source_now; spent = spent; place = place; last = from_text text; name_call = call; rules = rules })
   unfolding IsAhead
   ahead_passes spent place text call fresh at of ruled =
-      next_token p.expander now (passed now) p.source source_now source_now reached p ahead.0 refl refl ruled read spent place text call fresh at of
+      next_token p.expander now (passed now) p.source source_now source_now reached p ahead.0 refl refl ruled read spent place (from_text text) call fresh at
+      (ap from_text of)
       (free_kept_call p.expander now (passed now) p.source source_now source_now reached p ahead.0 refl refl ruled now.held call
       (ap (λ (m : Expander). m.held) (sym is) ∙ ahead.3.free)) over ahead.3.holds
 
@@ -145,11 +147,11 @@ passed_nothing p = record {
 }
 
 -- only pauses were
-pub passed_pauses : (old : Preprocessing) (now : Expander) (source_now : Source) (spent : Bool) (place : Location) (text : ℕ) (call : Option CallPlace) (rules : Rules)
+pub passed_pauses : (old : Preprocessing) (now : Expander) (source_now : Source) (spent : Bool) (place : Location) (last : Origin) (call : Option CallPlace) (rules : Rules)
     → Reached rules old.expander old.source now source_now → old.spent ≡ false → spent ≡ false → place ≡ old.place → rules ≡ old.rules
-    → IsPassed old (record { expander = now; source = source_now; spent = spent; place = place; text = text; name_call = call; rules = rules })
+    → IsPassed old (record { expander = now; source = source_now; spent = spent; place = place; last = last; name_call = call; rules = rules })
 unfolding Stands is_spent errors_left error_place most_items rules_of
-passed_pauses old now source_now spent place text call rules r fresh same at ruled = record {
+passed_pauses old now source_now spent place last call rules r fresh same at ruled = record {
   item = λ state stands.
       let leads : LeadsFrom (answers_at expansion_limit) state (Err Continue) None now source_now = r.leads.from state stands in
       record {

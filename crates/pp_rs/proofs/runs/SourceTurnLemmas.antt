@@ -22,7 +22,6 @@ use Rattle.pp_macros.specs.inner.Left.{work_of, most_alone, most_bodies, most_op
 use Rattle.pp_macros.specs.inner.Expander as kept
 use Rattle.pp_macros.specs.inner.Reader.{of_source}
 use Rattle.pp_rs.specs.Comes.{source_rules}
-use Rattle.pp_rs.specs.Kept.{kept_call}
 use Rattle.pp_macros.specs.inner.Source.{Source}
 use Rattle.pp_rs.specs.inner.SourceTurns.{FollowsCall, opened, refused, FollowsTurn, TurnsSource, StepsOver}
 use Rattle.pp_rs.specs.inner.Stands.{StandsForReader, StandsForHeld, StandsFor}
@@ -42,7 +41,12 @@ use Rattle.pp_rs.proofs.runs.ReadyLemmas.{turn_ready, turn_last, turn_end, turn_
 use Rattle.pp_macros.proofs.taking.SearchSimulates.{StandsIn, StandsHeld}
 use Rattle.pp_rs.proofs.runs.SourceLeadsLemmas.{IsSource, sources_simulate, source_shows, source_hides, source_sees, source_leads}
 use Rattle.pp_macros.proofs.work.SpendLemmas.{Falls, no_more_falls, one_more_falls}
-use Rattle.pp_macros.proofs.taking.TurnLeadsLemmas.{LeadsTo, item_call_after}
+use Rattle.pp_model.specs.Emitting.{Emits}
+use Rattle.pp_model.specs.Places.{PlacedFault, fault_in}
+use Rattle.pp_model.specs.ItemCall.{item_call}
+use Rattle.pp_model.specs.declared.read.Taken.TheVariants as given
+use Rattle.pp_model.specs.declared.splice.CallPlace.{CallPlace}
+use Rattle.pp_macros.proofs.taking.TurnLeadsLemmas.{LeadsTo, calls_same, free_call_same}
 use Rattle.pp_macros.proofs.work.WorkFallsLemmas.{frame_of, falls_work}
 use Rattle.pp_model.specs.Numbering.{list_numbering}
 use Rattle.pp_model.specs.declared.numbering.Numbering.{Numbering}
@@ -219,16 +223,16 @@ module _ (levels : ℕ) (m : kept.Expander) (old new : Source) (fit : IsFit m ol
   abbrev LeadsBy : PlacedStep Taken → kept.Expander → Type 0
   LeadsBy t n = LeadsTo source_rules IsSource [] sources_simulate source_shows source_hides source_sees (answers_at levels) t e n (of_source new)
 
-  -- the call of an item, over frames
-  calls_same : (o : Option (PlacedStep Read)) (first last : List Entry) (frames left : List Frame) → first ≡ flat frames → last ≡ flat left
-      → kept_call o (outermost_frame_call frames) left ≡ item_call_after o first last
-  calls_same None first last frames left is becomes = sym (ap outermost_call becomes ∙ outermost_flat left)
-  calls_same (Some step) first last frames left is becomes = sym (ap outermost_call is ∙ outermost_flat frames)
-
-  free_kept_call : (o : Option (PlacedStep Read)) (left : List Frame) → o ≡ None → (after : List Entry) → after ≡ flat left
-      → kept_call o (outermost_frame_call m.frames) left ≡ outermost_call after
-  free_kept_call None left free after becomes = sym (ap outermost_call becomes ∙ outermost_flat left)
-  free_kept_call (Some step) left free after becomes = cc
+  -- a fault is in the call of the outermost frame
+  fault_found : (fault : PlacedFault) (f : Expander SourceReader) (n : kept.Expander) → outermost_call f.list ≡ outermost_frame_call n.frames
+      → (emits : Emits source_rules (answers_at levels) e (given.Fault (fault_in (outermost_call f.list) fault)) f)
+      → item_call emits ≡ (fault_in (outermost_call f.list) fault).1.call
+      → LeadsFrom (answers_at levels) e (Err (Error fault)) (outermost_frame_call m.frames) n new
+  fault_found fault f n same emits call =
+      let Found : Option CallPlace → Type 0 = λ k. (emits : Emits source_rules (answers_at levels) e (given.Fault (fault_in k fault)) f)
+      × (item_call emits ≡ (fault_in k fault).1.call) in
+      let found : Found (outermost_frame_call n.frames) = subst Found same (emits, call) in
+      (f, found.0, found.1)
 
   call_leads : (c : MacroCall) (n p : kept.Expander) (step : PlacedStep Read) → n.held ≡ None → LeadsBy (Ok (taken.Call c)) n
       → FollowsCall levels new c n step p → LeadsFrom (answers_at levels) e step (outermost_frame_call m.frames) p new
@@ -248,7 +252,7 @@ module _ (levels : ℕ) (m : kept.Expander) (old new : Source) (fit : IsFit m ol
       )
   call_leads c n p step free led (refused fault is answers same) =
       let emitted = led.2 fault (subst (λ (x : Site). answers_at levels c.opened.definition x (Err fault)) (sym (site_same c n new led.0 led.1 free)) answers) in
-      rw (is, same) (led.0, emitted.0, free_kept_call n.held n.frames free led.0.list led.1.list ∙ sym emitted.1)
+      rw (is, same) (fault_found fault led.0 n (ap outermost_call led.1.list ∙ outermost_flat n.frames) emitted.0 emitted.1)
 
   follows_lead : (step : PlacedStep Read) (n p : kept.Expander) (t : PlacedStep Taken) → TurnsTo m (of_source old) t n (of_source new) → LeadsBy t n
       → FollowsTurn levels new t n step p → LeadsFrom (answers_at levels) e step (outermost_frame_call m.frames) p new
@@ -269,10 +273,10 @@ module _ (levels : ℕ) (m : kept.Expander) (old new : Source) (fit : IsFit m ol
         led.0,
         led.1,
         stands_for n new led.0 led.2,
-        free_kept_call n.held n.frames led.3 led.0.list led.2.list ∙ sym led.4,
+        free_call_same n.held (outermost_frame_call m.frames) n.frames led.3 led.0.list led.2.list ∙ sym led.4,
       )
   follows_lead step n p (Err (Error fault)) turns led follows =
-      rw (follows.0, follows.1) (led.0, led.1, free_kept_call n.held n.frames led.3 led.0.list led.2 ∙ sym led.4)
+      rw (follows.0, follows.1) (fault_found fault led.0 n (ap outermost_call led.2 ∙ outermost_flat n.frames) led.1 led.4)
 
 -- One turn: a token, a fault or the end is the next item, and a pause keeps it.
 pub source_turn_leads : (levels : ℕ) (m n : kept.Expander) (old new : Source) (step : PlacedStep Read) → IsFit m old → TurnsSource levels m old step n new

@@ -6,7 +6,7 @@ use Rattle.pp_lexer.specs.Items.{places_by}
 use Rattle.pp_lexer.specs.Spots.{spots_of}
 use Rattle.pp_lexer.specs.declared.rules.Rules.{Rules}
 use Rattle.pp_model.specs.Run.{items_by, start_by as run_start}
-use Rattle.pp_rs.specs.Kept.{Preprocessing, Stands, errors_left}
+use Rattle.pp_rs.specs.Kept.{Preprocessing, Stands, errors_left, from_text}
 use Rattle.pp_macros.specs.LexerErrors.{lexer_errors_by}
 use Rattle.pp_directives.proofs.EndedLemmas.{start_ended}
 use Rattle.pp_directives.proofs.LinedLemmas.{items_lined}
@@ -31,7 +31,7 @@ start_by rules text = record {
   };
   spent = false;
   place = nowhere;
-  text = 0;
+  last = from_text 0;
   name_call = None;
   rules = rules;
 }

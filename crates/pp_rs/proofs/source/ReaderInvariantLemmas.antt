@@ -41,7 +41,7 @@ module _ (A : Answers) (P : SourceReader → Type 0) (kept : IsKept A P) where
   call_keeps = call_leads (source_reading A) (λ e f. P e.reader → P f.reader) (λ e f g first later h. later (first h)) taking_keeps A
 
   item_keeps : (o : Taken) (e f : Expander SourceReader) → Emits (source_reading A) A e o f → P e.reader → P f.reader
-  item_keeps o e f (itself o1 e1 f1 t none) h = taking_keeps o e f t h
+  item_keeps o e f (itself x o1 e1 f1 t none p) h = taking_keeps x e f t h
   item_keeps o e f (object x o1 m e1 g f1 t some k i) h = item_keeps o (with_macro m m.token.location.line [] g) f i (taking_keeps x e g t h)
   item_keeps o e f (name_alone x y o1 m e1 g g1 f1 t some k c p q) h =
       subst P (sym (ap (λ z. z.reader) q)) (call_keeps m.definition _ g g1 c (taking_keeps x e g t h))

@@ -1,5 +1,5 @@
 -- The next token as a word of plain text, before memory is taken for it.
-use Rattle.std.specs.Prelude.{◌≡◌, ◌≢◌, ◌<◌, ◌≤◌, ◌∷◌, [], List, ℕ, true, is_some, Option, Some, None, Ok}
+use Rattle.std.specs.Prelude.{◌≡◌, ◌≢◌, ◌<◌, ◌≤◌, ◌∷◌, [], List, ℕ, true, not, Option, Some, None, Ok}
 use Rattle.std.specs.Prelude.{MatchOption, position}
 use Rattle.std.specs.Str.{IsAscii}
 use Rattle.pp_lexer.specs.declared.lexer.plain.Form.TheVariants.{Hash}
@@ -10,6 +10,7 @@ use Rattle.pp_directives.specs.WordTokens.{word_token}
 use Rattle.pp_macros.specs.inner.Defined.{Defined, Macro, AreNumbered, meaning_of, names_in, numbered_by, opened_by}
 use Rattle.pp_macros.specs.inner.Expander.{Expander}
 use Rattle.pp_macros.specs.inner.Frames.{new_frame, bare_call}
+use Rattle.pp_macros.specs.inner.Idle.{is_idle}
 use Rattle.pp_macros.specs.Item.{Item}
 use Rattle.pp_macros.specs.LexerErrors.{PassesErrors}
 use Rattle.pp_model.specs.ItemCall.{item_call}
@@ -69,10 +70,10 @@ pub record OpensNumbered (definitions : List Defined) (id : ℕ) (name : Locatio
   pub numbered : AreNumbered (names_in definitions) (numbered_by opened)
   pub opens : new ≡ record old { frames = new_frame opened (bare_call source_text name) [] ∷ old.frames }
 
--- nothing was given; if a macro has opened, less is left
+-- nothing was given; if a macro is open now, less is left
 pub record IsPassedText (old new : Preprocessing) : Type 0 where
   pub passed : IsPassed old new
-  pub less_left : is_some (call_place new) ≡ true → most_items new < most_items old
+  pub less_left : not (is_idle new.expander) ≡ true → most_items new < most_items old
 
 -- one call of `next_word`
 abbrev pub IsNextWord : Preprocessing → Option PlainItem → Preprocessing → Type 0

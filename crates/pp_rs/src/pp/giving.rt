@@ -81,7 +81,7 @@ impl<'a> Preprocessor<'a> {
             self.pay()?;
             sink.take(TokenRef::of_word(&word))?;
         }
-        Ok(self.call_place().is_some())
+        Ok(!self.is_idle())
     }
 
     // Gives the tokens to the sink that the open macros give next, from their lists.

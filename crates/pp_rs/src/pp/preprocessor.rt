@@ -14,9 +14,10 @@ ghost use Rattle.pp_rs.specs.inner.GivingOn.{IsFrontCall};
 ghost use Rattle.pp_rs.specs.TokenRefs.{token_of};
 ghost use Rattle.pp_macros.specs.Item.{is_out_of_memory};
 ghost use Rattle.pp_rs.specs.Kept.{Stands, IsAhead, is_spent, most_items, errors_left, error_place, call_place};
-ghost use Rattle.pp_model.specs.Places.{source_text, unplaced};
+ghost use Rattle.pp_model.specs.Places.{fault_in, source_text, unplaced};
 ghost use Rattle.pp_model.specs.declared.read.Read.{Read};
-ghost use Rattle.pp_rs.specs.Kept.{item_text, origin_of, rules_of};
+ghost use Rattle.pp_rs.specs.Kept.{from_text, item_text, origin_of, rules_of};
+ghost use Rattle.pp_macros.specs.inner.Idle.{is_idle};
 ghost use Rattle.pp_macros.specs.LexerErrors.{lexer_errors, lexer_errors_by};
 ghost use Rattle.pp_directives.specs.WordTokens.{word_token};
 ghost use Rattle.pp_directives.specs.inner.PlainText.{IsBare};
@@ -55,8 +56,8 @@ pub struct Preprocessor<'a> {
     source: DirectiveProcessor<'a>,
     spent: bool,
     place: Location,
-    // The text of the last item.
-    text: u32,
+    // The text of the last item, and its call if it was an error.
+    last: Origin,
     // Where the outermost macro was called that was open before the last turn. If a step is held, that turn gave a
     // name.
     name_call: Option<CallPlace>,
@@ -76,7 +77,7 @@ impl<'a> Model for Preprocessor<'a> {
       source = p.source;
       spent = p.spent;
       place = p.place;
-      text = p.text;
+      last = p.last;
       name_call = p.name_call;
       rules = p.rules;
     } };
@@ -98,25 +99,36 @@ fn place_refusal(error: PlacedFault) -> (PreprocessorError, Location)
     unplaced(error)
 }
 
-// The item of an error, whose place and text are noted, and whether memory ran out. It is a function of its own,
-// so that tokens are moved without it.
+// What is noted of an item of this text that is no error.
+fn from_text(text: u32) -> Origin
+    ensures { result ≡ from_text text }
+{
+    Origin { text, call: None }
+}
+
+// The item of an error that was found in this call, if in one. Its place and origin are noted, and whether memory ran
+// out. It is a function of its own, so that tokens are moved without it.
 #[inline(never)]
 fn refused_item(
     error: PlacedFault,
+    call: Option<CallPlace>,
     source: &mut DirectiveProcessor<'_>,
     spent: &mut bool,
     place: &mut Location,
-    text: &mut u32,
+    last: &mut Origin,
 ) -> PreprocessorItem
     ensures item { result ≡ Err (if is_out_of_memory error.0 then out_of_memory else unplaced error) }
     ensures spent { spent.new ≡ is_out_of_memory error.0 }
     ensures place { place.new ≡ unwrap_or source.old.error_place
         (if is_out_of_memory error.0 then out_of_memory else unplaced error).1 }
-    ensures text { text.new ≡ error.1.text }
+    ensures last { last.new ≡ record { text = error.1.text; call = (fault_in call error).1.call } }
     ensures source { source.new ≡ record source.old { error_place = None } }
 {
     *spent = is_out_of_memory(&error.0);
-    *text = error.1.text;
+    *last = Origin {
+        text: error.1.text,
+        call: error.1.in_call(call).call,
+    };
     let error = place_refusal(error);
     *place = source.take_error_place().unwrap_or(error.1);
     Err(error)
@@ -181,7 +193,7 @@ impl<'a> Preprocessor<'a> {
             source: DirectiveProcessor::new(alloc, input, rules),
             spent: false,
             place: NOWHERE,
-            text: SOURCE_TEXT,
+            last: from_text(SOURCE_TEXT),
             name_call: None,
             in_text: false,
         }
@@ -206,7 +218,9 @@ impl<'a> Preprocessor<'a> {
 
     // Whether no macro is open, and nothing is held.
     #[inline(always)]
-    pub(crate) fn is_idle(&self) -> bool {
+    pub(crate) fn is_idle(&self) -> bool
+        ensures { result ≡ is_idle self.now.expander }
+    {
         self.expander.is_idle()
     }
 
@@ -240,7 +254,7 @@ impl<'a> Preprocessor<'a> {
         'words: loop {
             match self.source.next_word() {
                 Some((word, None)) => {
-                    self.text = SOURCE_TEXT;
+                    self.last = from_text(SOURCE_TEXT);
                     return Ok(Some(word));
                 }
                 Some((word, Some(id))) => {
@@ -323,7 +337,7 @@ impl<'a> Preprocessor<'a> {
         self.in_text = false;
         match self.expander.give_next(&self.source) {
             Ok(Some(read)) => {
-                self.text = read.text;
+                self.last = from_text(read.text);
                 Some(Ok(read.token))
             }
             Ok(None) => None,
@@ -345,17 +359,21 @@ impl<'a> Preprocessor<'a> {
         self.name_call = self.expander.outermost_call();
         match turn_source(self.alloc, &mut self.expander, &mut self.source) {
             Ok(read) => {
-                self.text = read.text;
+                self.last = from_text(read.text);
                 Some(Some(Ok(read.token)))
             }
             Err(PlacedExit::Error(error)) => Some(Some(refused_item(
                 error,
+                self.expander.outermost_call(),
                 &mut self.source,
                 &mut self.spent,
                 &mut self.place,
-                &mut self.text,
+                &mut self.last,
             ))),
-            Err(PlacedExit::Finished) => Some(None),
+            Err(PlacedExit::Finished) => {
+                self.last = from_text(self.last.text);
+                Some(None)
+            }
             Err(PlacedExit::Continue) => None,
         }
     }
@@ -459,7 +477,7 @@ impl<'a> Preprocessor<'a> {
         ensures call { IsFrontCall (call_place self.new) self.old }
     {
         self.in_text = false;
-        self.text = text;
+        self.last = from_text(text);
         self.expander.pass_token();
     }
 
@@ -517,33 +535,34 @@ impl<'a> Preprocessor<'a> {
 
     /// Returns where the macro was called from which the last item of `next` came.
     ///
-    /// It is the outermost macro that was open when the token was taken or the error was found. It is `None` if no
-    /// macro was open, as after a token of the source itself, an error of a directive, and the end. (The place of an
+    /// It is the outermost macro that was open when the token was taken or the error was found; for an error in an
+    /// argument of a call, or on the line of an `#if`, `#elif` or `#line`, that may be a macro there. It is `None` if
+    /// no macro was open, as after a token of the source itself, an error of a directive, and the end. (The place of an
     /// item that a macro gives is in that macro's definition, or in the content that `add_define` was given.)
     /// `add_define` leaves it as it is. After an `OutOfMemory` its value is not specified.
     #[inline(always)]
     pub fn call_place(&self) -> Option<CallPlace>
         ensures { result ≡ call_place self.now }
     {
-        if self.expander.is_holding() {
-            return self.name_call;
+        match self.last.call {
+            Some(call) => Some(call),
+            None => self.expander.item_call(self.name_call),
         }
-        self.expander.outermost_call()
     }
 
     /// Returns where the last item of `next` comes from: the number of the text that its place is in, and the place of
     /// the call that [`call_place`](Preprocessor::call_place) returns.
     ///
     /// Text 0 is the source, and each content that `add_define` took has the next number. A token that a macro gives is
-    /// in the text of its body, or of the argument that it comes from. An error in a macro is in the text of its place,
-    /// also if the macro is in an argument or on the line of a directive. Before the first item the text is the source.
-    /// The end and `add_define` leave it as it is. After an `OutOfMemory` it is not specified.
+    /// in the text of its body, or of the argument that it comes from. An error in a macro is in the text of its place.
+    /// Before the first item the text is the source. The end and `add_define` leave it as it is. After an `OutOfMemory`
+    /// it is not specified.
     #[inline(always)]
     pub fn origin(&self) -> Origin
         ensures { result ≡ origin_of self.now }
     {
         Origin {
-            text: self.text,
+            text: self.last.text,
             call: self.call_place(),
         }
     }

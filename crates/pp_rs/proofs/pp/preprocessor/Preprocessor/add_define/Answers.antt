@@ -10,7 +10,7 @@ use Rattle.pp_rs.proofs.pp.preprocessor.Preprocessor.add_define.Goals as goal
 pub returns : goal.returns
 returns c =
     let p = c.self.inside in
-    let old : Preprocessing = record { expander = p.expander.here; source = p.source; spent = p.spent; place = p.place; text = p.text; name_call = p.name_call; rules = p.rules } in
+    let old : Preprocessing = record { expander = p.expander.here; source = p.source; spent = p.spent; place = p.place; last = p.last; name_call = p.name_call; rules = p.rules } in
     let name = c.args.name.now in
     let content = c.args.content.now in
     let new = c.set_content.new.self in

@@ -53,7 +53,7 @@ pub returns-clause-left : goal.returns-clause-left
 returns-clause-left g c =
     let text = rw c.in_default.is at (c.in_ok-word.ensures {u = tt}).gives in
     has_left _ _ _ _ c.words.invariant.left text.passed.no_more_left
-    (λ opened. text.less_left (rw c.call_place.ensures at (sym c.is_some.ensures ∙ opened)))
+    (λ opened. text.less_left (rw c.is_idle.ensures at opened))
 
 pub returns-clause-giving : goal.returns-clause-giving
 returns-clause-giving g c = λ start first p.

@@ -2,10 +2,10 @@ use Rattle.std.proofs.Common.{◌≡◌, ◌∙◌, List, Option, Some, None, re
 use Rattle.pp_model.specs.declared.read.Read.{Read}
 use Rattle.pp_model.specs.declared.splice.CallPlace.{CallPlace}
 use Rattle.pp_macros.specs.Item.{PlacedStep}
-use Rattle.pp_macros.specs.inner.Expander.{Expander}
+use Rattle.pp_macros.specs.inner.Expander.{Expander, kept_call}
 use Rattle.pp_macros.specs.inner.Frames.{Frame, names_of, outermost_frame_call}
 use Rattle.pp_macros.proofs.open_frames.KnownLemmas.{alone_known}
-use Rattle.pp_rs.specs.Kept.{is_spent, kept_call}
+use Rattle.pp_rs.specs.Kept.{is_spent}
 use Rattle.pp_rs.proofs.runs.NextLemmas.{reached_first, token_fits, next_token, next_refused}
 use Rattle.pp_rs.proofs.runs.PausesLemmas.{reached_on, given_over}
 use Rattle.pp_rs.proofs.runs.PassedLemmas.{passed_pauses}
@@ -53,7 +53,7 @@ returns-in-Ok-Some c =
     let given = rw c.in-Ok-Some.field-0-is at (c.in-Ok-Some.ensures {u = tt}).gives in
     let on = reached_on _ _ _ _ first _ given.pauses in
     next_token _ _ _ _ _ _ on.reached c.args.self.now fresh refl refl (ap (λ p. p.rules) c.self.view_is) c.in-Ok-Some.read c.self.inside.spent
-    c.self.inside.place c.in-Ok-Some.read.text c.self.inside.name_call now_fresh (ap (λ p. p.place) c.self.view_is) refl
+    c.self.inside.place c.from_text-self-inside.result c.self.inside.name_call now_fresh (ap (λ p. p.place) c.self.view_is) c.from_text-self-inside.ensures
     (free_kept c.give_next.new.self.here.held c.self.inside.name_call (outermost_frame_call given.between.frames)
     c.give_next.new.self.here.frames (ap (λ (m : Expander). m.held) given.passes ∙ given.gives.free))
     (given_over _ _ _ _ _ given.gives given.passes) given.gives.holds

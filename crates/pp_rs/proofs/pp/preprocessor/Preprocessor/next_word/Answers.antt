@@ -1,7 +1,6 @@
-use Rattle.std.proofs.Common.{◌≡◌, ◌∙◌, true, Option, Some, None, refl, ap, sym, subst}
-use Rattle.std.specs.Prelude.{is_some}
-use Rattle.pp_model.specs.Places.{source_text}
-use Rattle.pp_model.specs.declared.splice.CallPlace.{CallPlace}
+use Rattle.std.proofs.Common.{◌≡◌, ◌∙◌, Bool, true, false, refl, ap, sym, subst}
+use Rattle.std.specs.Prelude.{not}
+use Rattle.pp_model.specs.declared.splice.Origin.{Origin}
 use Rattle.pp_macros.specs.inner.Idle.{is_idle}
 use Rattle.pp_directives.specs.WordTokens.{word_token}
 use Rattle.pp_model.specs.Painting.{unpainted}
@@ -13,9 +12,9 @@ use Rattle.pp_rs.proofs.runs.OpenWordLemmas.{bare_over, bare_would}
 use Rattle.pp_rs.proofs.runs.PassedLemmas.{newline_over, word_over, passed_pauses, idle_call}
 use Rattle.pp_rs.proofs.pp.preprocessor.Preprocessor.next_word.Goals as goal
 
-none_open : {Z : Type 0} (call : Option CallPlace) → call ≡ None → is_some call ≡ true → Z
-none_open None none some = cc
-none_open (Some x) none some = cc
+none_open : {Z : Type 0} (idle : Bool) → idle ≡ true → not idle ≡ true → Z
+none_open true is some = cc
+none_open false is some = cc
 
 pub words-init : goal.words-init
 words-init c =
@@ -70,11 +69,11 @@ returns-in-Some-default-None-clause-gives c =
     let takes = rw c.in-Some-default-None.field-0-1-is at c.in-Some-default-None.ensures.gives in
     record {
       next = next_token _ _ _ _ _ _ c.words.invariant.reached c.args.self.now c.requires.unspent refl refl c.words.invariant.ruled (unpainted (word_token c.in-Some-default-None.word))
-          c.words.self-inside.spent c.words.self-inside.place source_text c.words.self-inside.name_call c.words.invariant.unspent c.words.invariant.placed refl
+          c.words.self-inside.spent c.words.self-inside.place c.from_text-self-inside.result c.words.self-inside.name_call c.words.invariant.unspent c.words.invariant.placed c.from_text-self-inside.ensures
           (idle_call c.words.self-inside.expander.here _ _ c.words.invariant.idle)
           (word_over _ _ _ (word_token c.in-Some-default-None.word) c.words.invariant.idle takes.step takes.does) takes.holds;
-      text = text_kept _;
-      call = call_outside _ c.words.invariant.idle;
+      text = text_kept _ ∙ ap (λ (o : Origin). o.text) c.from_text-self-inside.ensures;
+      call = call_outside _ c.words.invariant.idle (ap (λ (o : Origin). o.call) c.from_text-self-inside.ensures);
       plain = record { no_hash = takes.no_hash; ascii = takes.ascii };
       reads = record { idle = c.words.invariant.idle; text = c.next_word.ensures.stays; unspent = c.words.invariant.unspent };
     }
@@ -127,7 +126,7 @@ returns-then-not-pass_newline-clause-gives c =
     rw (c.if-not-pass_newline.ensures.pauses, c.in-None.ensures.gives) (record {
       passed = passed_pauses c.args.self.now _ _ _ _ _ _ _ c.words.invariant.reached c.requires.unspent c.words.invariant.unspent c.words.invariant.placed
           c.words.invariant.ruled;
-      less_left = λ some. none_open _ (call_outside _ c.words.invariant.idle) some;
+      less_left = λ some. none_open _ c.words.invariant.idle some;
     })
 
 pub returns-in-Some-default-None-clause-rules : goal.returns-in-Some-default-None-clause-rules

@@ -9,4 +9,4 @@ of_parts t u c d text call = rw (text, call) refl
 
 pub returns : goal.returns
 unfolding item_text
-returns c = of_parts _ _ _ _ (ap (λ p. p.text) c.self.view_is) c.call_place.ensures
+returns c = of_parts _ _ _ _ (ap (λ p. p.last.text) c.self.view_is) c.call_place.ensures

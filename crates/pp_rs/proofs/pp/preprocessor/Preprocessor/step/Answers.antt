@@ -2,7 +2,9 @@ use Rattle.std.proofs.Common.{◌≡◌, ◌∙◌, refl, ap, sym, false}
 use Rattle.pp_macros.specs.Item.{is_out_of_memory}
 use Rattle.pp_macros.specs.inner.Frames.{names_of}
 use Rattle.pp_macros.proofs.open_frames.KnownLemmas.{alone_known}
-use Rattle.pp_rs.specs.Kept.{is_spent, kept_call}
+use Rattle.pp_model.specs.declared.splice.Origin.{Origin}
+use Rattle.pp_macros.specs.inner.Expander.{kept_call}
+use Rattle.pp_rs.specs.Kept.{is_spent}
 use Rattle.pp_rs.proofs.runs.NextLemmas.{reached_first, reached_more, less_more, token_fits, end_fits, fault_fits, next_token, next_end, next_error}
 use Rattle.pp_rs.proofs.runs.PassedLemmas.{passed_pauses}
 use Rattle.pp_rs.proofs.pp.preprocessor.Preprocessor.step.Goals as goal
@@ -58,8 +60,8 @@ returns-in-Ok c =
     let fresh : c.args.self.now.spent ≡ false = c.requires in
     let now_fresh = ap (λ p. p.spent) c.self.view_is ∙ fresh in
     let first = reached_first _ _ _ _ (ap (λ p. p.expander) c.self.view_is) (ap (λ p. p.source) c.self.view_is) (c.self.invariant.0 now_fresh) in
-    next_token _ _ _ _ _ _ first c.args.self.now fresh refl refl (ap (λ p. p.rules) c.self.view_is) c.in-Ok.read c.self.inside.spent c.self.inside.place c.in-Ok.read.text
-    c.outermost_call-self-inside.result now_fresh (ap (λ p. p.place) c.self.view_is) refl
+    next_token _ _ _ _ _ _ first c.args.self.now fresh refl refl (ap (λ p. p.rules) c.self.view_is) c.in-Ok.read c.self.inside.spent c.self.inside.place c.from_text-self-inside.result
+    c.outermost_call-self-inside.result now_fresh (ap (λ p. p.place) c.self.view_is) c.from_text-self-inside.ensures
     (ap (λ line. kept_call c.turn_source.new.expander.here.held line c.turn_source.new.expander.here.frames) c.outermost_call-self-inside.ensures)
     c.in-Ok.ensures.turns c.in-Ok.ensures.holds
 
@@ -72,8 +74,8 @@ returns-in-Err-Error c =
     let error = c.in-Err-Error.error in
     rw (c.refused_item.ensures.item, c.refused_item.ensures.spent)
     (next_error _ _ _ _ _ _ first c.args.self.now fresh refl refl (ap (λ p. p.rules) c.self.view_is) error c.refused_item.new.source c.refused_item.new.place
-    c.refused_item.new.text c.outermost_call-self-inside.result c.refused_item.ensures.source (is_out_of_memory error.0) refl
-    (rw c.in-Err-Error.field-0-is at c.in-Err-Error.ensures.turns) c.refused_item.ensures.place c.refused_item.ensures.text)
+    c.refused_item.new.last c.outermost_call-self-inside.result c.refused_item.ensures.source (is_out_of_memory error.0) refl
+    (rw c.in-Err-Error.field-0-is at c.in-Err-Error.ensures.turns) c.refused_item.ensures.place (rw c.outermost_call.ensures at c.refused_item.ensures.last))
 
 pub returns-in-Err-Finished : goal.returns-in-Err-Finished
 unfolding is_spent
@@ -81,8 +83,8 @@ returns-in-Err-Finished c =
     let fresh : c.args.self.now.spent ≡ false = c.requires in
     let now_fresh = ap (λ p. p.spent) c.self.view_is ∙ fresh in
     let first = reached_first _ _ _ _ (ap (λ p. p.expander) c.self.view_is) (ap (λ p. p.source) c.self.view_is) (c.self.invariant.0 now_fresh) in
-    next_end _ _ _ _ _ _ first c.args.self.now fresh refl refl (ap (λ p. p.rules) c.self.view_is) c.self.inside.spent c.self.inside.place c.self.inside.text c.outermost_call-self-inside.result now_fresh
-    (ap (λ p. p.place) c.self.view_is) (rw c.in-Err-Finished.field-0-is at c.in-Err-Finished.ensures.turns)
+    next_end _ _ _ _ _ _ first c.args.self.now fresh refl refl (ap (λ p. p.rules) c.self.view_is) c.self.inside.spent c.self.inside.place c.from_text-self-inside-in-Err-Finished.result c.outermost_call-self-inside.result now_fresh
+    (ap (λ p. p.place) c.self.view_is) (ap (λ (o : Origin). o.call) c.from_text-self-inside-in-Err-Finished.ensures) (rw c.in-Err-Finished.field-0-is at c.in-Err-Finished.ensures.turns)
 
 pub returns-in-Err-Continue : goal.returns-in-Err-Continue
 unfolding is_spent

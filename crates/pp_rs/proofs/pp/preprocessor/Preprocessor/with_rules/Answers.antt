@@ -8,10 +8,10 @@ unfolding is_spent
 returns-clause-unspent c = refl
 
 pub returns-clause-stands : goal.returns-clause-stands
-returns-clause-stands c = rw (c.new.ensures, c.new-2.ensures) (start_stands c.args.rules c.args.input.now)
+returns-clause-stands c = rw (c.new.ensures, c.new-2.ensures, c.from_text.ensures) (start_stands c.args.rules c.args.input.now)
 
 pub returns-clause-errors : goal.returns-clause-errors
-returns-clause-errors c = rw (c.new.ensures, c.new-2.ensures) (start_errors c.args.rules c.args.input.now)
+returns-clause-errors c = rw (c.new.ensures, c.new-2.ensures, c.from_text.ensures) (start_errors c.args.rules c.args.input.now)
 
 pub returns-clause-place : goal.returns-clause-place
 unfolding error_place
@@ -19,7 +19,7 @@ returns-clause-place c = refl
 
 pub returns-clause-call : goal.returns-clause-call
 unfolding call_place
-returns-clause-call c = rw c.new.ensures refl
+returns-clause-call c = rw (c.new.ensures, c.from_text.ensures) refl
 
 pub returns-clause-rules : goal.returns-clause-rules
 unfolding rules_of
@@ -27,4 +27,4 @@ returns-clause-rules c = refl
 
 pub returns-clause-text : goal.returns-clause-text
 unfolding item_text
-returns-clause-text c = refl
+returns-clause-text c = rw c.from_text.ensures refl
