@@ -14,6 +14,7 @@ use glslpp_parts::extensions::{define_extension, push_extensions};
 use glslpp_parts::failure::Failure;
 use glslpp_parts::fault::{Fault, FaultFinder};
 use glslpp_parts::inspection::inspect;
+use glslpp_parts::macro_use::MacroUse;
 use glslpp_parts::output::Output;
 use glslpp_parts::report::Reporter;
 use glslpp_parts::rule_set::Setting;
@@ -180,7 +181,7 @@ fn run_over_items<'x>(
     requires { length source.now < 2 ^ 32 - 1 }
 {
     let findings = findings_backwards(alloc, source, arguments.warnings, setting)?;
-    let explainer = Explainer::new(alloc, source, texts, replaced, setting);
+    let explainer = Explainer::new(alloc, source, texts, replaced, setting.rules);
     let mut run = Run::new(
         alloc, reporter, arguments, setting, texts, explainer, findings,
     );
@@ -338,8 +339,7 @@ impl<'a> Run<'a> {
         location: Location,
         origin: Origin,
     ) -> Result<(), AllocError> {
-        let read = self.output.read();
-        let used = self.explainer.use_of(&error, location, origin, read)?;
+        let used = MacroUse::of(self.alloc, self.texts, origin)?;
         let line = match &used {
             Some(used) => Some(used.line),
             None if origin.text == SOURCE_TEXT => Some(location.line),

@@ -10,16 +10,15 @@ use crate::causes::{
 };
 use crate::diagnostic::{Diagnostic, Note, Severity, Site};
 use crate::directive_line::DirectiveLine;
-use crate::macro_use::{MacroUse, UseFinder};
+use crate::macro_use::MacroUse;
 use crate::outline::Outline;
 use crate::place::Place;
 use crate::quoting::{is_typographic_quote, push_char};
-use crate::rule_set::Setting;
 use crate::search::{count_arguments, last_name};
 use crate::texts::Texts;
 use pp_rs::SOURCE_LIMIT;
 use pp_rs::lexer::Token;
-use pp_rs::pp::{Origin, SOURCE_TEXT};
+use pp_rs::pp::SOURCE_TEXT;
 use pp_rs::rules::Rules;
 use pp_rs::token::{Location, PreprocessorError, Punct};
 use std::alloc::{AllocError, Global};
@@ -37,19 +36,18 @@ pub struct Explainer<'a> {
     // The rules by which the source is read.
     rules: Rules,
     outline: Option<Outline>,
-    uses: UseFinder<'a>,
     ghost is_short: { length source.now < 2 ^ 32 - 1 },
 }
 
 impl<'a> Explainer<'a> {
     /// The messages for the errors of a source, in which the characters at these byte offsets stand for bytes that
-    /// aren't UTF-8. `texts` has the same source, and the contents of the setting's definitions.
+    /// aren't UTF-8. `texts` has the same source, which is read by these rules, and the contents of the definitions.
     pub fn new(
         alloc: Global,
         source: &'a str,
         texts: &'a Texts<'a>,
         replaced: &'a [usize],
-        setting: Setting<'a>,
+        rules: Rules,
     ) -> Explainer<'a>
         requires { length source.now < 2 ^ 32 - 1 }
     {
@@ -58,30 +56,9 @@ impl<'a> Explainer<'a> {
             source,
             texts,
             replaced,
-            rules: setting.rules,
+            rules,
             outline: None,
-            uses: UseFinder::new(alloc, source, texts, setting),
         }
-    }
-
-    /// Returns the use of the macro in whose content the error at this place is, or `None` if it is in none, or the use
-    /// isn't found. `origin` says in which text the place is, and where the macro was called that gave the error, if
-    /// one did. `read` is the place of the last token before it that no macro gave. It is called for each error, in
-    /// order.
-    pub fn use_of(
-        &mut self,
-        error: &PreprocessorError,
-        location: Location,
-        origin: Origin,
-        read: Location,
-    ) -> Result<Option<MacroUse<'a>>, AllocError> {
-        let outline = match self.outline.take() {
-            Some(outline) => outline,
-            None => Outline::of(self.alloc, self.rules, self.source)?,
-        };
-        let used = self.uses.find(&outline, error, location, origin, read);
-        self.outline = Some(outline);
-        used
     }
 
     /// Returns the message for an error at this place in this text: the library's sentence, and what the source adds to

@@ -7,7 +7,6 @@ mod causes;
 pub mod changes;
 mod columns;
 pub mod comment_check;
-mod conditions;
 pub mod definitions;
 pub mod diagnostic;
 mod directive_check;

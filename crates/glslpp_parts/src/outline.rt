@@ -18,8 +18,6 @@ pub(crate) struct Define {
     pub column: usize,
     /// How many parameters it has, or `None` if it has no `(`.
     pub parameters: Option<usize>,
-    /// The byte offsets at which its content begins and ends.
-    pub content: (u32, u32),
 }
 
 /// The directives of a source.
@@ -73,19 +71,6 @@ impl Outline {
         defines.get(*last).copied()
     }
 
-    /// The definition in whose content a byte offset is.
-    pub(crate) fn define_around(&self, offset: u32) -> Option<Define> {
-        let defines = self.defines.as_slice();
-        let count = defines.partition_point(|define| define.location.start <= offset);
-        let define = defines.get(count.checked_sub(1)?)?;
-        let (start, end) = define.content;
-        if start <= offset && offset < end {
-            Some(*define)
-        } else {
-            None
-        }
-    }
-
     /// Whether no block is open before the `#elif`, `#else` or `#endif` whose word begins at this byte offset.
     pub(crate) fn is_stray(&self, start: u32) -> bool {
         self.strays.as_slice().binary_search(&start).is_ok()
@@ -105,10 +90,6 @@ enum Stage {
     Name,
     /// Into the parameters of a definition.
     Parameters,
-    /// Up to the `)` of a definition.
-    Closed,
-    /// Into the content of a definition.
-    Content,
 }
 
 /// The outline of what was read of a source.
@@ -171,17 +152,6 @@ impl<'a> Reader<'a> {
                 Stage::Parameters
             }
             (Stage::Parameters, TokenValue::Punct(Punct::Comma)) => Stage::Parameters,
-            (Stage::Parameters, TokenValue::Punct(Punct::RightParen)) => Stage::Closed,
-            (Stage::Content, TokenValue::NewLine) => {
-                self.end_content(token.location.start);
-                Stage::Text
-            }
-            (_, TokenValue::NewLine) => Stage::Text,
-            (Stage::Name | Stage::Closed, _) => {
-                self.begin_content(token.location.start);
-                Stage::Content
-            }
-            (Stage::Content, _) => Stage::Content,
             _ => Stage::Text,
         };
         Ok(())
@@ -234,24 +204,11 @@ impl<'a> Reader<'a> {
             location,
             column,
             parameters: None,
-            content: (0, 0),
         })?;
         let name = String::from_str(self.alloc, name)?;
         let entry = self.outline.by_name.entry(name)?;
         entry.or_insert(Vec::new(self.alloc)).push(index)?;
         Ok(())
-    }
-
-    fn begin_content(&mut self, start: u32) {
-        if let Some(define) = self.outline.defines.last_mut() {
-            define.content = (start, start);
-        }
-    }
-
-    fn end_content(&mut self, end: u32) {
-        if let Some(define) = self.outline.defines.last_mut() {
-            define.content = (define.content.0, end);
-        }
     }
 
     fn count_parameters(&mut self, more: usize) {

@@ -1,7 +1,7 @@
-//! A text of a source's directives by which the preprocessor says what it computes.
+//! A text of a source's directives by which the preprocessor says which names of its conditions are not defined.
 //!
 //! Each directive is on a line, with an `#else` and an `#if` for each `#elif`. Before a condition the text has lines
-//! that ask: the preprocessor gives them only where the condition is computed.
+//! that ask: the preprocessor gives them only if the condition is computed.
 
 ghost use Rattle.std.specs.Prelude.{◌-◌, ◌^◌, ◌<◌, length};
 
@@ -11,23 +11,14 @@ use pp_rs::rules::Rules;
 use pp_rs::token::{Location, PreprocessorError, Punct};
 use std::alloc::{AllocError, Global};
 
-/// What the lines before a condition ask.
-#[derive(Clone, Copy, PartialEq, Eq)]
-pub(crate) enum Asked {
-    /// Which names of it are not defined, each only if what is before it makes it count: a line is a name.
-    Names,
-    /// Whether it is computed: the line is a number.
-    Conditions,
-}
-
-/// A line of the text that asks.
+/// A line of the text that asks for a name.
 #[derive(Drop)]
 pub(crate) struct Question {
     // Its number.
     line: u32,
-    /// The name that is asked for, or an empty text.
+    /// The name.
     pub name: String,
-    /// The place in the source: of the name, or of the directive's word.
+    /// Its place in the source.
     pub location: Location,
 }
 
@@ -59,7 +50,6 @@ const DEEPEST: usize = 32;
 #[derive(Drop)]
 pub(crate) struct Probe {
     alloc: Global,
-    asked: Asked,
     /// The text.
     pub text: String,
     // The number of the line that the next text is on.
@@ -72,17 +62,11 @@ pub(crate) struct Probe {
 
 impl Probe {
     /// The text for the conditions of a source that is read by these rules.
-    pub(crate) fn of(
-        alloc: Global,
-        rules: Rules,
-        source: &str,
-        asked: Asked,
-    ) -> Result<Probe, AllocError>
+    pub(crate) fn of(alloc: Global, rules: Rules, source: &str) -> Result<Probe, AllocError>
         requires { length source.now < 2 ^ 32 - 1 }
     {
         let mut probe = Probe {
             alloc,
-            asked,
             text: String::new(alloc),
             line: 1,
             questions: Vec::new(alloc),
@@ -133,7 +117,7 @@ impl Probe {
             }
             "if" => {
                 self.elifs.push(0)?;
-                self.ask(first.location, rest)?;
+                self.ask_for_names(rest)?;
                 self.push_directive("if", rest)
             }
             "elif" => {
@@ -142,27 +126,14 @@ impl Probe {
                 };
                 *count = count.saturating_add(1);
                 self.push_directive("else", &[])?;
-                self.ask(first.location, rest)?;
+                self.ask_for_names(rest)?;
                 self.push_directive("if", rest)
             }
             "endif" => match self.elifs.pop() {
                 Some(count) => self.push_ends(count.saturating_add(1)),
                 None => Ok(()),
             },
-            "line" if self.asked == Asked::Conditions => self.ask(first.location, rest),
             _ => Ok(()),
-        }
-    }
-
-    // Asks for a condition, whose directive's word is at this place.
-    fn ask(&mut self, place: Location, words: &[Word]) -> Result<(), AllocError> {
-        match self.asked {
-            Asked::Names => self.ask_for_names(words),
-            Asked::Conditions => {
-                self.push_question("", place)?;
-                self.text.push('0')?;
-                self.push_line_end()
-            }
         }
     }
 

@@ -10,7 +10,7 @@ use crate::definitions::add_definitions;
 use crate::extensions::define_extension;
 use crate::failure::Failure;
 use crate::findings::Findings;
-use crate::probe::{Asked, Probe};
+use crate::probe::Probe;
 use crate::rule_set::Setting;
 use crate::texts::Texts;
 use crate::warning::Warning;
@@ -29,7 +29,7 @@ pub(crate) fn find_undefined_names(
 ) -> Result<(), AllocError>
     requires { length source.now < 2 ^ 32 - 1 }
 {
-    let probe = Probe::of(alloc, setting.rules, source, Asked::Names)?;
+    let probe = Probe::of(alloc, setting.rules, source)?;
     let text = probe.text.as_str();
     if text.len() >= SOURCE_LIMIT {
         return Ok(());
