@@ -58,14 +58,14 @@ module _ (A : Answers) (name : Name) (place after : Location) (b f c g : Bool) (
   word_comes : Emits (source_reading A) A (state_at 0) first (state_at 1)
   word_comes =
       let step : Steps A (reader_at 0) (Some first) (reader_at 1) = (refl, refl) in
-      itself first _ _ (record { first = first; fetches = read first first (reader_at 1) _ _ refl refl (here first _ _ step) shown refl; paints = refl }) refl
+      itself first first _ _ (record { first = first; fetches = read first first (reader_at 1) _ _ refl refl (here first _ _ step) shown refl; paints = refl }) refl refl
 
   end_comes : Emits (source_reading A) A (state_at 1) taken.End (state_at 2)
   end_comes =
       let newline : Steps A (reader_at 1) None (reader_at 2) = (refl, refl) in
       let end : Steps A (reader_at 2) (Some taken.End) (reader_at 2) = (refl, refl) in
       let reads : Reads A (reader_at 1) taken.End (reader_at 2) = later taken.End _ (reader_at 2) _ newline (here taken.End _ _ end) in
-      itself taken.End _ _ (record { first = taken.End; fetches = read taken.End taken.End (reader_at 2) _ _ refl refl reads refl refl; paints = refl }) refl
+      itself taken.End taken.End _ _ (record { first = taken.End; fetches = read taken.End taken.End (reader_at 2) _ _ refl refl reads refl refl; paints = refl }) refl refl
 
   runs : Runs (by_rules A) pp_rs (start items) (next ∷ next ∷ []) (replies_of name place)
   runs = given (outcome.Token (token_of name place)) _ (state_at 1) _ _ _ (record { taken = first; emits = word_comes; is = refl }) refl
