@@ -8,7 +8,8 @@ ghost use Rattle.pp_macros.specs.Held.{HoldsOrdinary};
 ghost use Rattle.pp_macros.specs.inner.Reading.{AllReadOrdinary};
 ghost use Rattle.pp_macros.specs.inner.CallTurns.{TurnsOrRefuses, is_out_of_memory_step, paren_of, TakenHoldsOrdinary};
 ghost use Rattle.pp_macros.specs.inner.Expander.{StepsFetching, StepsTaking, TakesNext, TakesOnto, TakesRun};
-ghost use Rattle.pp_macros.specs.inner.Expander.{GathersNext, Satisfies, place_after, gathered_to, is_pause};
+ghost use Rattle.pp_macros.specs.inner.Expander.{GathersNext, PutsIfFound, Satisfies, place_after, gathered_to};
+ghost use Rattle.pp_macros.specs.inner.Expander.{is_pause};
 ghost use Rattle.pp_macros.specs.inner.Defined.{AreNumbered, names_in, numbered_by};
 ghost use Rattle.pp_macros.specs.inner.Nesting.{AreKnown, MayWait, seen_by};
 ghost use Rattle.pp_macros.specs.inner.Reader.{definitions_of};
@@ -25,6 +26,7 @@ use crate::macro_processor::MacroProcessor;
 use crate::reader::MeLexer;
 use crate::step::{PlacedExit, PlacedStep, is_out_of_memory, no_memory};
 use pp_lexer::token::{Location, PreprocessorError, Text, Token, TokenValue, out_of_memory};
+use pp_model::names::is_line_name;
 use pp_model::parentheses::{Nesting, is_left_paren, nesting_of};
 use pp_model::place::Place;
 use pp_model::read::Read;
@@ -244,9 +246,46 @@ impl MacroProcessor {
         ensures waits { MayWait self.new.below (reader lexer.new) }
         ensures kept { result ≡ Err Finished → tokens.new.items ≡ tokens.old.items }
     {
+        if self.push_ahead(&*lexer, tokens)? {
+            return Ok(());
+        }
         let read = self.take_next(lexer)?;
         tokens.push(read)?;
         Ok(())
+    }
+
+    // Takes the token that the open macros have next, and puts it after the tokens, if it is taken as it is in its
+    // list. It passes the pauses before it. Returns whether there was such a token.
+    fn push_ahead(
+        &mut self,
+        lexer: &dyn MeLexer,
+        tokens: &mut Vec<Read>,
+    ) -> Result<bool, AllocError>
+        requires waits { MayWait self.old.below (reader lexer.now) }
+        requires known { AreKnown (names_in (definitions_of (reader lexer.now))) self.old }
+        ensures puts { IfOk result (λ found. PutsIfFound self.old.here (seen_by self.old.below (reader lexer.now))
+            tokens.old.items found self.new.here tokens.new.items) }
+        ensures below { self.new.below ≡ self.old.below }
+        ensures known { OnOk result (AreKnown (names_in (definitions_of (reader lexer.now))) self.new) }
+    {
+        if self.is_holding() {
+            return Ok(false);
+        }
+        'pauses: while self.has_frames() {
+            let Some(ahead) = self.ahead() else {
+                self.pass_pause();
+                continue;
+            };
+            if is_line_name(&ahead.token.value) {
+                return Ok(false);
+            }
+            let painted = ahead.painted;
+            let mut read = self.make_read(painted)?;
+            self.paint(lexer, &mut read);
+            tokens.push(read)?;
+            return Ok(true);
+        }
+        Ok(false)
     }
 
     // Takes tokens that are no parentheses, and then one more, and puts them after the tokens. If no macro is open and

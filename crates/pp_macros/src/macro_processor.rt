@@ -570,8 +570,8 @@ impl MacroProcessor {
     {
         self.pay_for_body(&opened)?;
         let number = opened.number().number();
-        self.frames.reserve(1)?;
         make_room(&mut self.counts, number)?;
+        self.frames.reserve(1)?;
         let call = CallPlace {
             name,
             text,

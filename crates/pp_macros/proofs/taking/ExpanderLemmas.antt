@@ -12,7 +12,7 @@ use Rattle.pp_lexer.specs.declared.token.PreprocessorError.TheVariants.{IntegerO
 use Rattle.pp_model.specs.Calls.{Gathered, before, nesting, closes, within, too_many}
 use Rattle.pp_macros.specs.Item.{PlacedStep, is_out_of_memory}
 use Rattle.pp_macros.specs.inner.Frames.{Frame}
-use Rattle.pp_macros.specs.inner.Expander.{Expander, is_pause, taken_as, StepsFetching, StepsTaking, held, moved, TakesNext, now, later, GathersNext, closed, inside, overfull, ended, failed}
+use Rattle.pp_macros.specs.inner.Expander.{LeadsToNext, Expander, is_pause, taken_as, StepsFetching, StepsTaking, held, moved, TakesNext, now, later, GathersNext, closed, inside, overfull, ended, failed}
 use Rattle.pp_macros.specs.inner.Left.{regions, regions_of, holding_step, reads_left}
 use Rattle.pp_model.proofs.GatherLemmas.{after_tokens, after_tokens-before, after_tokens-closed}
 use Rattle.pp_macros.specs.inner.Reach.{total}
@@ -64,10 +64,6 @@ idle_steps m r s step waits reads shown =
           (subst (λ (fs : List Frame). Moves fs r step fs s) (sym frames) (refl, reads)) shown;
       paints = subst (λ (fs : List Frame). painted_step (hidden_of s) step ≡ painted_step (masks fs s) step) (sym frames) refl;
     }
-
--- what is taken next from here on is taken next from the beginning on
-abbrev pub LeadsToNext : Expander → Reader → Expander → Reader → Type 0
-LeadsToNext m r n s = (step : PlacedStep Read) (p : Expander) (t : Reader) → TakesNext n s step p t → TakesNext m r step p t
 
 pub leads_more : (m n p : Expander) (r s t : Reader) (step : PlacedStep Read) → LeadsToNext m r n s → StepsTaking n s step p t → is_pause step ≡ true
     → LeadsToNext m r p t

@@ -9,7 +9,7 @@ use Rattle.pp_macros.specs.Item.{PlacedStep}
 use Rattle.pp_macros.specs.inner.Ahead.{painted_as, given_by, given_next, frames_after}
 use Rattle.pp_macros.specs.inner.CallTurns.{TurnsTo, passes, gives, object}
 use Rattle.pp_macros.specs.inner.Frames.{Frame, Advance, advance, new_frame, outermost_frame_call, bare_call}
-use Rattle.pp_macros.specs.inner.Expander.{Expander, StepsTaking, moved, taken_as}
+use Rattle.pp_macros.specs.inner.Expander.{Expander, StepsFetching, StepsTaking, moved, taken_as}
 use Rattle.pp_macros.specs.inner.Reader.{Reader, definitions_of, hidden_of}
 use Rattle.pp_macros.specs.inner.Turns.{Moves, as_pause, frame_move, masks, macro_of, macro_of_value}
 use Rattle.pp_macros.specs.inner.Reading.{painted_step}
@@ -71,14 +71,25 @@ module _ (p : MacroProcessor) (s : Reader) (waits : MayWait p.below s) (free : p
   abbrev r : Reader
   r = seen_by p.below s
 
-  frame_takes : (given : Option Read) (step : PlacedStep Read) → given ≡ given_next m.frames → step ≡ taken_as (as_pause given) (frames_after m.frames) r
+  frame_fetches : (given : Option Read) (step : PlacedStep Read) → given ≡ given_next m.frames → step ≡ taken_as (as_pause given) (frames_after m.frames) r
+      → StepsFetching m r step (passed m) r
+  frame_fetches given step is same =
+      moved (as_pause given) step m (passed m) r r free
+      (subst (λ (o : Option Read). Moves m.frames r (as_pause o) (frames_after m.frames) r) (sym is) (frames_move m.frames r some)) same free
+
+  pub frame_takes : (given : Option Read) (step : PlacedStep Read) → given ≡ given_next m.frames → step ≡ taken_as (as_pause given) (frames_after m.frames) r
       → StepsTaking m r (painted_step (masks (frames_after m.frames) r) step) (passed m) r
-  frame_takes given step is same = record {
-    first = step;
-    fetches = moved (as_pause given) step m (passed m) r r free
-        (subst (λ (o : Option Read). Moves m.frames r (as_pause o) (frames_after m.frames) r) (sym is) (frames_move m.frames r some)) same free;
-    paints = refl;
-  }
+  frame_takes given step is same = record { first = step; fetches = frame_fetches given step is same; paints = refl }
+
+  -- its token comes first, as it is made
+  pub frame_makes : (read made : Read) → Some read ≡ given_next m.frames → is_identifier line_name read.token.value ≡ false
+      → painted_as read.painted (given_next m.frames) ≡ Some made → StepsFetching m r (Ok made) (passed m) r
+  frame_makes read made is apart makes =
+      let same : made ≡ read = some_same (sym makes ∙ ap (painted_as read.painted) (sym is)) in
+      rw same (frame_fetches (Some read) (Ok read) is (rw apart refl))
+    where
+      some_same : Some made ≡ Some read → made ≡ read
+      some_same e = cc
 
   -- it pauses
   pub frame_pauses : None ≡ given_next m.frames → TurnsTo m r (Err Continue) (passed m) r

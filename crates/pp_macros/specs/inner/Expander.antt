@@ -100,6 +100,16 @@ TakesOnto m r tokens (Err (Error fault)) n s more =
     is_out_of_memory fault.0 ≡ false → TakesNext m r (Err (Error fault)) n s
 TakesOnto m r tokens (Err exit) n s more = TakesNext m r (Err exit) n s
 
+-- what is taken next from the second on is taken next from the first on
+abbrev pub LeadsToNext : Expander → Reader → Expander → Reader → Type 0
+LeadsToNext m r n s =
+    (step : PlacedStep Read) (p : Expander) (t : Reader) → TakesNext n s step p t → TakesNext m r step p t
+
+-- the next token was taken so, if it was found; else pauses were passed, if any
+abbrev pub PutsIfFound : Expander → Reader → List Read → Bool → Expander → List Read → Type 0
+PutsIfFound m r tokens true n more = IsTakenOnto m r tokens n r more
+PutsIfFound m r tokens false n more = LeadsToNext m r n r × (more ≡ tokens)
+
 -- tokens that are no parentheses were taken so, one after the other, while the expander stayed as it is
 pub data TakesFlat (m : Expander) (r : Reader) (tokens : List Read) : Reader → List Read → Type 0 where
   none_taken : (s : Reader) (more : List Read) → s ≡ r → more ≡ tokens → TakesFlat m r tokens s more

@@ -4,7 +4,7 @@ use Rattle.pp_macros.specs.inner.Left.{regions}
 use Rattle.pp_macros.specs.inner.Reader.{definitions_of}
 use Rattle.pp_macros.specs.inner.Nesting.{AreKnown, MayWait, seen_by}
 use Rattle.pp_macros.specs.inner.Reach.{total}
-use Rattle.pp_macros.proofs.taking.ExpanderLemmas.{LeadsToNext}
+use Rattle.pp_macros.specs.inner.Expander.{LeadsToNext}
 use Rattle.pp_macros.proofs.macro_processor.MacroProcessor.take_next.Given as goal
 
 -- a pause keeps what is taken next
