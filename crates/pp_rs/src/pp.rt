@@ -5,6 +5,7 @@ mod all_items;
 mod call_list;
 mod giving;
 mod items_text;
+mod last_origin;
 mod preprocessor;
 mod preprocessor_step;
 mod source_turn;

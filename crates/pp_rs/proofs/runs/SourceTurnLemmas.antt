@@ -15,7 +15,7 @@ use Rattle.pp_macros.specs.inner.CallTurns.{TurnsTo, TurnsOrRefuses, TakesSometh
 use Rattle.pp_macros.specs.inner.Defined.{Defined}
 use Rattle.pp_macros.specs.inner.Finishing.{site_at, Finishes, IsOpened}
 use Rattle.pp_rs.specs.inner.Fit.{EndIsLast, IsFit}
-use Rattle.pp_macros.specs.inner.Frames.{Frame, new_frame, flat, names_of, outermost_frame_call}
+use Rattle.pp_macros.specs.inner.Frames.{new_frame, flat, names_of, outermost_frame_call}
 use Rattle.pp_macros.specs.Halting.{exit_of}
 use Rattle.pp_macros.specs.Item.{PlacedStep, wants_memory, no_memory}
 use Rattle.pp_macros.specs.inner.Left.{work_of, most_alone, most_bodies, most_open, reads_left, regions, regions_of, one_more, holding_step, IsSound}

@@ -16,7 +16,7 @@ ghost use Rattle.pp_macros.specs.Item.{is_out_of_memory};
 ghost use Rattle.pp_rs.specs.Kept.{Stands, IsAhead, is_spent, most_items, errors_left, error_place, call_place};
 ghost use Rattle.pp_model.specs.Places.{fault_in, source_text, unplaced};
 ghost use Rattle.pp_model.specs.declared.read.Read.{Read};
-ghost use Rattle.pp_rs.specs.Kept.{from_text, item_text, origin_of, rules_of};
+ghost use Rattle.pp_rs.specs.Kept.{item_text, origin_of, rules_of};
 ghost use Rattle.pp_macros.specs.inner.Idle.{is_idle};
 ghost use Rattle.pp_macros.specs.LexerErrors.{lexer_errors, lexer_errors_by};
 ghost use Rattle.pp_directives.specs.WordTokens.{word_token};
@@ -26,6 +26,7 @@ ghost use Rattle.pp_rs.specs.inner.NextWord.{IsAheadAs, ReadsText, SomeAhead, So
 ghost use Rattle.pp_rs.specs.Preprocessing.{IsNextItem};
 
 use crate::lexer::PlainItem;
+use crate::pp::last_origin::LastOrigin;
 use crate::pp::source_turn::turn_source;
 use crate::pp::token_ref::TokenRef;
 use crate::rules::Rules;
@@ -56,8 +57,7 @@ pub struct Preprocessor<'a> {
     source: DirectiveProcessor<'a>,
     spent: bool,
     place: Location,
-    // The text of the last item, and its call if it was an error.
-    last: Origin,
+    last: LastOrigin,
     // Where the outermost macro was called that was open before the last turn. If a step is held, that turn gave a
     // name.
     name_call: Option<CallPlace>,
@@ -99,13 +99,6 @@ fn place_refusal(error: PlacedFault) -> (PreprocessorError, Location)
     unplaced(error)
 }
 
-// What is noted of an item of this text that is no error.
-fn from_text(text: u32) -> Origin
-    ensures { result ≡ from_text text }
-{
-    Origin { text, call: None }
-}
-
 // The item of an error that was found in this call, if in one. Its place and origin are noted, and whether memory ran
 // out. It is a function of its own, so that tokens are moved without it.
 #[inline(never)]
@@ -115,7 +108,7 @@ fn refused_item(
     source: &mut DirectiveProcessor<'_>,
     spent: &mut bool,
     place: &mut Location,
-    last: &mut Origin,
+    last: &mut LastOrigin,
 ) -> PreprocessorItem
     ensures item { result ≡ Err (if is_out_of_memory error.0 then out_of_memory else unplaced error) }
     ensures spent { spent.new ≡ is_out_of_memory error.0 }
@@ -125,10 +118,10 @@ fn refused_item(
     ensures source { source.new ≡ record source.old { error_place = None } }
 {
     *spent = is_out_of_memory(&error.0);
-    *last = Origin {
+    last.set_error(Origin {
         text: error.1.text,
         call: error.1.in_call(call).call,
-    };
+    });
     let error = place_refusal(error);
     *place = source.take_error_place().unwrap_or(error.1);
     Err(error)
@@ -136,7 +129,7 @@ fn refused_item(
 
 // Opens the macro without parentheses whose name has this number and is at this place, which is given by its parts: so
 // words that open none are never put into memory.
-#[inline(never)]
+#[inline(always)]
 fn open_numbered(
     expander: &mut MacroProcessor,
     definitions: &Definitions,
@@ -193,7 +186,7 @@ impl<'a> Preprocessor<'a> {
             source: DirectiveProcessor::new(alloc, input, rules),
             spent: false,
             place: NOWHERE,
-            last: from_text(SOURCE_TEXT),
+            last: LastOrigin::from_text(SOURCE_TEXT),
             name_call: None,
             in_text: false,
         }
@@ -254,7 +247,7 @@ impl<'a> Preprocessor<'a> {
         'words: loop {
             match self.source.next_word() {
                 Some((word, None)) => {
-                    self.last = from_text(SOURCE_TEXT);
+                    self.last.set_text(SOURCE_TEXT);
                     return Ok(Some(word));
                 }
                 Some((word, Some(id))) => {
@@ -337,7 +330,7 @@ impl<'a> Preprocessor<'a> {
         self.in_text = false;
         match self.expander.give_next(&self.source) {
             Ok(Some(read)) => {
-                self.last = from_text(read.text);
+                self.last.set_text(read.text);
                 Some(Ok(read.token))
             }
             Ok(None) => None,
@@ -359,7 +352,7 @@ impl<'a> Preprocessor<'a> {
         self.name_call = self.expander.outermost_call();
         match turn_source(self.alloc, &mut self.expander, &mut self.source) {
             Ok(read) => {
-                self.last = from_text(read.text);
+                self.last.set_text(read.text);
                 Some(Some(Ok(read.token)))
             }
             Err(PlacedExit::Error(error)) => Some(Some(refused_item(
@@ -371,7 +364,7 @@ impl<'a> Preprocessor<'a> {
                 &mut self.last,
             ))),
             Err(PlacedExit::Finished) => {
-                self.last = from_text(self.last.text);
+                self.last.set_end();
                 Some(None)
             }
             Err(PlacedExit::Continue) => None,
@@ -477,7 +470,7 @@ impl<'a> Preprocessor<'a> {
         ensures call { IsFrontCall (call_place self.new) self.old }
     {
         self.in_text = false;
-        self.last = from_text(text);
+        self.last.set_text(text);
         self.expander.pass_token();
     }
 
@@ -544,7 +537,7 @@ impl<'a> Preprocessor<'a> {
     pub fn call_place(&self) -> Option<CallPlace>
         ensures { result ≡ call_place self.now }
     {
-        match self.last.call {
+        match self.last.call() {
             Some(call) => Some(call),
             None => self.expander.item_call(self.name_call),
         }
@@ -562,7 +555,7 @@ impl<'a> Preprocessor<'a> {
         ensures { result ≡ origin_of self.now }
     {
         Origin {
-            text: self.last.text,
+            text: self.last.text(),
             call: self.call_place(),
         }
     }

@@ -1,4 +1,4 @@
-use Rattle.std.proofs.Common.{◌≡◌, ◌∙◌, ◌<◌, ◌≤◌, Bool, true, false, refl, sym, ap, arith}
+use Rattle.std.proofs.Common.{◌≡◌, ◌∙◌, ◌<◌, ◌≤◌, Bool, true, false, refl, ap, arith}
 use Rattle.pp_rs.specs.Kept.{Preprocessing, is_spent, most_items, rules_of}
 use Rattle.pp_rs.specs.inner.GivingOn.{HasLeft}
 use Rattle.pp_rs.proofs.runs.GivingLemmas.{giving_passes, giving_refused, giving_word, on_err}

@@ -1,19 +1,13 @@
-use Rattle.std.proofs.Common.{◌≡◌, ◌∙◌, List, Option, Some, None, refl, ap, false}
-use Rattle.pp_model.specs.declared.read.Read.{Read}
-use Rattle.pp_model.specs.declared.splice.CallPlace.{CallPlace}
-use Rattle.pp_macros.specs.Item.{PlacedStep}
-use Rattle.pp_macros.specs.inner.Expander.{Expander, kept_call}
-use Rattle.pp_macros.specs.inner.Frames.{Frame, names_of, outermost_frame_call}
+use Rattle.std.proofs.Common.{◌≡◌, ◌∙◌, None, refl, ap, sym, false}
+use Rattle.pp_macros.specs.inner.Expander.{Expander}
+use Rattle.pp_macros.specs.inner.Frames.{names_of, outermost_frame_call}
 use Rattle.pp_macros.proofs.open_frames.KnownLemmas.{alone_known}
 use Rattle.pp_rs.specs.Kept.{is_spent}
+use Rattle.pp_rs.proofs.runs.CallPlaceLemmas.{free_call}
 use Rattle.pp_rs.proofs.runs.NextLemmas.{reached_first, token_fits, next_token, next_refused}
 use Rattle.pp_rs.proofs.runs.PausesLemmas.{reached_on, given_over}
 use Rattle.pp_rs.proofs.runs.PassedLemmas.{passed_pauses}
 use Rattle.pp_rs.proofs.pp.preprocessor.Preprocessor.next_given.Goals as goal
-
-free_kept : (o : Option (PlacedStep Read)) (call other : Option CallPlace) (frames : List Frame) → o ≡ None → kept_call o call frames ≡ kept_call o other frames
-free_kept None line other frames free = refl
-free_kept (Some step) line other frames free = cc
 
 pub give_next-requires : goal.give_next-requires
 unfolding is_spent
@@ -52,10 +46,12 @@ returns-in-Ok-Some c =
     let first = reached_first _ _ _ _ (ap (λ p. p.expander) c.self.view_is) (ap (λ p. p.source) c.self.view_is) (c.self.invariant.0 now_fresh) in
     let given = rw c.in-Ok-Some.field-0-is at (c.in-Ok-Some.ensures {u = tt}).gives in
     let on = reached_on _ _ _ _ first _ given.pauses in
+    let held = c.give_next.new.self.here.held in
+    let frames = c.give_next.new.self.here.frames in
+    let free : held ≡ None = ap (λ (m : Expander). m.held) given.passes ∙ given.gives.free in
     next_token _ _ _ _ _ _ on.reached c.args.self.now fresh refl refl (ap (λ p. p.rules) c.self.view_is) c.in-Ok-Some.read c.self.inside.spent
-    c.self.inside.place c.from_text-self-inside.result c.self.inside.name_call now_fresh (ap (λ p. p.place) c.self.view_is) c.from_text-self-inside.ensures
-    (free_kept c.give_next.new.self.here.held c.self.inside.name_call (outermost_frame_call given.between.frames)
-    c.give_next.new.self.here.frames (ap (λ (m : Expander). m.held) given.passes ∙ given.gives.free))
+    c.self.inside.place c.set_text.new.self c.self.inside.name_call now_fresh (ap (λ p. p.place) c.self.view_is) c.set_text.ensures
+    (free_call held c.self.inside.name_call frames free ∙ sym (free_call held (outermost_frame_call given.between.frames) frames free))
     (given_over _ _ _ _ _ given.gives given.passes) given.gives.holds
 
 pub returns-in-Ok-None : goal.returns-in-Ok-None

@@ -69,11 +69,11 @@ returns-in-Some-default-None-clause-gives c =
     let takes = rw c.in-Some-default-None.field-0-1-is at c.in-Some-default-None.ensures.gives in
     record {
       next = next_token _ _ _ _ _ _ c.words.invariant.reached c.args.self.now c.requires.unspent refl refl c.words.invariant.ruled (unpainted (word_token c.in-Some-default-None.word))
-          c.words.self-inside.spent c.words.self-inside.place c.from_text-self-inside.result c.words.self-inside.name_call c.words.invariant.unspent c.words.invariant.placed c.from_text-self-inside.ensures
+          c.words.self-inside.spent c.words.self-inside.place c.set_text.new.self c.words.self-inside.name_call c.words.invariant.unspent c.words.invariant.placed c.set_text.ensures
           (idle_call c.words.self-inside.expander.here _ _ c.words.invariant.idle)
           (word_over _ _ _ (word_token c.in-Some-default-None.word) c.words.invariant.idle takes.step takes.does) takes.holds;
-      text = text_kept _ ∙ ap (λ (o : Origin). o.text) c.from_text-self-inside.ensures;
-      call = call_outside _ c.words.invariant.idle (ap (λ (o : Origin). o.call) c.from_text-self-inside.ensures);
+      text = text_kept _ ∙ ap (λ (o : Origin). o.text) c.set_text.ensures;
+      call = call_outside _ c.words.invariant.idle (ap (λ (o : Origin). o.call) c.set_text.ensures);
       plain = record { no_hash = takes.no_hash; ascii = takes.ascii };
       reads = record { idle = c.words.invariant.idle; text = c.next_word.ensures.stays; unspent = c.words.invariant.unspent };
     }

@@ -1,4 +1,4 @@
-use Rattle.std.proofs.Common.{◌≡◌, ℕ, Option, ap, refl}
+use Rattle.std.proofs.Common.{◌≡◌, ◌∙◌, ℕ, Option, ap, refl}
 use Rattle.pp_model.specs.declared.splice.CallPlace.{CallPlace}
 use Rattle.pp_model.specs.declared.splice.Origin.{Origin}
 use Rattle.pp_rs.specs.Kept.{item_text}
@@ -9,4 +9,4 @@ of_parts t u c d text call = rw (text, call) refl
 
 pub returns : goal.returns
 unfolding item_text
-returns c = of_parts _ _ _ _ (ap (λ p. p.last.text) c.self.view_is) c.call_place.ensures
+returns c = of_parts _ _ _ _ (c.text.ensures ∙ ap (λ p. p.last.text) c.self.view_is) c.call_place.ensures

@@ -23,15 +23,15 @@ invariant_of-self c = (
 pub returns-clause-gives : goal.returns-clause-gives
 returns-clause-gives c = λ read ahead.
     let fresh = ap (λ p. p.spent) c.self.view_is ∙ fresh_ahead c.args.self.now read ahead in
-    rw (c.pass_token.ensures, c.from_text-self-inside.ensures)
+    rw (c.pass_token.ensures, c.set_text.ensures)
     (ahead_passes c.args.self.now c.self.inside.expander.here c.self.inside.source (ap (λ p. p.expander) (sym c.self.view_is))
     (ap (λ p. p.source) (sym c.self.view_is)) (c.self.invariant.0 fresh) read ahead c.self.inside.spent c.self.inside.place c.args.text c.self.inside.name_call fresh
     (ap (λ p. p.place) c.self.view_is) (c.requires.2 ∙ same_text c.args.self.now c.requires.0 read c.requires.1 ahead) (ap (λ p. p.rules) c.self.view_is))
 
 pub returns-clause-call : goal.returns-clause-call
 returns-clause-call c =
-    rw (c.pass_token.ensures, c.from_text-self-inside.ensures)
+    rw (c.pass_token.ensures, c.set_text.ensures)
     (ahead_call c.args.self.now c.requires.0 c.requires.1 c.self.inside.expander.here (ap (λ p. p.expander) (sym c.self.view_is)) _ _ _ _ _ _)
 
 pub returns-clause-text : goal.returns-clause-text
-returns-clause-text c = text_kept _ ∙ ap (λ (o : Origin). o.text) c.from_text-self-inside.ensures
+returns-clause-text c = text_kept _ ∙ ap (λ (o : Origin). o.text) c.set_text.ensures

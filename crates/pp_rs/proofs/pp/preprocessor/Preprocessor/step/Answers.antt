@@ -60,8 +60,8 @@ returns-in-Ok c =
     let fresh : c.args.self.now.spent ≡ false = c.requires in
     let now_fresh = ap (λ p. p.spent) c.self.view_is ∙ fresh in
     let first = reached_first _ _ _ _ (ap (λ p. p.expander) c.self.view_is) (ap (λ p. p.source) c.self.view_is) (c.self.invariant.0 now_fresh) in
-    next_token _ _ _ _ _ _ first c.args.self.now fresh refl refl (ap (λ p. p.rules) c.self.view_is) c.in-Ok.read c.self.inside.spent c.self.inside.place c.from_text-self-inside.result
-    c.outermost_call-self-inside.result now_fresh (ap (λ p. p.place) c.self.view_is) c.from_text-self-inside.ensures
+    next_token _ _ _ _ _ _ first c.args.self.now fresh refl refl (ap (λ p. p.rules) c.self.view_is) c.in-Ok.read c.self.inside.spent c.self.inside.place c.set_text.new.self
+    c.outermost_call-self-inside.result now_fresh (ap (λ p. p.place) c.self.view_is) c.set_text.ensures
     (ap (λ line. kept_call c.turn_source.new.expander.here.held line c.turn_source.new.expander.here.frames) c.outermost_call-self-inside.ensures)
     c.in-Ok.ensures.turns c.in-Ok.ensures.holds
 
@@ -83,8 +83,8 @@ returns-in-Err-Finished c =
     let fresh : c.args.self.now.spent ≡ false = c.requires in
     let now_fresh = ap (λ p. p.spent) c.self.view_is ∙ fresh in
     let first = reached_first _ _ _ _ (ap (λ p. p.expander) c.self.view_is) (ap (λ p. p.source) c.self.view_is) (c.self.invariant.0 now_fresh) in
-    next_end _ _ _ _ _ _ first c.args.self.now fresh refl refl (ap (λ p. p.rules) c.self.view_is) c.self.inside.spent c.self.inside.place c.from_text-self-inside-in-Err-Finished.result c.outermost_call-self-inside.result now_fresh
-    (ap (λ p. p.place) c.self.view_is) (ap (λ (o : Origin). o.call) c.from_text-self-inside-in-Err-Finished.ensures) (rw c.in-Err-Finished.field-0-is at c.in-Err-Finished.ensures.turns)
+    next_end _ _ _ _ _ _ first c.args.self.now fresh refl refl (ap (λ p. p.rules) c.self.view_is) c.self.inside.spent c.self.inside.place c.set_end.new.self c.outermost_call-self-inside.result now_fresh
+    (ap (λ p. p.place) c.self.view_is) (ap (λ (o : Origin). o.call) c.set_end.ensures) (rw c.in-Err-Finished.field-0-is at c.in-Err-Finished.ensures.turns)
 
 pub returns-in-Err-Continue : goal.returns-in-Err-Continue
 unfolding is_spent
