@@ -44,6 +44,14 @@ pub fn is_same(rt: &HostRuntime, first: &str, second: &str) -> bool {
     }
 }
 
+/// Returns whether a name is that of a folder.
+pub fn is_folder(rt: &HostRuntime, name: &str) -> bool {
+    match fs::metadata(rt, name) {
+        Ok(found) => found.is_dir(),
+        Err(_) => false,
+    }
+}
+
 /// Prints the output. A reader that closes it early is no failure.
 pub fn print(rt: &HostRuntime, output: &str) -> io::Result<()> {
     match rt.stdout().write_all(output.as_bytes()) {

@@ -4,13 +4,17 @@
 mod files;
 mod foreign;
 mod preprocess;
+mod word_files;
 
 use clap::ArgMatches;
 use foreign::refusal_of;
-use glslpp_parts::arguments::{Arguments, Colours, Form, STANDARD_INPUT, command};
+use glslpp_parts::arguments::{
+    Arguments, Colours, Form, STANDARD_INPUT, STANDARD_INPUT_NAME, command,
+};
 use glslpp_parts::definitions::check_changes;
 use glslpp_parts::extensions::check_extensions;
 use glslpp_parts::failure::{Failure, failure_of};
+use glslpp_parts::output_folder::outputs_in;
 use glslpp_parts::report::{Reporter, Style};
 use glslpp_parts::source::Source;
 use glslpp_parts::standard::{lengthen_standards, version_without_line};
@@ -20,6 +24,7 @@ use preprocess::{Found, preprocess};
 use std::io::IsTerminal;
 use std::process::ExitCode;
 use std::{env, io};
+use word_files::expand_words;
 
 // The least number of bytes that is too many for a source.
 const LIMIT: usize = 4294967295;
@@ -48,10 +53,11 @@ fn report(rt: &HostRuntime, failure: &Failure) {
 // Reads the command line, and does what it asks for. Returns the exit status.
 fn work(rt: &HostRuntime) -> Result<u8, Failure> {
     let alloc = rt.alloc();
-    let mut words: Vec<String> = match env::args(rt) {
+    let given: Vec<String> = match env::args(rt) {
         Ok(words) => words.collect(alloc)?,
         Err(error) => return Err(files::unread_words(rt, error)),
     };
+    let mut words = expand_words(rt, given)?;
     lengthen_standards(alloc, words.as_mut_slice())?;
     refuse_foreign(rt, words.as_slice())?;
     let Ok(command) = command(alloc) else {
@@ -79,35 +85,109 @@ fn refuse_foreign(rt: &HostRuntime, words: &[String]) -> Result<(), Failure> {
     Ok(())
 }
 
-// Preprocesses the files, and writes the output unless one has an error.
+// Preprocesses the files as the command line asks for.
 fn preprocess_files(rt: &HostRuntime, matches: &ArgMatches<'_>) -> Result<u8, Failure> {
     let arguments = Arguments::from_matches(rt.alloc(), matches)?;
     check_extensions(rt.alloc(), arguments.extensions.as_slice())?;
     check_changes(rt.alloc(), arguments.changes.as_slice())?;
     check_warnings(rt.alloc(), arguments.warning_words.as_slice())?;
     let version = version_without_line(rt.alloc(), arguments.standard)?;
-    check_output(rt, &arguments)?;
+    let is_faultless = match arguments.output {
+        Some(folder) if files::is_folder(rt, folder) => {
+            preprocess_into(rt, &arguments, version, folder)?
+        }
+        _ => preprocess_together(rt, &arguments, version)?,
+    };
+    Ok(if is_faultless { 0 } else { 1 })
+}
+
+// Preprocesses the files, and writes one output unless one of them has an error. Returns whether none has.
+fn preprocess_together(
+    rt: &HostRuntime,
+    arguments: &Arguments<'_>,
+    version: Version,
+) -> Result<bool, Failure> {
+    if let Some(output) = arguments.output {
+        check_output(rt, arguments, output)?;
+    }
     let mut found = Found::new(rt.alloc());
     for file in arguments.files.as_slice() {
-        preprocess_file(rt, &arguments, version, file, &mut found)?;
+        preprocess_file(rt, arguments, version, file, &mut found)?;
     }
+    write_found(rt, arguments, arguments.output, &found)
+}
+
+// Preprocesses the files, and writes the output of each that has no error to its file in the folder. Returns whether
+// none has.
+fn preprocess_into(
+    rt: &HostRuntime,
+    arguments: &Arguments<'_>,
+    version: Version,
+    folder: &str,
+) -> Result<bool, Failure> {
+    let outputs = outputs_of(rt, arguments, folder)?;
+    let mut is_faultless = true;
+    for (file, output) in arguments.files.as_slice().iter().zip(outputs.as_slice()) {
+        let mut found = Found::new(rt.alloc());
+        preprocess_file(rt, arguments, version, file, &mut found)?;
+        if !write_found(rt, arguments, Some(output.as_str()), &found)? {
+            is_faultless = false;
+        }
+    }
+    Ok(is_faultless)
+}
+
+// The output of each file in the folder. None of them is one of the files.
+fn outputs_of(
+    rt: &HostRuntime,
+    arguments: &Arguments<'_>,
+    folder: &str,
+) -> Result<Vec<String>, Failure> {
+    let mut names = Vec::new(rt.alloc());
+    for file in arguments.files.as_slice() {
+        let name = name_of(arguments, file);
+        if name == STANDARD_INPUT_NAME {
+            return Err(failure_of(rt.alloc(), name, "its output needs a name: --stdin-name"));
+        }
+        names.push(name)?;
+    }
+    let outputs = outputs_in(rt.alloc(), folder, names.as_slice())?;
+    for output in outputs.as_slice() {
+        check_output(rt, arguments, output.as_str())?;
+    }
+    Ok(outputs)
+}
+
+// Writes what was found in sources, if they have no error or the form shows these too. Returns whether they have none.
+fn write_found(
+    rt: &HostRuntime,
+    arguments: &Arguments<'_>,
+    output: Option<&str>,
+    found: &Found,
+) -> Result<bool, Failure> {
     if found.errors == 0 || arguments.form == Form::Tokens {
-        write_output(rt, arguments.output, found.output.as_str())?;
+        write_output(rt, output, found.output.as_str())?;
     }
-    Ok(if found.errors == 0 { 0 } else { 1 })
+    Ok(found.errors == 0)
 }
 
 // Fails if the output is one of the sources.
-fn check_output(rt: &HostRuntime, arguments: &Arguments<'_>) -> Result<(), Failure> {
-    let Some(output) = arguments.output else {
-        return Ok(());
-    };
+fn check_output(rt: &HostRuntime, arguments: &Arguments<'_>, output: &str) -> Result<(), Failure> {
     for file in arguments.files.as_slice() {
         if *file != STANDARD_INPUT && files::is_same(rt, file, output) {
             return Err(failure_of(rt.alloc(), output, "the output is also a source"));
         }
     }
     Ok(())
+}
+
+// The name of a file in messages.
+fn name_of<'a>(arguments: &Arguments<'a>, file: &'a str) -> &'a str {
+    if file == STANDARD_INPUT {
+        arguments.standard_input_name
+    } else {
+        file
+    }
 }
 
 // Preprocesses one file, which is of this version if it has no `#version`, and reports its errors.
@@ -118,11 +198,7 @@ fn preprocess_file(
     file: &str,
     found: &mut Found,
 ) -> Result<(), Failure> {
-    let name = if file == STANDARD_INPUT {
-        arguments.standard_input_name
-    } else {
-        file
-    };
+    let name = name_of(arguments, file);
     let source = read_source(rt, file, name)?;
     let text = source.text();
     if text.len() >= LIMIT {

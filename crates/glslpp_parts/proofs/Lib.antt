@@ -8,4 +8,5 @@ pub mod ReportsLemmas
 pub mod SpelledLemmas
 pub mod StandardsLemmas
 pub mod VersionLemmas
+pub mod WordFilesLemmas
 pub mod ItemsLemmas

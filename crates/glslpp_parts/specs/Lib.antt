@@ -17,4 +17,5 @@ pub mod Standards
 pub mod Texts
 pub mod Version
 pub mod Warnings
+pub mod WordFiles
 pub mod inner

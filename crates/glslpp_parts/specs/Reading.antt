@@ -1,11 +1,10 @@
 -- The values that a lexer still gives, and the value that it reads from a token's text.
-use Rattle.std.specs.Prelude.{◌≡◌, ℕ, ◌⊎◌, true, List, [], ◌∷◌, map, Result, Ok}
+use Rattle.std.specs.Prelude.{◌≡◌, ℕ, ◌⊎◌, List, [], ◌∷◌, map, Result, Ok}
 use Rattle.pp_lexer.specs.declared.lexer.item.TokenValue.{TokenValue as LexerTokenValue}
 use Rattle.pp_lexer.specs.declared.lexer.item.TokenValue.TheVariants.{NewLine}
 use Rattle.pp_lexer.specs.declared.rules.Rules.{Rules}
 use Rattle.pp_lexer.specs.declared.token.PreprocessorError.{PreprocessorError}
 use Rattle.pp_lexer.specs.declared.token.TokenValue.{TokenValue}
-use Rattle.pp_lexer.specs.declared.token.TokenValue.TheVariants.{Integer}
 use Rattle.std.specs.Str.{encode_utf8_all}
 use Rattle.pp_lexer.specs.ItemText.{item_text}
 use Rattle.pp_lexer.specs.Lexed.{Lexed}

@@ -23,8 +23,8 @@ use std::alloc::{AllocError, Global};
 /// The argument that names the standard input.
 pub const STANDARD_INPUT: &str = "-";
 
-// The name of the standard input in messages, if no other is given.
-const STANDARD_INPUT_NAME: &str = "<stdin>";
+/// The name of the standard input in messages, if no other is given.
+pub const STANDARD_INPUT_NAME: &str = "<stdin>";
 
 // How many errors of a source are reported, if no number is given.
 const MOST_ERRORS: usize = 20;
@@ -204,10 +204,11 @@ const DEFINE_HELP: &str = "Define a macro before the source, as 1 if no content 
 
 const UNDEFINE_HELP: &str = "Undefine NAME, also if predefined";
 
-const OUTPUT_HELP: &str = "Write to the file, if no source has an error";
+const OUTPUT_HELP: &str =
+    "Write to the file, if no source has an error; in a folder to a file for each source";
 
 const AFTER_HELP: &str = "\
-Without a file, or with `-`, the standard input is read.
+Without a file, or with `-`, the standard input is read. A word @FILE stands for the words in the file.
 KIND is one of comment, conflict, extra-tokens, guard, reserved, space, undef or unused-macros.
 Defined are __VERSION__, GL_ES, GL_FRAGMENT_PRECISION_HIGH, GL_core_profile and GL_compatibility_profile, as the
 #version of the source or --std says. Comments are not kept, and a #line of the source is not printed.

@@ -1,5 +1,7 @@
 //! Where a macro was used from which an error comes.
 
+ghost use Rattle.std.specs.Prelude.{◌≡◌, IfOk, option_map};
+
 use crate::diagnostic::Site;
 use crate::texts::Texts;
 use pp_rs::pp::Origin;
@@ -22,7 +24,10 @@ impl<'a> MacroUse<'a> {
         alloc: Global,
         texts: &'a Texts<'a>,
         origin: Origin,
-    ) -> Result<Option<MacroUse<'a>>, AllocError> {
+    ) -> Result<Option<MacroUse<'a>>, AllocError>
+        ensures { IfOk result (λ used. option_map (λ found. found.line) used
+            ≡ option_map (λ call. call.line) origin.call) }
+    {
         let Some(call) = origin.call else {
             return Ok(None);
         };

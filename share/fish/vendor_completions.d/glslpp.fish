@@ -16,7 +16,7 @@ complete -c glslpp -l extension -x -d 'Define the macro of an extension as 1, as
 complete -c glslpp -s D -x -d 'Define a macro before the source, as 1 if no content is given'
 complete -c glslpp -s U -x -d 'Undefine NAME, also if predefined'
 complete -c glslpp -l undef -d 'Define no predefined name'
-complete -c glslpp -s o -r -F -d 'Write to the file, if no source has an error'
+complete -c glslpp -s o -r -F -d 'Write to the file, if no source has an error; in a folder to a file for each source'
 complete -c glslpp -s P -d 'Print each run of tokens as one line'
 complete -c glslpp -l tokens -d 'Print the items as JSON, one a line'
 complete -c glslpp -l directives -d 'Print the #version, #extension and #pragma lines alone'
