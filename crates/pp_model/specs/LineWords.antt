@@ -85,7 +85,8 @@ closed_by kind directive answer call o =
 
 -- no part of `defined` was taken: what was taken in its place has a fault, in the call that is open among the line's
 -- entries then, and nothing else is taken
-abbrev pub IsUnwanted : Location → Taken → Expander Listed → Result Bool PlacedFault → Expander Listed → Type 0
+abbrev pub IsUnwanted : Location → Taken → Expander Listed → Result Bool PlacedFault → Expander Listed
+    → Type 0
 IsUnwanted directive o f r g = (r ≡ Err (fault_in (outermost_call f.list) (unwanted_part directive o))) × (g ≡ f)
 
 -- what the operand of a `defined` gives after its `(`: the name is taken and not looked up, and the `)` is read with

@@ -111,7 +111,8 @@ pub data TurnsOnce (m : Expander) (l : Listing) (items : List Read) (n : Expande
   waits : TurnsTo m (of_list l) (Err Continue) n (of_list k) → more ≡ items → TurnsOnce m l items n k more
 
 -- any number of such turns; before each the open macros give what they have
-pub data TurnsOver (m : Expander) (l : Listing) (items : List Read) : Expander → Listing → List Read → Type 0 where
+pub data TurnsOver (m : Expander) (l : Listing) (items : List Read)
+    : Expander → Listing → List Read → Type 0 where
   unturned : (n : Expander) (k : Listing) (more : List Read)
       → n ≡ m → k ≡ l → more ≡ items
       → TurnsOver m l items n k more
