@@ -1,4 +1,5 @@
--- The words of a file of words, as gcc cuts them (libiberty: `buildargv`).
+-- The words of a file of words, as gcc cuts them (libiberty: `buildargv`). A `\` at the end is nothing here, and an
+-- empty word there.
 use Rattle.std.specs.Prelude.{ℕ, Bool, ◌&&◌, ◌||◌, if◌then◌else◌, Option, Some, None, unwrap_or, List, [], ◌∷◌}
 use Rattle.std.specs.Prelude.{nat_eq, nat_lt}
 

@@ -35,8 +35,8 @@ fn is_white_space(character: char) -> bool
 }
 
 /// Returns the words of a file that the word `@FILE` names, as gcc cuts them: white space parts them, but not between
-/// two `'` or two `"`, and a `\` takes the character after it as it is, also there. The only error is that memory ran
-/// out.
+/// two `'` or two `"`, and a `\` takes the character after it as it is, also there. At the end of the text it is
+/// nothing, and an empty word for gcc. The only error is that memory ran out.
 pub fn words_of_file(alloc: Global, text: &str) -> Result<Vec<String>, AllocError>
     ensures { IfOk result (λ words. map (λ word. chars (string_bytes word)) words.items
         ≡ words_of_file (chars text.now)) }
@@ -108,7 +108,8 @@ impl Cutter {
 
     // Puts a character at the end of the word.
     fn push(&mut self, character: char) -> Result<(), AllocError>
-        ensures word { OnOk result (open_word self.new ≡ Some (unwrap_or (open_word self.old) [] ++ character ∷ [])) }
+        ensures word { OnOk result (open_word self.new
+            ≡ Some (unwrap_or (open_word self.old) [] ++ character ∷ [])) }
         ensures same { OnOk result (self.new ≡ record self.old { word = self.new.word }) }
     {
         self.begin_word();
