@@ -6,8 +6,7 @@ use Rattle.std.proofs.lemmas.List.{length_push}
 use Rattle.std.specs.Prelude.{ℤ, pos, ◌-ℤ◌}
 use Rattle.pp_lexer.specs.declared.rules.Rules.{Rules}
 use Rattle.pp_lexer.specs.declared.token.Location.{Location}
-use Rattle.pp_lexer.specs.declared.token.Token.{Token}
-use Rattle.pp_model.specs.Places.{Fault, unplaced}
+use Rattle.pp_model.specs.Places.{Fault, in_text, unplaced}
 use Rattle.pp_model.specs.Lines.{line_length, line_tokens}
 use Rattle.pp_model.specs.Reads.{numbered_line}
 use Rattle.pp_model.specs.declared.block.Part.TheVariants as part
@@ -18,6 +17,9 @@ use Rattle.pp_macros.specs.inner.Source.{Source, IsAfter, Condition, LineNumber,
 use Rattle.pp_macros.specs.inner.Expander.{Satisfies}
 use Rattle.pp_macros.specs.declared.halt.PlacedHalt.{PlacedHalt}
 use Rattle.pp_macros.specs.declared.halt.PlacedHalt.TheVariants as halt
+use Rattle.pp_directives.specs.inner.DirectiveHalts.{of_expansion}
+use Rattle.pp_directives.specs.declared.directive_halt.DirectiveHalt.{DirectiveHalt}
+use Rattle.pp_directives.specs.inner.LineReads.{LineTokens}
 use Rattle.pp_directives.specs.inner.ReadingLines.{ReadsLine}
 use Rattle.pp_directives.specs.inner.SourceActs.{Acts, HasKept}
 use Rattle.pp_macros.specs.inner.SourceLexed.{SourceLexed, unreported_at}
@@ -34,16 +36,17 @@ pub with_last_is : (change : OpenBlock → OpenBlock) (blocks : List OpenBlock) 
     → with_last change blocks ≡ outer_blocks blocks ++ change block ∷ []
 with_last_is change blocks block last = ap (λ found. outer_blocks blocks ++ option_map_or (λ b. change b ∷ []) found []) last
 
-module _ (rules : Rules) (definitions : List Defined) (blocks : List OpenBlock)
-    (line_offset : ℤ) (has_text has_directive dead : Bool) (contents : ℕ) (old new : SourceLexed) (word : Location) (tokens : List Token)
-    (read : ReadsLine {A = List Token} (λ tokens. tokens) line_tokens old (Ok tokens) new) where
+module _ (rules : Rules) (text : ℕ) (definitions : List Defined) (blocks : List OpenBlock)
+    (line_offset : ℤ) (has_text has_directive dead : Bool) (contents : ℕ) (old new : SourceLexed) (word : Location) (line : LineTokens)
+    (read : ReadsLine {A = LineTokens} (λ line. line.tokens) line_tokens old (Ok line) new) where
   none_read : ReportsNone rules.passes_dead_errors (unreported_at old) (unreported_at new)
   none_read = same_none rules.passes_dead_errors (unreported_at old) (unreported_at new) read.errors
 
   after_line : (offset : ℤ) (after : List OpenBlock) → IsAfter (line_length old.rest) unnoted after
-      (source_of old rules definitions blocks offset has_text has_directive dead contents) (source_of new rules definitions after offset has_text has_directive dead contents)
+      (source_of old rules text definitions blocks offset has_text has_directive dead contents) (source_of new rules text definitions after offset has_text has_directive dead contents)
   after_line offset after = record {
     rules = refl;
+    text = refl;
     rest = read.takes.rest;
     blocks = refl;
     line_offset = refl;
@@ -55,9 +58,9 @@ module _ (rules : Rules) (definitions : List Defined) (blocks : List OpenBlock)
   }
 
   -- an `#if` opens a block
-  pub if_opens : (value : Bool) (after : List OpenBlock) → Condition word tokens (list_numbering rules line_offset) definitions (Ok value) → after ≡ blocks ++ block_opened word value ∷ []
+  pub if_opens : (value : Bool) (after : List OpenBlock) → Condition (in_text text word) line.tokens (list_numbering rules line_offset) definitions (Ok value) → after ≡ blocks ++ block_opened word value ∷ []
       → Acts (block_change (Some part.Opens) word) (line_move (line_tokens old.rest) (decides word) old.rest)
-      (source_of old rules definitions blocks line_offset has_text has_directive dead contents) (Ok tt) (source_of new rules definitions after line_offset has_text has_directive dead contents)
+      (source_of old rules text definitions blocks line_offset has_text has_directive dead contents) (Ok tt) (source_of new rules text definitions after line_offset has_text has_directive dead contents)
   if_opens value after condition made = record {
     acts = rw (read.is, made) (holds value condition (refl, after_line line_offset _, refl));
     holds = tt;
@@ -65,10 +68,10 @@ module _ (rules : Rules) (definitions : List Defined) (blocks : List OpenBlock)
   }
 
   -- an `#elif` parts the innermost block
-  pub elif_parts : (block : OpenBlock) (value : Bool) (after : List OpenBlock) → Condition word tokens (list_numbering rules line_offset) definitions (Ok value)
+  pub elif_parts : (block : OpenBlock) (value : Bool) (after : List OpenBlock) → Condition (in_text text word) line.tokens (list_numbering rules line_offset) definitions (Ok value)
       → last_block blocks ≡ Some block → after ≡ outer_blocks blocks ++ block_decided block value ∷ []
       → Acts elif_change (line_move (line_tokens old.rest) (decides word) old.rest)
-      (source_of old rules definitions blocks line_offset has_text has_directive dead contents) (Ok tt) (source_of new rules definitions after line_offset has_text has_directive dead contents)
+      (source_of old rules text definitions blocks line_offset has_text has_directive dead contents) (Ok tt) (source_of new rules text definitions after line_offset has_text has_directive dead contents)
   elif_parts block value after condition last made = record {
     acts = rw (read.is, made ∙ sym (with_last_is (block_branched (Some value)) blocks block last))
         (holds value condition (refl, after_line line_offset _, refl));
@@ -77,9 +80,9 @@ module _ (rules : Rules) (definitions : List Defined) (blocks : List OpenBlock)
   }
 
   -- a `#line` numbers the lines after it
-  pub line_numbers : (n : ℕ) (offset : ℤ) → LineNumber word tokens (list_numbering rules line_offset) definitions (Ok n) → offset ≡ pos n -ℤ pos (numbered_line rules word.line)
+  pub line_numbers : (n : ℕ) (offset : ℤ) → LineNumber (in_text text word) line.tokens (list_numbering rules line_offset) definitions (Ok n) → offset ≡ pos n -ℤ pos (numbered_line rules word.line)
       → Acts unchanged (line_move (line_tokens old.rest) (renumbers word) old.rest)
-      (source_of old rules definitions blocks line_offset has_text has_directive dead contents) (Ok tt) (source_of new rules definitions blocks offset has_text has_directive dead contents)
+      (source_of old rules text definitions blocks line_offset has_text has_directive dead contents) (Ok tt) (source_of new rules text definitions blocks offset has_text has_directive dead contents)
   line_numbers n offset number made = record {
     acts = rw (read.is, made) (numbers n number (refl, after_line (pos n -ℤ pos (numbered_line rules word.line)) blocks, refl));
     holds = tt;
@@ -87,7 +90,7 @@ module _ (rules : Rules) (definitions : List Defined) (blocks : List OpenBlock)
   }
 
   kept : (after : List OpenBlock) (offset : ℤ) → length after ≤ length blocks
-      → HasKept (source_of old rules definitions blocks line_offset has_text has_directive dead contents) (source_of new rules definitions after offset has_text has_directive dead contents)
+      → HasKept (source_of old rules text definitions blocks line_offset has_text has_directive dead contents) (source_of new rules text definitions after offset has_text has_directive dead contents)
   kept after offset few = record {
     rules = refl;
     left = omega (arith, few, drop_fewer old.rest new.rest (line_length old.rest) read.takes.rest);
@@ -101,25 +104,25 @@ module _ (rules : Rules) (definitions : List Defined) (blocks : List OpenBlock)
 
   -- the condition of an `#if` or `#elif` is at fault, and no more blocks are open after it
   pub condition_failed : (change : BlockChange) (after : List OpenBlock) → length after ≤ length blocks → (h : PlacedHalt)
-      → Satisfies {A = Bool} (Err h) (Condition word tokens (list_numbering rules line_offset) definitions)
+      → Satisfies {A = Bool} (Err h) (Condition (in_text text word) line.tokens (list_numbering rules line_offset) definitions)
       → Acts change (line_move (line_tokens old.rest) (decides word) old.rest)
-      (source_of old rules definitions blocks line_offset has_text has_directive dead contents) (Err h)
-      (source_of new rules definitions after line_offset has_text has_directive dead contents)
+      (source_of old rules text definitions blocks line_offset has_text has_directive dead contents) (Err (of_expansion h))
+      (source_of new rules text definitions after line_offset has_text has_directive dead contents)
   condition_failed change after few (halt.Fault fault) condition =
       record { acts = rw read.is (condition, kept after line_offset few); holds = tt; errors = nothing_more (unplaced fault) }
   condition_failed change after few halt.OutOfMemory condition = record { acts = tt; holds = tt; errors = tt }
 
   -- so is the number of a `#line`, after which the lines may be numbered from anywhere
-  pub number_failed : (offset : ℤ) (h : PlacedHalt) → Satisfies {A = ℕ} (Err h) (LineNumber word tokens (list_numbering rules line_offset) definitions)
+  pub number_failed : (offset : ℤ) (h : PlacedHalt) → Satisfies {A = ℕ} (Err h) (LineNumber (in_text text word) line.tokens (list_numbering rules line_offset) definitions)
       → Acts unchanged (line_move (line_tokens old.rest) (renumbers word) old.rest)
-      (source_of old rules definitions blocks line_offset has_text has_directive dead contents) (Err h)
-      (source_of new rules definitions blocks offset has_text has_directive dead contents)
+      (source_of old rules text definitions blocks line_offset has_text has_directive dead contents) (Err (of_expansion h))
+      (source_of new rules text definitions blocks offset has_text has_directive dead contents)
   number_failed offset (halt.Fault fault) number =
       record { acts = rw read.is (number, kept blocks offset (omega arith)); holds = tt; errors = nothing_more (unplaced fault) }
   number_failed offset halt.OutOfMemory number = record { acts = tt; holds = tt; errors = tt }
 
 -- the same of sources that are equal to these
-pub numbering_failed : (word : Location) (h : PlacedHalt) (old new s t : Source) → s ≡ old → t ≡ new
+pub numbering_failed : (word : Location) (h : DirectiveHalt) (old new s t : Source) → s ≡ old → t ≡ new
     → Acts unchanged (line_move (line_tokens s.rest) (renumbers word) s.rest) s (Err h) t
     → Acts unchanged (line_move (line_tokens old.rest) (renumbers word) old.rest) old (Err h) new
 numbering_failed word h old new s t before after acts =

@@ -1,7 +1,6 @@
 -- The operand of a `defined`, as the code reads it.
 use Rattle.std.proofs.Common.{◌≡◌, ◌∙◌, ℕ, Bool, true, false, List, refl, sym, ap, Option, Some, None}
 use Rattle.std.specs.Prelude.{Result, Ok, Err, is_some}
-use Rattle.pp_lexer.specs.declared.token.Location.{Location}
 use Rattle.pp_model.specs.declared.place.Place.{Place}
 use Rattle.pp_model.specs.Places.{PlacedFault, fault_in, place_in}
 use Rattle.pp_model.specs.declared.read.Read.{Read}
@@ -53,7 +52,7 @@ fault_there n k fault wanted is =
     ap (λ (f : PlacedFault). let r : Result Bool PlacedFault = Err (fault_in (outermost_frame_call n.frames) f) in r) is
     ∙ ap (λ (o : Option CallPlace). let r : Result Bool PlacedFault = Err (fault_in o wanted) in r) (sym (outermost_flat n.frames))
 
-module _ (kind : LineKind) (directive : Location) (levels : ℕ) (numbering : Numbering) (definitions : List Defined) (m : kept.Expander) (l : Listing) (n : kept.Expander) (k : Listing) where
+module _ (kind : LineKind) (directive : Place) (levels : ℕ) (numbering : Numbering) (definitions : List Defined) (m : kept.Expander) (l : Listing) (n : kept.Expander) (k : Listing) where
   -- after the `(` and the name
   pub closed_broken : (name : Name) (h : PlacedHalt) (r : Result Bool PlacedHalt) → r ≡ Err h → ReadsItem levels numbering definitions m l (Err h) n k
       → ReadsClosed kind directive levels numbering definitions name m l r n k

@@ -1,7 +1,7 @@
 -- The words of a line, as the code reads them one after another.
 use Rattle.std.proofs.Common.{◌≡◌, ℕ, List, [], ◌∷◌, ◌++◌, refl, subst, Option, Some, None}
 use Rattle.std.specs.Prelude.{Ok, Err, Bool}
-use Rattle.pp_lexer.specs.declared.token.Location.{Location}
+use Rattle.pp_model.specs.declared.place.Place.{Place}
 use Rattle.pp_model.specs.Places.{PlacedFault, fault_in, place_in, place_of}
 use Rattle.pp_model.specs.Reading.{line_reading}
 use Rattle.pp_model.specs.Emitting.{Emits, answers_at}
@@ -23,17 +23,17 @@ use Rattle.pp_macros.specs.declared.halt.PlacedHalt.TheVariants as halt
 use Rattle.pp_model.specs.declared.numbering.Numbering.{Numbering}
 
 -- What the reading of a line has reached: its words so far, after which those from here on come.
-pub record WordsOn (kind : LineKind) (directive : Location) (levels : ℕ) (numbering : Numbering) (defined : List definitions.Defined)
+pub record WordsOn (kind : LineKind) (directive : Place) (levels : ℕ) (numbering : Numbering) (defined : List definitions.Defined)
     (m : Expander) (l : Listing) (words : List Word) (n : Expander) (k : Listing) : Type 0 where
   pub goes_on : (rest : Words) → LineWords kind directive (answers_at levels) (expander_of n k) rest
       → LineWords kind directive (answers_at levels) (expander_of m l) (after_words words rest)
   pub stands : IsOnLine numbering defined n k
 
-pub words_start : (kind : LineKind) (directive : Location) (levels : ℕ) (numbering : Numbering) (defined : List definitions.Defined)
+pub words_start : (kind : LineKind) (directive : Place) (levels : ℕ) (numbering : Numbering) (defined : List definitions.Defined)
     (m : Expander) (l : Listing) (words : List Word) → IsOnLine numbering defined m l → words ≡ [] → WordsOn kind directive levels numbering defined m l words m l
 words_start kind directive levels numbering defined m l words on none = rw none (record { goes_on = λ rest h. h; stands = on })
 
-module _ (kind : LineKind) (directive : Location) (levels : ℕ) (numbering : Numbering) (defined : List definitions.Defined) (m : Expander) (l : Listing) (words : List Word)
+module _ (kind : LineKind) (directive : Place) (levels : ℕ) (numbering : Numbering) (defined : List definitions.Defined) (m : Expander) (l : Listing) (words : List Word)
     (n : Expander) (k : Listing) (on : WordsOn kind directive levels numbering defined m l words n k) (p : Expander) (q : Listing) where
   -- the words so far with what ends them are those of the line
   end_with : (ending : Option PlacedFault) (w : Words) → w ≡ record { words = words; ending = ending }

@@ -4,6 +4,7 @@ use Rattle.std.specs.Prelude.{ℤ, pos, ◌-ℤ◌}
 use Rattle.pp_lexer.specs.declared.rules.Rules.{Rules}
 use Rattle.pp_lexer.specs.declared.token.Location.{Location}
 use Rattle.pp_lexer.specs.declared.token.Token.{Token}
+use Rattle.pp_model.specs.Acts.{defined_in}
 use Rattle.pp_model.specs.Places.{Fault}
 use Rattle.pp_model.specs.Definitions.{Definition}
 use Rattle.pp_model.specs.Lines.{first_token}
@@ -31,6 +32,7 @@ noted_after : (taken : ℕ) (old after : Source) (still_open : List OpenBlock) �
     → IsAfter taken directive_line still_open old (remembering after)
 noted_after taken old after still_open b = record {
   rules = b.rules;
+  text = b.text;
   rest = b.rest;
   blocks = b.blocks;
   line_offset = b.line_offset;
@@ -74,36 +76,37 @@ module _ (taken : ℕ) (old after : Source) (given : Option Token) where
   effect_noted (fails fault) change h = absurd (pause_no_fault given _ h.0)
   effect_noted ends change h = absurd (pause_not_ends (last_block old.blocks) given old after h)
   effect_noted passes change h = (h.0, after_noted _ h.1, h.2)
-  effect_noted (defines named) change h = defines_noted named (meaning_of old.definitions named.name) h
+  effect_noted (defines named) change h = defines_noted (defined_in old.text named) (meaning_of old.definitions named.name) h
   effect_noted (undefines name) change h = (h.0, after_noted _ h.1, h.2)
   effect_noted (tests asked name) change h = (h.0, after_noted _ h.1, h.2)
   effect_noted (decides word tokens) change h = decides_noted word tokens _ h
   effect_noted (renumbers word tokens) change h = renumbers_noted word tokens h
 
 -- what a directive does after its number sign, where the word was read
-pub word_read : (rules : Rules) (definitions : List Defined) (blocks : List OpenBlock) (line_offset : ℤ) (has_text has_directive dead : Bool) (contents : ℕ) (old mid : SourceLexed)
+pub word_read : (rules : Rules) (text : ℕ) (definitions : List Defined) (blocks : List OpenBlock) (line_offset : ℤ) (has_text has_directive dead : Bool) (contents : ℕ) (old mid : SourceLexed)
     → mid.rest ≡ drop 1 old.rest → (change : BlockChange) (move : Move) (given : Option Token) (after : Source)
-    → Makes unnoted change move (source_of mid rules definitions blocks line_offset has_text has_directive dead contents) (as_pause given) after
-    → Makes directive_line change (taking_more 1 move) (source_of old rules definitions blocks line_offset has_text has_directive dead contents)
+    → Makes unnoted change move (source_of mid rules text definitions blocks line_offset has_text has_directive dead contents) (as_pause given) after
+    → Makes directive_line change (taking_more 1 move) (source_of old rules text definitions blocks line_offset has_text has_directive dead contents)
     (as_pause given) (remembering after)
-word_read rules definitions blocks line_offset has_text has_directive dead contents old mid taken change move given after h =
-    effect_noted (1 + move.taken) (source_of old rules definitions blocks line_offset has_text has_directive dead contents) after given move.effect change
-    (effect_after rules definitions blocks line_offset has_text has_directive dead contents old mid 1 move.taken (1 + move.taken) refl taken unnoted change given after move.effect h)
+word_read rules text definitions blocks line_offset has_text has_directive dead contents old mid taken change move given after h =
+    effect_noted (1 + move.taken) (source_of old rules text definitions blocks line_offset has_text has_directive dead contents) after given move.effect change
+    (effect_after rules text definitions blocks line_offset has_text has_directive dead contents old mid 1 move.taken (1 + move.taken) refl taken unnoted change given after move.effect h)
 
 -- the same where an error of the lexer was read in the place of the word, and is passed
-pub error_passed : (rules : Rules) (definitions : List Defined) (blocks : List OpenBlock) (line_offset : ℤ) (has_text has_directive dead : Bool) (contents : ℕ)
+pub error_passed : (rules : Rules) (text : ℕ) (definitions : List Defined) (blocks : List OpenBlock) (line_offset : ℤ) (has_text has_directive dead : Bool) (contents : ℕ)
     (old mid new : SourceLexed) (hash : Location) (fault : Fault) → first_token hash old.rest ≡ Err fault → HasTaken 1 old mid
     → IsMet fault (unreported_at old) (unreported_at mid) → new ≡ record mid { error_place = None } → rules.passes_dead_errors ≡ true
     → ActsNoted (word_note false (first_token hash old.rest)) (word_change (first_token hash old.rest))
     (word_move rules false (facts_among blocks) (first_token hash old.rest) (drop 1 old.rest))
-    (source_of old rules definitions blocks line_offset has_text has_directive dead contents) (Ok tt)
-    (source_of new rules definitions blocks line_offset has_text has_directive dead contents)
-error_passed rules definitions blocks line_offset has_text has_directive dead contents old mid new hash fault is took met same passed =
+    (source_of old rules text definitions blocks line_offset has_text has_directive dead contents) (Ok tt)
+    (source_of new rules text definitions blocks line_offset has_text has_directive dead contents)
+error_passed rules text definitions blocks line_offset has_text has_directive dead contents old mid new hash fault is took met same passed =
     rw (is, passed, same) (record {
       acts = (
         refl,
         record {
           rules = refl;
+          text = refl;
           rest = took.rest;
           blocks = refl;
           line_offset = refl;

@@ -1,5 +1,5 @@
 -- Errors of the lexer that are passed, and those that are left then.
-use Rattle.std.proofs.Common.{◌≡◌, Bool, true, false, List, [], ◌∷◌, ◌++◌, refl, sym, subst, Option, Some, None, Ok, Err}
+use Rattle.std.proofs.Common.{ℕ, ◌≡◌, Bool, true, false, List, [], ◌∷◌, ◌++◌, refl, sym, subst, Option, Some, None, Ok, Err}
 use Rattle.pp_lexer.specs.declared.token.Location.{Location}
 use Rattle.pp_macros.specs.Item.{Fault, PlacedStep}
 use Rattle.pp_macros.specs.LexerErrors.{ErrorAt, AreLeft, none, kept, passed, PassesErrors}
@@ -41,10 +41,10 @@ step_same passes (Ok value) old new same = same_none passes old new same
 step_same passes (Err exit) old new same = exit_same passes exit old new same
 
 -- an exit for what reading met
-pub halt_reported : (A : Type 0) (passes : Bool) (halt : Halt) (exit : PlacedExit) (old new : Unreported) → exit ≡ exit_of (placed_halt_of halt)
+pub halt_reported : (A : Type 0) (passes : Bool) (text : ℕ) (halt : Halt) (exit : PlacedExit) (old new : Unreported) → exit ≡ exit_of (placed_halt_of text halt)
     → Reports {A = A} false (Err halt) old new → ExitReports passes exit old new
-halt_reported A passes (halt.Fault fault) exit old new is met = rw is (λ reported. met_or_passed passes fault old new met)
-halt_reported A passes halt.OutOfMemory exit old new is met = rw is (λ reported. cc)
+halt_reported A passes text (halt.Fault fault) exit old new is met = rw is (λ reported. met_or_passed passes fault old new met)
+halt_reported A passes text halt.OutOfMemory exit old new is met = rw is (λ reported. cc)
 
 passed_after : (fault : Fault) (read : Option Location) (front before after : List ErrorAt) → before ≡ front ++ after
     → AreLeft (with_read fault read before) (with_read fault read after)

@@ -5,6 +5,7 @@ pub mod ReadNames
 pub mod LineEntries
 pub mod SourceActs
 pub mod SettingContent
+pub mod DirectiveHalts
 pub mod LineReads
 pub mod LineItems
 pub mod DefineReading

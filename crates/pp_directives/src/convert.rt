@@ -18,13 +18,13 @@ use pp_model::conversion::convert_lexer_token;
 use pp_model::place::placed;
 use std::alloc::{AllocError, Global};
 
-/// The token of the preprocessor as a step over the source: for a number sign it is an error at its place.
-pub fn placed_token(token: lexer::Token) -> PlacedStep<Token>
+/// The token of the preprocessor as a step over this text: for a number sign it is an error at its place.
+pub fn placed_token(text: u32, token: lexer::Token) -> PlacedStep<Token>
     requires { token.value ≢ NewLine }
-    ensures is { result ≡ as_placed_step (conversion token) }
+    ensures is { result ≡ as_placed_step text (conversion token) }
     ensures ordinary { IfOk result (λ token. IsTrue (is_ordinary token.value)) }
 {
-    convert_lexer_token(token).map_err(|fault| PlacedExit::Error(placed(fault)))
+    convert_lexer_token(token).map_err(|fault| PlacedExit::Error(placed(text, fault)))
 }
 
 // The text with this spelling.

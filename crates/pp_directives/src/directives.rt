@@ -34,7 +34,7 @@ use pp_macros::macro_processor::SpareCounts;
 use pp_macros::names::Definitions;
 use pp_macros::step::{PlacedExit, PlacedStep, no_memory};
 use pp_model::numbering::{Numbering, text_number};
-use pp_model::place::placed;
+use pp_model::place::{SOURCE_TEXT, placed};
 use std::alloc::{AllocError, Global};
 use std::marker::Model;
 
@@ -43,6 +43,8 @@ use std::marker::Model;
 pub struct DirectiveProcessor<'a> {
     alloc: Global,
     rules: Rules,
+    // the number of the text
+    text: u32,
     lexer: SourceLexer<'a>,
     definitions: Definitions,
     blocks: Blocks,
@@ -64,6 +66,7 @@ impl<'a> Model for DirectiveProcessor<'a> {
 
     ghost view = { λ p. record {
       rules = p.rules;
+      text = p.text;
       rest = p.lexer.rest;
       places = p.lexer.places;
       error_place = p.lexer.error_place;
@@ -89,6 +92,7 @@ impl<'a> DirectiveProcessor<'a> {
         DirectiveProcessor {
             alloc,
             rules,
+            text: SOURCE_TEXT,
             lexer: SourceLexer::new(alloc, input, rules),
             definitions: Definitions::new(alloc),
             blocks: Blocks::new(alloc),
@@ -115,6 +119,14 @@ impl<'a> DirectiveProcessor<'a> {
     /// The place of the item of the source that was read last, on the line of a directive and in dead text too.
     pub fn reached(&self) -> Location {
         self.lexer.reached()
+    }
+
+    /// The number of the text that is read.
+    #[inline(always)]
+    pub fn text(&self) -> u32
+        ensures { result ≡ self.now.text }
+    {
+        self.text
     }
 
     /// The definitions that hold now.
@@ -197,10 +209,10 @@ impl<'a> DirectiveProcessor<'a> {
             (unreported_of self.new) }
     {
         match self.blocks.pop() {
-            Some(block) => PlacedExit::Error(placed((
-                PreprocessorError::UnfinishedBlock,
-                block.word,
-            ))),
+            Some(block) => PlacedExit::Error(placed(
+                self.text,
+                (PreprocessorError::UnfinishedBlock, block.word),
+            )),
             None => PlacedExit::Finished,
         }
     }
@@ -226,14 +238,19 @@ impl<'a> DirectiveProcessor<'a> {
         ensures errors { StepReports self.old.rules.passes_dead_errors result
             (unreported_of self.old) (unreported_of self.new) }
     {
+        let text = self.text();
         match self.read_directive(hash) {
             Ok(Some(item)) => Ok(item),
             Ok(None) => Err(PlacedExit::Continue),
-            Err(PlacedHalt::OutOfMemory) => Err(PlacedExit::from(PlacedHalt::OutOfMemory)),
-            Err(PlacedHalt::Fault(fault)) => {
-                self.skip_faulty_line()?;
-                Err(PlacedExit::Error(fault))
-            }
+            Err(halt) => match halt.placed_at(text) {
+                PlacedHalt::OutOfMemory => Err(PlacedExit::from(PlacedHalt::OutOfMemory)),
+                PlacedHalt::Fault(fault) => {
+                    if let Err(refused) = self.skip_faulty_line() {
+                        return Err(PlacedExit::from(refused.in_text(text)));
+                    }
+                    Err(PlacedExit::Error(fault))
+                }
+            },
         }
     }
 
@@ -256,7 +273,7 @@ impl<'a> DirectiveProcessor<'a> {
                 self.lexer.take_error_place();
                 return Err(PlacedExit::Continue);
             }
-            Err(halt) => return Err(PlacedExit::from(halt)),
+            Err(halt) => return Err(PlacedExit::from(halt.in_text(self.text))),
         };
         if self.lexer.is_over_budget() {
             drop(token);
@@ -273,7 +290,7 @@ impl<'a> DirectiveProcessor<'a> {
                 self.step_directive(hash)
             }
             _ if self.is_live() => {
-                let token = placed_token(token)?;
+                let token = placed_token(self.text, token)?;
                 self.has_text = true;
                 Ok(token)
             }

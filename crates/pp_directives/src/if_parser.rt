@@ -11,11 +11,11 @@ ghost use Rattle.pp_directives.specs.inner.IfParsing.{IsAtFront, TakesExpression
 use crate::limit::expansion_limit;
 use crate::line_words::line_words;
 use crate::token_list::LineReads;
-use pp_lexer::token::Location;
 use pp_macros::halt::PlacedHalt;
 use pp_macros::list_lexer::Scope;
 use pp_macros::macro_processor::SpareCounts;
 use pp_model::line_value::unwanted_word;
+use pp_model::place::Place;
 use pp_model::word::{LineKind, Word, Words};
 use std::alloc::{AllocError, Global};
 use std::marker::Model;
@@ -24,7 +24,7 @@ use std::marker::Model;
 #[derive(Drop)]
 pub struct IfParser {
     alloc: Global,
-    directive: Location,
+    directive: Place,
     words: Words,
 }
 
@@ -44,13 +44,14 @@ impl IfParser {
     pub fn new(
         alloc: Global,
         kind: LineKind,
-        directive: Location,
+        directive: Place,
         tokens: LineReads,
         scope: &Scope<'_>,
         counts: &mut SpareCounts,
     ) -> Result<IfParser, AllocError>
-        requires { AllHoldOrdinary tokens }
-        ensures { IfOk result (IsAtFront kind directive tokens scope.now.numbering scope.now.definitions.now) }
+        requires ordinary { AllHoldOrdinary tokens.tokens }
+        requires text { tokens.text ≡ directive.text }
+        ensures { IfOk result (IsAtFront kind directive tokens.tokens scope.now.numbering scope.now.definitions.now) }
     {
         let levels = expansion_limit();
         Ok(IfParser {

@@ -3,6 +3,7 @@
 
 pub mod content;
 pub mod convert;
+pub mod directive_halt;
 pub mod directives;
 pub mod if_parser;
 pub mod limit;

@@ -10,11 +10,12 @@ ghost use Rattle.pp_directives.specs.inner.LineHalts.{without_number};
 
 use crate::if_parser::IfParser;
 use crate::token_list::LineReads;
-use pp_lexer::token::{Location, PreprocessorError};
+use pp_lexer::token::PreprocessorError;
 use pp_macros::halt::PlacedHalt;
 use pp_macros::list_lexer::Scope;
 use pp_macros::macro_processor::SpareCounts;
 use pp_model::numbering::as_line_number;
+use pp_model::place::Place;
 use pp_model::word::LineKind;
 use std::alloc::{AllocError, Global};
 
@@ -24,13 +25,14 @@ use std::alloc::{AllocError, Global};
 /// the fault, or `OutOfMemory` if an allocation failed.
 pub fn condition(
     alloc: Global,
-    directive: Location,
+    directive: Place,
     tokens: LineReads,
     scope: &Scope<'_>,
     counts: &mut SpareCounts,
 ) -> Result<bool, PlacedHalt>
-    requires { AllHoldOrdinary tokens }
-    ensures { Satisfies result (IsCondition (answers_at expansion_limit) directive tokens
+    requires ordinary { AllHoldOrdinary tokens.tokens }
+    requires text { tokens.text ≡ directive.text }
+    ensures { Satisfies result (IsCondition (answers_at expansion_limit) directive tokens.tokens
         scope.now.numbering (meaning_of scope.now.definitions.now)) }
 {
     let mut parser = IfParser::new(alloc, LineKind::Condition, directive, tokens, scope, counts)?;
@@ -77,13 +79,14 @@ impl From<PlacedHalt> for LineHalt {
 /// the fault, or `OutOfMemory` if an allocation failed.
 pub fn line_number(
     alloc: Global,
-    directive: Location,
+    directive: Place,
     tokens: LineReads,
     scope: &Scope<'_>,
     counts: &mut SpareCounts,
 ) -> Result<u32, LineHalt>
-    requires { AllHoldOrdinary tokens }
-    ensures { Satisfies (without_number result) (IsLineNumber (answers_at expansion_limit) directive tokens
+    requires ordinary { AllHoldOrdinary tokens.tokens }
+    requires text { tokens.text ≡ directive.text }
+    ensures { Satisfies (without_number result) (IsLineNumber (answers_at expansion_limit) directive tokens.tokens
         scope.now.numbering (meaning_of scope.now.definitions.now)) }
 {
     let mut parser = IfParser::new(
@@ -96,10 +99,7 @@ pub fn line_number(
     )?;
     let value = parser.evaluate_expression()?;
     let Some(number) = as_line_number(value) else {
-        return Err(LineHalt::from(PlacedHalt::of_source(
-            PreprocessorError::LineOverflow,
-            directive,
-        )));
+        return Err(LineHalt::from(PlacedHalt::Fault((PreprocessorError::LineOverflow, directive))));
     };
     if parser.peek().is_none() {
         return Ok(number);

@@ -13,7 +13,7 @@ ghost use Rattle.pp_directives.specs.inner.ReadingWords.{AreWordsOfLine};
 ghost use Rattle.pp_directives.specs.inner.LineItems.{taken_of_read};
 
 use crate::token_list::LineReads;
-use pp_lexer::token::{Location, PreprocessorError, Text, TokenValue};
+use pp_lexer::token::{PreprocessorError, Text, TokenValue};
 use pp_macros::arguments::finish_call;
 use pp_macros::calls::Taken;
 use pp_macros::halt::{PlacedHalt, halt_of};
@@ -23,7 +23,7 @@ use pp_macros::macro_processor::{MacroProcessor, SpareCounts};
 use pp_macros::step::PlacedExit;
 use pp_model::line_value::ended_early;
 use pp_model::parentheses::{is_left_paren, is_right_paren};
-use pp_model::place::{PlacedFault, fault_in};
+use pp_model::place::{Place, PlacedFault, fault_in};
 use pp_model::read::Read;
 use pp_model::splice::CallPlace;
 use pp_model::word::{LineKind, Word, WordReading, Words, reading_of, unwanted_reading};
@@ -49,7 +49,7 @@ struct LineItem {
 struct WordReader<'a> {
     alloc: Global,
     kind: LineKind,
-    directive: Location,
+    directive: Place,
     scope: Scope<'a>,
     levels: u32,
 }
@@ -258,8 +258,9 @@ impl<'a> WordReader<'a> {
         tokens: LineReads,
         counts: &mut SpareCounts,
     ) -> Result<Words, AllocError>
-        requires { AllHoldOrdinary tokens }
-        ensures { IfOk result (AreWordsOfLine self.now.kind self.now.directive self.now.levels tokens
+        requires ordinary { AllHoldOrdinary tokens.tokens }
+        requires text { tokens.text ≡ self.now.directive.text }
+        ensures { IfOk result (AreWordsOfLine self.now.kind self.now.directive self.now.levels tokens.tokens
             self.now.scope.numbering self.now.scope.definitions.now) }
     {
         let expander = MacroProcessor::with_counts(self.alloc, counts.take(self.alloc));
@@ -276,14 +277,15 @@ impl<'a> WordReader<'a> {
 pub fn line_words(
     alloc: Global,
     kind: LineKind,
-    directive: Location,
+    directive: Place,
     tokens: LineReads,
     scope: &Scope<'_>,
     levels: u32,
     counts: &mut SpareCounts,
 ) -> Result<Words, AllocError>
-    requires { AllHoldOrdinary tokens }
-    ensures { IfOk result (AreWordsOfLine kind directive levels tokens scope.now.numbering
+    requires ordinary { AllHoldOrdinary tokens.tokens }
+    requires text { tokens.text ≡ directive.text }
+    ensures { IfOk result (AreWordsOfLine kind directive levels tokens.tokens scope.now.numbering
         scope.now.definitions.now) }
 {
     let reader = WordReader {

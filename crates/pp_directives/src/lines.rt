@@ -1,6 +1,6 @@
 //! The lines of directives, read token by token.
 
-ghost use Rattle.std.specs.Prelude.{◌≡◌, ◌≢◌, [], true, false, Some, Ok, IsTrue, All, IfOk, IfSome};
+ghost use Rattle.std.specs.Prelude.{◌≡◌, ◌≢◌, [], true, false, Some, Ok, IsTrue, All, IfOk, IfSome, OnOk};
 ghost use Rattle.pp_lexer.specs.Lexed.{comments_before};
 ghost use Rattle.pp_lexer.specs.TokenValue.{is_ordinary};
 ghost use Rattle.pp_model.specs.DefineLines.{is_attached_paren, definition_at, defined_on};
@@ -264,7 +264,8 @@ fn read_line<T: TokenList>(
     requires ordinary { IfSome first (λ t. IsTrue (is_ordinary t.value)) }
     requires left { IfSome first (λ t. lexer.old.rest ≢ []) }
     requires empty { T.tokens tokens.old ≡ [] }
-    ensures { ReadsTokens (λ _. T.tokens tokens.new) first lexer.old result lexer.new }
+    ensures reads { ReadsTokens (λ _. T.tokens tokens.new) first lexer.old result lexer.new }
+    ensures text { OnOk result (T.text tokens.new ≡ T.text tokens.old) }
 {
     let mut next = first;
     while let Some(token) = next {
@@ -303,14 +304,15 @@ pub fn rest_of_line(alloc: Global, lexer: &mut SourceLexer<'_>) -> Result<Vec<To
     line_tokens_from(alloc, first, lexer)
 }
 
-/// The tokens of the rest of the line, for an expander.
-pub fn line_reads(alloc: Global, lexer: &mut SourceLexer<'_>) -> Result<LineReads, Halt>
+/// The tokens of the rest of the line, which is of this text, for an expander.
+pub fn line_reads(alloc: Global, text: u32, lexer: &mut SourceLexer<'_>) -> Result<LineReads, Halt>
     requires { lexer.old.spent ≡ false }
-    ensures reads { ReadsLine (λ tokens. tokens) line_tokens lexer.old result lexer.new }
-    ensures ordinary { IfOk result AreOrdinary }
+    ensures reads { ReadsLine (λ line. line.tokens) line_tokens lexer.old result lexer.new }
+    ensures text { IfOk result (λ line. line.text ≡ text) }
+    ensures ordinary { IfOk result (λ line. AreOrdinary line.tokens) }
 {
     let first = next_line_token(alloc, lexer)?;
-    let mut tokens = LineReads::new(alloc)?;
+    let mut tokens = LineReads::new(alloc, text)?;
     read_line(alloc, first, lexer, &mut tokens)?;
     Ok(tokens)
 }

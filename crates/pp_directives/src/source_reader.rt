@@ -16,8 +16,9 @@ impl<'a> MeLexer for DirectiveProcessor<'a> {
     ghost reader = { λ source. of_source source };
 
     fn step(&mut self) -> PlacedStep<Read> {
+        let text = self.text();
         match DirectiveProcessor::step(self) {
-            Ok(token) => Ok(Read::unpainted(token)),
+            Ok(token) => Ok(Read::of_text(token, text)),
             Err(exit) => Err(exit),
         }
     }

@@ -1,5 +1,5 @@
 -- Why reading a part of the source stopped without a value, as the exit of a step.
-use Rattle.std.specs.Prelude.{if◌then◌else◌, Option, Result, Ok, Err}
+use Rattle.std.specs.Prelude.{ℕ, if◌then◌else◌, Option, Result, Ok, Err}
 use Rattle.pp_lexer.specs.declared.token.Token.{Token}
 use Rattle.pp_model.specs.Places.{PlacedFault, fault_in, placed, unplaced}
 use Rattle.pp_model.specs.declared.splice.CallPlace.{CallPlace}
@@ -12,10 +12,10 @@ use Rattle.pp_macros.specs.declared.halt.PlacedHalt.TheVariants as placed_halt
 use Rattle.pp_macros.specs.declared.step.PlacedExit.{PlacedExit}
 use Rattle.pp_macros.specs.declared.step.PlacedExit.TheVariants.{Error}
 
--- the same with the text of the fault, which is the source
-abbrev pub placed_halt_of : Halt → PlacedHalt
-placed_halt_of (halt.Fault fault) = placed_halt.Fault (placed fault)
-placed_halt_of halt.OutOfMemory = placed_halt.OutOfMemory
+-- the same with the text of the fault, which is this one
+abbrev pub placed_halt_of : ℕ → Halt → PlacedHalt
+placed_halt_of text (halt.Fault fault) = placed_halt.Fault (placed text fault)
+placed_halt_of text halt.OutOfMemory = placed_halt.OutOfMemory
 
 -- the same without the text of the fault
 abbrev pub unplaced_halt : PlacedHalt → Halt

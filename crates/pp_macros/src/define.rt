@@ -325,4 +325,12 @@ impl Define {
             text,
         })
     }
+
+    /// The same macro, if its body is of this text.
+    pub fn in_text(mut self, text: u32) -> Define
+        ensures { result ≡ record self { text = text } }
+    {
+        self.text = text;
+        self
+    }
 }

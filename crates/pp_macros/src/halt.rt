@@ -1,10 +1,8 @@
 //! Why a line, a directive or a call has no value.
 
 ghost use Rattle.std.specs.Prelude.{◌≡◌};
-ghost use Rattle.pp_model.specs.Places.{placed};
-ghost use Rattle.pp_macros.specs.Halting.{halt_in, halt_of};
+ghost use Rattle.pp_macros.specs.Halting.{halt_in, halt_of, placed_halt_of};
 ghost use Rattle.pp_macros.specs.inner.Noting.{noted_halt};
-ghost use Rattle.pp_macros.specs.declared.halt.PlacedHalt.TheVariants as placed_halt;
 
 use crate::step::{PlacedExit, is_out_of_memory, no_memory};
 use pp_lexer::token::{Location, PreprocessorError};
@@ -19,6 +17,18 @@ pub enum Halt {
     Fault((PreprocessorError, Location)),
     /// An allocation failed.
     OutOfMemory,
+}
+
+impl Halt {
+    /// The same with the text of the fault, which is this one.
+    pub fn in_text(self, text: u32) -> PlacedHalt
+        ensures { result ≡ placed_halt_of text self }
+    {
+        match self {
+            Halt::Fault(fault) => PlacedHalt::Fault(placed(text, fault)),
+            Halt::OutOfMemory => PlacedHalt::OutOfMemory,
+        }
+    }
 }
 
 impl From<AllocError> for Halt {
@@ -86,20 +96,6 @@ impl<T: Drop> From<AllocFailed<T>> for PlacedHalt {
     }
 }
 
-impl From<Halt> for PlacedHalt {
-    ghost use Rattle.std.specs.Prelude.{◌≡◌};
-    ghost use Rattle.pp_macros.specs.Halting.{placed_halt_of};
-
-    ghost from_gives = { λ halt above. above ≡ placed_halt_of halt };
-
-    fn from(halt: Halt) -> Self {
-        match halt {
-            Halt::Fault(fault) => PlacedHalt::Fault(placed(fault)),
-            Halt::OutOfMemory => PlacedHalt::OutOfMemory,
-        }
-    }
-}
-
 impl From<PlacedFault> for PlacedHalt {
     ghost use Rattle.std.specs.Prelude.{◌≡◌};
     ghost use Rattle.pp_macros.specs.declared.halt.PlacedHalt.TheVariants.{Fault};
@@ -112,13 +108,6 @@ impl From<PlacedFault> for PlacedHalt {
 }
 
 impl PlacedHalt {
-    /// An error at this place of the source.
-    pub fn of_source(error: PreprocessorError, location: Location) -> PlacedHalt
-        ensures { result ≡ placed_halt.Fault (placed (error, location)) }
-    {
-        PlacedHalt::Fault(placed((error, location)))
-    }
-
     /// The same in this call, if there is one.
     pub fn in_call(self, call: Option<CallPlace>) -> PlacedHalt
         ensures { result ≡ halt_in call self }
@@ -152,17 +141,6 @@ impl<T: Drop> From<AllocFailed<T>> for Halted {
 
     fn from(_error: AllocFailed<T>) -> Self {
         Halted
-    }
-}
-
-impl From<Halt> for PlacedExit {
-    ghost use Rattle.std.specs.Prelude.{◌≡◌};
-    ghost use Rattle.pp_macros.specs.Halting.{exit_of, placed_halt_of};
-
-    ghost from_gives = { λ halt exit. exit ≡ exit_of (placed_halt_of halt) };
-
-    fn from(halt: Halt) -> Self {
-        PlacedExit::from(PlacedHalt::from(halt))
     }
 }
 

@@ -12,6 +12,7 @@ use crate::step::{PlacedExit, PlacedStep};
 use pp_lexer::token::{Integer, NOWHERE, Punct, Token, TokenValue};
 use pp_model::names::{is_defined_name, is_line_name};
 use pp_model::numbering::Numbering;
+use pp_model::place::SOURCE_TEXT;
 use pp_model::read::Read;
 use std::alloc::AllocError;
 use std::marker::Model;
@@ -27,7 +28,7 @@ pub fn take_out(place: &mut Read) -> Read
         value: TokenValue::Punct(Punct::Comma),
         location: NOWHERE,
     };
-    mem::replace(place, Read::unpainted(nothing))
+    mem::replace(place, Read::of_text(nothing, SOURCE_TEXT))
 }
 
 /// What holds for the tokens of a list.

@@ -6,7 +6,7 @@ ghost use Rattle.std.specs.Prelude.{pos, false, true, slice_index_or, unwrap_or}
 ghost use Rattle.std.specs.List.{list_any};
 ghost use Rattle.pp_lexer.specs.declared.token.TokenValue.TheVariants as value;
 ghost use Rattle.pp_model.specs.Names.{Name};
-ghost use Rattle.pp_model.specs.Painting.{is_one_of, painted_among, unpainted};
+ghost use Rattle.pp_model.specs.Painting.{is_one_of, painted_among};
 ghost use Rattle.pp_model.specs.Taking.{line_number};
 ghost use Rattle.pp_macros.specs.inner.Frames as spec;
 ghost use Rattle.pp_macros.specs.inner.Frames.{bare_call, new_frame, outermost_frame_call, outermost_frame_line};
@@ -294,17 +294,7 @@ impl MacroProcessor {
         self.held.is_some()
     }
 
-    /// Holds a token that was taken. It is the next step.
-    pub fn hold(&mut self, token: Token)
-        requires { HoldsOrdinary token.value }
-        ensures { self.new ≡ record self.old {
-          here = record self.old.here { held = Some (Ok (unpainted token)) };
-        } }
-    {
-        self.put_back(Ok(Read::unpainted(token)));
-    }
-
-    /// Holds a step.
+    /// Holds a step that was taken. It is the next one.
     #[inline(always)]
     pub fn put_back(&mut self, step: PlacedStep<Read>)
         requires { IfOk step (λ read. HoldsOrdinary read.token.value) }

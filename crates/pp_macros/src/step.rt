@@ -4,7 +4,7 @@ ghost use Rattle.std.specs.Prelude.{◌≡◌};
 ghost use Rattle.pp_macros.specs.Item.{is_out_of_memory, no_memory};
 
 use pp_lexer::token::{PreprocessorError, out_of_memory};
-use pp_model::place::{PlacedFault, placed};
+use pp_model::place::{PlacedFault, SOURCE_TEXT, placed};
 use std::alloc::{AllocError, AllocFailed, Global};
 
 /// A value, or the reason why a step gives none.
@@ -32,7 +32,7 @@ pub fn is_out_of_memory(error: &PreprocessorError) -> bool
 pub fn no_memory() -> PlacedFault
     ensures { result ≡ no_memory }
 {
-    placed(out_of_memory())
+    placed(SOURCE_TEXT, out_of_memory())
 }
 
 impl From<AllocError> for PlacedExit {

@@ -12,7 +12,7 @@ use Rattle.pp_model.specs.Sights.{sight_of}
 use Rattle.pp_model.specs.Blocks.{is_live}
 use Rattle.pp_model.specs.SourceReader.{SourceReader}
 use Rattle.pp_model.specs.Moves.{BlockFacts, failing, passing, move_at, directive_move, error_length}
-use Rattle.pp_model.specs.Acts.{Acted, pause_at, advanced_by, end_at, perform, facts_here, act}
+use Rattle.pp_model.specs.Acts.{Acted, pause_at, advanced_by, defined_in, end_at, perform, facts_here, act}
 use Rattle.pp_model.specs.inner.Acts.{perform_line, fault_at, item_at, items_left, after_word, after_line, after_condition}
 use Rattle.pp_model.specs.declared.definition.Named.{Named}
 use Rattle.pp_model.specs.declared.directive.Directive.{Directive}
@@ -40,7 +40,7 @@ pub record HoldsOfActs (P : Acted → Type 0) (r : SourceReader) : Type 0 where
   pub wanted : (word : Location) (tokens : List Token) → P (record { step = step.Condition word tokens; after = after_line r })
   pub numbered : IsLiveHere r → (word : Location) (tokens : List Token) → P (record { step = step.LineNumber word tokens; after = after_line r })
   pub defined : IsLiveHere r → (word : Location) (named : Named) → defined_on r.rules word (after_word r) ≡ Ok named
-      → P (record { step = step.Defines named; after = after_line r })
+      → P (record { step = step.Defines (defined_in r.text named); after = after_line r })
   pub changed : IsLiveHere r → (name : Name) → P (pause_at (record (after_line r) { definitions = with_change r.definitions name None }))
   pub decision : IsLiveHere r → (holds : Bool) → P (pause_at (after_condition r holds))
   pub token : IsLiveHere r → (shown : Token) → StandsThere r shown → (count : ℕ) → 1 ≤ count → P (item_at shown (advanced_by count r))

@@ -7,9 +7,9 @@ use Rattle.pp_expression.specs.declared.symbol.Value.{Value}
 use Rattle.pp_expression.specs.declared.symbol.Found.{Found}
 use Rattle.pp_expression.specs.Trees.{spelling}
 use Rattle.pp_expression.specs.FirstFault.{Evaluates, IsValue}
-use Rattle.pp_lexer.specs.declared.token.Location.{Location}
+use Rattle.pp_model.specs.declared.place.Place.{Place}
 use Rattle.pp_lexer.specs.declared.token.PreprocessorError.TheVariants.{LineOverflow}
-use Rattle.pp_model.specs.Places.{PlacedFault, in_source}
+use Rattle.pp_model.specs.Places.{PlacedFault}
 use Rattle.pp_model.specs.LineWords.{Words}
 use Rattle.pp_model.specs.LineValues.{ByExpression, IsAlone, Numbers, NumberBefore, TakesExpression, line_of, placed_fault}
 use Rattle.pp_model.specs.LineValues.{symbol_of, unwanted_word, word_from_end, words_after}
@@ -53,7 +53,7 @@ left_most words v is = omega (
 )
 
 -- a fault of an expression that should be alone is the same, whatever is reported of its value
-pub alone_at_fault : {A B : Type 0} (directive : Location) (words : Words) (first : ℤ → A) (second : ℤ → B) (fault : PlacedFault)
+pub alone_at_fault : {A B : Type 0} (directive : Place) (words : Words) (first : ℤ → A) (second : ℤ → B) (fault : PlacedFault)
     → IsAlone directive words first (Err fault) → IsAlone directive words second (Err fault)
 alone_at_fault {A} {B} directive words first second fault alone = at alone.evaluation alone.evaluated alone.is where
   by_word : (value : ℤ) (found : Option Word)
@@ -72,7 +72,7 @@ alone_at_fault {A} {B} directive words first second fault alone = at alone.evalu
       record { evaluation = Err found; evaluated = evaluated; is = let e : fault ≡ placed_fault directive words found.kind found.left = cc in ap Err e }
 
 -- it has none of them, whatever is reported of its value
-pub alone_at_value : {A B : Type 0} (directive : Location) (words : Words) (first : ℤ → A) (x : A) (y : B)
+pub alone_at_value : {A B : Type 0} (directive : Place) (words : Words) (first : ℤ → A) (x : A) (y : B)
     → IsAlone directive words first (Ok x) → IsAlone directive words (λ value. y) (Ok y)
 alone_at_value {A} {B} directive words first x y alone = at alone.evaluation alone.evaluated alone.is where
   by_word : (value : ℤ) (found : Option Word)
@@ -89,7 +89,7 @@ alone_at_value {A} {B} directive words first x y alone = at alone.evaluation alo
   at (Ok v) evaluated by = record { evaluation = Ok v; evaluated = evaluated; is = by_word v.value (word_from_end v.left words) by }
   at (Err found) evaluated by = absurd cc
 
-module _ (directive : Location) (words after : Words) (taken : Result ℤ PlacedFault) (takes : TakesExpression directive words taken after) where
+module _ (directive : Place) (words after : Words) (taken : Result ℤ PlacedFault) (takes : TakesExpression directive words taken after) where
   module _ {A : Type 0} (By : Value → Result A PlacedFault → Type 0) where
     -- the fault of the expression is that of the line
     pub fault_first : (fault : PlacedFault) → taken ≡ Err fault → ByExpression directive words By (Err fault)
@@ -132,7 +132,7 @@ module _ (directive : Location) (words after : Words) (taken : Result ℤ Placed
   alone_then report value is = value_first _ value _ is
       (λ v most same left. rw (same, next_after v.left left) refl)
 
-  pub numbers_out : (value : ℤ) → taken ≡ Ok value → as_line_number value ≡ None → Numbers directive words (Err (LineOverflow, in_source directive))
+  pub numbers_out : (value : ℤ) → taken ≡ Ok value → as_line_number value ≡ None → Numbers directive words (Err (LineOverflow, directive))
   numbers_out value is none = value_first _ value _ is (λ v most same left. rw (← same, none) refl)
 
   module _ (value : ℤ) (n : ℕ) (is : taken ≡ Ok value) (some : as_line_number value ≡ Some n) where

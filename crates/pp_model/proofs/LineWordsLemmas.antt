@@ -1,10 +1,9 @@
 -- A line gives one list of words, with one ending.
 use Rattle.std.proofs.Common.{◌≡◌, ◌∙◌, ℕ, Bool, [], ◌∷◌, sym, Option, Some, None}
 use Rattle.std.specs.Prelude.{Result, Ok, Err}
-use Rattle.pp_lexer.specs.declared.token.Location.{Location}
+use Rattle.pp_model.specs.declared.place.Place.{Place}
 use Rattle.pp_model.specs.Places.{PlacedFault, place_of, place_in, fault_in}
 use Rattle.pp_model.specs.ItemCall.{item_call}
-use Rattle.pp_model.specs.declared.place.Place.{Place}
 use Rattle.pp_model.specs.declared.splice.CallPlace.{CallPlace}
 use Rattle.pp_model.specs.declared.read.Read.{Read}
 use Rattle.pp_model.specs.Reading.{Expander, Listed, line_reading}
@@ -22,7 +21,7 @@ use Rattle.pp_model.proofs.LevelLemmas.{one_answer}
 use Rattle.pp_model.proofs.OperandLemmas.{one_operand}
 
 module _ (A : Answers) (single : OneAnswer A) where
-  module _ (kind : LineKind) (directive : Location) where
+  module _ (kind : LineKind) (directive : Place) where
     -- the words of a line, by its next item, and by the operand of a `defined`
     abbrev ByOperand : Place → Result Bool PlacedFault → Expander Listed → Words → Type 0
     ByOperand p (Ok answer) h ws = (rest : Words) × LineWords kind directive A h rest × (ws ≡ word_before (Defined p (Ok answer)) rest)

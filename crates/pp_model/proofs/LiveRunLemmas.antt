@@ -78,19 +78,19 @@ module _ (A : Answers) (r : SourceReader) (nothing : GivesNothing r (act r)) (o 
   same_after (step.Condition word tokens) e = ((refl, refl), λ holds. (nothing.same_definitions, nothing.same_lines))
   same_after (step.LineNumber word tokens) e = absurd (nothing.no_line_number word tokens e)
 
-  otherwise : (given : Read) → o ≡ Some (taken.Token given) → GivenBy step.Passed o → ⊥
+  otherwise : (given : Read) → o ≡ Some (taken.Token given) → GivenBy r.text step.Passed o → ⊥
   otherwise given e (inl n) = let bad : None ≡ Some (taken.Token given) = sym n ∙ e in cc
   otherwise given e (inr n) = let bad : Some (taken.Fault n.0) ≡ Some (taken.Token given) = sym n.1 ∙ e in cc
 
   -- the outcome of a token that was given
-  token_of : (x : Outcome) (given : Read) → taken_of x ≡ taken.Token given → x ≡ outcome.Token given.token
+  token_of : (x : Outcome) (given : Read) → taken_of r.text x ≡ taken.Token given → x ≡ outcome.Token given.token
   token_of (outcome.Token token) given e = ap (λ o. outcome.Token o) (let z = e in cc)
   token_of (outcome.Fault fault) given e = cc
   token_of outcome.End given e = cc
 
-  no_token : (given : Read) → o ≡ Some (taken.Token given) → (did : Step) → (act r).step ≡ did → GivenBy did o → ⊥
+  no_token : (given : Read) → o ≡ Some (taken.Token given) → (did : Step) → (act r).step ≡ did → GivenBy r.text did o → ⊥
   no_token given e (step.Given x) h g =
-      let same : taken_of x ≡ taken.Token given = cc in
+      let same : taken_of r.text x ≡ taken.Token given = cc in
       nothing.no_token given.token (h ∙ ap step.Given (token_of x given same))
   no_token given e _ h g = otherwise given e g
 

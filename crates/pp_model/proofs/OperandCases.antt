@@ -1,10 +1,9 @@
 -- What the operand of a `defined` gives, by what is taken first.
 use Rattle.std.proofs.Common.{◌≡◌, Bool, true, false, refl, Some, None}
 use Rattle.std.specs.Prelude.{Result, Ok, Err}
-use Rattle.pp_lexer.specs.declared.token.Location.{Location}
+use Rattle.pp_model.specs.declared.place.Place.{Place}
 use Rattle.pp_lexer.specs.declared.token.TokenValue.{TokenValue}
 use Rattle.pp_lexer.specs.declared.token.TokenValue.TheVariants.{Ident}
-use Rattle.pp_model.specs.declared.place.Place.{Place}
 use Rattle.pp_model.specs.Places.{PlacedFault, place_of, fault_in}
 use Rattle.pp_model.specs.Names.{Name}
 use Rattle.pp_model.specs.Reading.{Expander, Listed, line_reading}
@@ -37,7 +36,7 @@ named_unplaced : (o : Taken) (n : Name) → name_in o ≡ Some n → paren_at o 
 named_unplaced (taken.Token read) n is = not_open_unplaced (taken.Token read) (named_value_not_open read.token.value n is)
 named_unplaced _ n is = refl
 
-module _ (kind : LineKind) (directive : Location) (A : Answers) where
+module _ (kind : LineKind) (directive : Place) (A : Answers) where
   -- after the `(`
   pub no_name : (o : Taken) (e f : Expander Listed) (r : Result Bool PlacedFault) → Takes line_reading e o f → name_in o ≡ None
       → r ≡ Err (fault_in (outermost_call f.list) (unwanted_part directive o)) → InParentheses kind directive A e r f

@@ -1,7 +1,6 @@
 -- The operand of a `defined` has one outcome.
 use Rattle.std.proofs.Common.{◌≡◌, ◌∙◌, Bool, refl, sym, subst, Option, Some, None}
-use Rattle.std.specs.Prelude.{MatchOption, Result, Ok, Err}
-use Rattle.pp_lexer.specs.declared.token.Location.{Location}
+use Rattle.std.specs.Prelude.{MatchOption, Result, Ok}
 use Rattle.pp_model.specs.declared.place.Place.{Place}
 use Rattle.pp_model.specs.Places.{PlacedFault}
 use Rattle.pp_model.specs.Names.{Name}
@@ -18,7 +17,7 @@ use Rattle.pp_model.specs.declared.word.LineKind.{LineKind}
 use Rattle.pp_model.proofs.TakingLemmas.{one_pair, line_reads_one, one_taking}
 use Rattle.pp_model.proofs.EmittingLemmas.{one_item}
 
-module _ (A : Answers) (single : OneAnswer A) (kind : LineKind) (directive : Location) where
+module _ (A : Answers) (single : OneAnswer A) (kind : LineKind) (directive : Place) where
   -- two takings take one outcome, so what is said of the second is said of the first
   of_first : (Of : Taken → Expander Listed → Type 0) (e f g : Expander Listed) (x y : Taken) → Takes line_reading e x f → Takes line_reading e y g
       → Of y g → Of x f

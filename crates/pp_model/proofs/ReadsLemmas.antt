@@ -2,7 +2,7 @@
 use Rattle.std.proofs.Common.{◌≡◌, ◌∙◌, sym, subst, Option, Some, None, ◌⊎◌, inl, inr}
 use Rattle.std.specs.Prelude.{ℕ, pos, ◌-ℤ◌, Bool, Result, Ok, Err}
 use Rattle.pp_model.specs.declared.read.Taken.{Taken}
-use Rattle.pp_model.specs.Places.{PlacedFault}
+use Rattle.pp_model.specs.Places.{PlacedFault, in_text}
 use Rattle.pp_model.specs.Definitions.{Definition}
 use Rattle.pp_model.specs.Calls.{Answers}
 use Rattle.pp_model.specs.SourceReader.{SourceReader}
@@ -20,13 +20,13 @@ use Rattle.pp_model.proofs.TakingLemmas.{one_pair}
 use Rattle.pp_model.proofs.LineValueLemmas.{one_condition, one_line_number}
 use Rattle.pp_model.specs.Numbering.{list_numbering}
 
-one_define : (named : Named) (defined : Option Definition) (after : SourceReader) (x y : Option Taken) (s t : SourceReader)
-    → Defines named defined after x s → Defines named defined after y t → (x ≡ y) × (s ≡ t)
-one_define named None after x y s t a b = one_pair a b
-one_define named (Some old) after x y s t (p, inl a) (q, inl b) = (a.1 ∙ sym b.1, p ∙ sym q)
-one_define named (Some old) after x y s t (p, inl a) (q, inr b) = absurd (b.0 a.0)
-one_define named (Some old) after x y s t (p, inr a) (q, inl b) = absurd (a.0 b.0)
-one_define named (Some old) after x y s t (p, inr a) (q, inr b) = (a.1 ∙ sym b.1, p ∙ sym q)
+one_define : (text : ℕ) (named : Named) (defined : Option Definition) (after : SourceReader) (x y : Option Taken) (s t : SourceReader)
+    → Defines text named defined after x s → Defines text named defined after y t → (x ≡ y) × (s ≡ t)
+one_define text named None after x y s t a b = one_pair a b
+one_define text named (Some old) after x y s t (p, inl a) (q, inl b) = (a.1 ∙ sym b.1, p ∙ sym q)
+one_define text named (Some old) after x y s t (p, inl a) (q, inr b) = absurd (b.0 a.0)
+one_define text named (Some old) after x y s t (p, inr a) (q, inl b) = absurd (a.0 b.0)
+one_define text named (Some old) after x y s t (p, inr a) (q, inr b) = (a.1 ∙ sym b.1, p ∙ sym q)
 
 one_evaluated : {V : Type 0} (v w : Result V PlacedFault) (next : V → SourceReader) (r : SourceReader) (x y : Option Taken) (s t : SourceReader) → v ≡ w
     → Evaluated v next r x s → Evaluated w next r y t → (x ≡ y) × (s ≡ t)
@@ -41,13 +41,13 @@ module _ (A : Answers) (single : OneAnswer A) where
       → Does A r did after y t → (x ≡ y) × (s ≡ t)
   one_outcome step.Passed after r x y s t a b = one_pair a b
   one_outcome (step.Given z) after r x y s t a b = one_pair a b
-  one_outcome (step.Defines named) after r x y s t a b = one_define named (r.definitions named.name) after x y s t a b
+  one_outcome (step.Defines named) after r x y s t a b = one_define r.text named (r.definitions named.name) after x y s t a b
   one_outcome (step.Condition word tokens) after r x y s t a b =
       one_evaluated a.0 b.0 (λ holds. decided r.position holds after) r x y s t
-      (one_condition A single word tokens (list_numbering r.rules r.line_offset) r.definitions a.0 b.0 a.1 b.1) a.2 b.2
+      (one_condition A single (in_text r.text word) tokens (list_numbering r.rules r.line_offset) r.definitions a.0 b.0 a.1 b.1) a.2 b.2
   one_outcome (step.LineNumber word tokens) after r x y s t a b =
       one_evaluated a.0 b.0 (λ n. record after { line_offset = pos n -ℤ pos (numbered_line r.rules word.line) }) r x y s t
-      (one_line_number A single word tokens (list_numbering r.rules r.line_offset) r.definitions a.0 b.0 a.1 b.1) a.2 b.2
+      (one_line_number A single (in_text r.text word) tokens (list_numbering r.rules r.line_offset) r.definitions a.0 b.0 a.1 b.1) a.2 b.2
 
   pub one_step : OneStep A
   one_step r x y s t a b = one_outcome (act r).step (act r).after r x y s t a b
@@ -82,13 +82,13 @@ act_does A did after r o t e d = subst (λ (a : Acted). Does A r a.step a.after 
 
 -- where the act defines a name, the step comes to what the old definition says
 pub defines_that : (A : Answers) (named : Named) (old : Option Definition) (r : SourceReader) (o : Option Taken) (t : SourceReader)
-    → (act r).step ≡ step.Defines named → r.definitions named.name ≡ old → Steps A r o t → Defines named old (act r).after o t
-defines_that A named old r o t h k s = subst (λ z. Defines named z (act r).after o t) k (does_that A (step.Defines named) r o t h s)
+    → (act r).step ≡ step.Defines named → r.definitions named.name ≡ old → Steps A r o t → Defines r.text named old (act r).after o t
+defines_that A named old r o t h k s = subst (λ z. Defines r.text named z (act r).after o t) k (does_that A (step.Defines named) r o t h s)
 
 -- what a step gives: what its act does, and otherwise nothing or a fault
-abbrev pub GivenBy : Step → Option Taken → Type 0
-GivenBy (step.Given x) o = o ≡ Some (taken_of x)
-GivenBy _ o = (o ≡ None) ⊎ ((fault : PlacedFault) × (o ≡ Some (taken.Fault fault)))
+abbrev pub GivenBy : ℕ → Step → Option Taken → Type 0
+GivenBy text (step.Given x) o = o ≡ Some (taken_of text x)
+GivenBy text _ o = (o ≡ None) ⊎ ((fault : PlacedFault) × (o ≡ Some (taken.Fault fault)))
 
 -- it holds of each reader that a step may leave
 abbrev pub HoldsAfter : (SourceReader → Type 0) → SourceReader → Step → SourceReader → Type 0
@@ -98,16 +98,16 @@ HoldsAfter P r (step.LineNumber word tokens) after = P r × ((n : ℕ) → P (re
 HoldsAfter P r _ after = P after
 
 module _ (A : Answers) (r : SourceReader) (o : Option Taken) (t : SourceReader) where
-  define_gives : (named : Named) (old : Option Definition) (after : SourceReader) → Defines named old after o t → GivenBy (step.Defines named) o
+  define_gives : (named : Named) (old : Option Definition) (after : SourceReader) → Defines r.text named old after o t → GivenBy r.text (step.Defines named) o
   define_gives named None after d = inl d.0
   define_gives named (Some old) after (p, inl d) = inl d.1
   define_gives named (Some old) after (p, inr d) = inr (_, d.1)
 
-  line_gives : {V : Type 0} (v : Result V PlacedFault) (next : V → SourceReader) → Evaluated v next r o t → GivenBy step.Passed o
+  line_gives : {V : Type 0} (v : Result V PlacedFault) (next : V → SourceReader) → Evaluated v next r o t → GivenBy r.text step.Passed o
   line_gives (Ok value) next d = inl d.0
   line_gives (Err fault) next d = inr (fault, d.0)
 
-  pub given_by : (did : Step) (after : SourceReader) → Does A r did after o t → GivenBy did o
+  pub given_by : (did : Step) (after : SourceReader) → Does A r did after o t → GivenBy r.text did o
   given_by step.Passed after d = inl d.0
   given_by (step.Given x) after d = d.0
   given_by (step.Defines named) after d = define_gives named (r.definitions named.name) after d
@@ -116,7 +116,7 @@ module _ (A : Answers) (r : SourceReader) (o : Option Taken) (t : SourceReader) 
 
   module _ (P : SourceReader → Type 0) where
     define_leaves : (named : Named) (old : Option Definition) (after : SourceReader) → HoldsAfter P r (step.Defines named) after
-        → Defines named old after o t → P t
+        → Defines r.text named old after o t → P t
     define_leaves named None after h d = subst P (sym d.1) h.1
     define_leaves named (Some old) after h d = subst P (sym d.0) h.0
 

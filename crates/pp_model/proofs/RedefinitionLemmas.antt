@@ -20,7 +20,7 @@ abbrev definitions : SourceReader → Definitions
 definitions r = r.definitions
 
 checked : (named : Named) (old : Definition) (after r t : SourceReader) (o : Option Taken) → after.definitions ≡ r.definitions
-    → Defines named (Some old) after o t → Redefined named old r o t
+    → Defines r.text named (Some old) after o t → Redefined named old r o t
 checked named old after r t o left (p, inl same) = record {
   repeated = λ h. same.1;
   refused = λ other. absurd (other same.0);

@@ -7,9 +7,10 @@ use Rattle.pp_model.specs.ApartMarks.{HasApartMarks}
 use Rattle.pp_model.specs.NoLineName.{is_line_name, HoldsNoLineName}
 use Rattle.pp_model.specs.RunStates.{RunKeepsMarksApart, gives_line_name, RunShowsNoLineName}
 use Rattle.pp_model.specs.declared.call.Reply.{Reply}
+use Rattle.pp_model.specs.declared.call.Reply.TheVariants as reply
 use Rattle.pp_model.specs.declared.read.Taken.{Taken}
 use Rattle.pp_model.specs.declared.read.Taken.TheVariants as taken
-use Rattle.pp_model.specs.Painting.{taken_of, item_of}
+use Rattle.pp_model.specs.Painting.{item_of}
 use Rattle.pp_model.proofs.RunLemmas.{each_state, each_reply}
 use Rattle.pp_model.proofs.ApartMarksLemmas.{item_keeps_apart}
 use Rattle.pp_model.proofs.NoLineNameLemmas.{item_shows_none}
@@ -18,7 +19,7 @@ abbrev IsNoLineName : Reply → Type 0
 IsNoLineName answer = gives_line_name answer ≡ false
 
 -- an item is a `__LINE__` where it was taken as one
-same_name : (x : Taken) → is_line_name (taken_of (item_of x)) ≡ is_line_name x
+same_name : (x : Taken) → gives_line_name (reply.Given (item_of x)) ≡ is_line_name x
 same_name (taken.Token token) = refl
 same_name _ = refl
 
@@ -31,5 +32,5 @@ module _ (A : Answers) where
   run_shows_no_line_name rules source calls replies run =
       let items = item_shows_none (source_reading A) A in
       each_reply A HoldsNoLineName (λ name tokens e none. none) (λ o e f item none. (items o e f item none).1) IsNoLineName refl (λ fault. refl)
-      (λ o e f item none. ap (λ x. is_line_name (taken_of x)) item.is ∙ same_name item.taken ∙ (items item.taken e f item.emits none).0)
+      (λ o e f item none. ap (λ x. gives_line_name (reply.Given x)) item.is ∙ same_name item.taken ∙ (items item.taken e f item.emits none).0)
       rules (start_by rules source) calls replies run tt

@@ -1,5 +1,5 @@
 -- Once reading a source gave the end, it gives nothing else.
-use Rattle.std.proofs.Common.{◌≡◌, ◌∙◌, take, drop, length, refl, sym, ap, subst, Option, Some, None, ◌⊎◌, inl, inr}
+use Rattle.std.proofs.Common.{ℕ, ◌≡◌, ◌∙◌, take, drop, length, refl, sym, ap, subst, Option, Some, None, ◌⊎◌, inl, inr}
 use Rattle.pp_model.specs.Places.{PlacedFault}
 use Rattle.pp_model.specs.Calls.{Answers}
 use Rattle.pp_model.specs.Sights.{sight_of}
@@ -64,9 +64,9 @@ end_acts r end =
     (reported_end (reported_next r) r end.all_reported)
 
 -- only the end is the end
-given_end : (o : Outcome) → taken_of o ≡ taken.End → o ≡ outcome.End
-given_end outcome.End e = refl
-given_end _ e = cc
+given_end : (text : ℕ) (o : Outcome) → taken_of text o ≡ taken.End → o ≡ outcome.End
+given_end text outcome.End e = refl
+given_end text _ e = cc
 
 module _ (A : Answers) where
   no_end_given : (Some taken.End ≡ None) ⊎ ((fault : PlacedFault) × (Some taken.End ≡ Some (taken.Fault fault))) → ⊥
@@ -77,9 +77,9 @@ module _ (A : Answers) where
   step_ends : (r t : SourceReader) → Steps A r (Some taken.End) t → IsAtEnd r × (t ≡ r)
   step_ends r t s = go (act r).step refl (given_by A r (Some taken.End) t (act r).step (act r).after s)
     where
-      go : (did : Step) → (act r).step ≡ did → GivenBy did (Some taken.End) → IsAtEnd r × (t ≡ r)
+      go : (did : Step) → (act r).step ≡ did → GivenBy r.text did (Some taken.End) → IsAtEnd r × (t ≡ r)
       go (step.Given x) h g =
-          let end = only_at_end r (h ∙ ap step.Given (given_end x (let same : taken_of x ≡ taken.End = cc in same))) in
+          let end = only_at_end r (h ∙ ap step.Given (given_end r.text x (let same : taken_of r.text x ≡ taken.End = cc in same))) in
           let acts = end_acts r end in
           (end, (does_that A (step.Given outcome.End) r (Some taken.End) t (ap (λ a. a.step) acts) s).1 ∙ ap (λ a. a.after) acts)
       go _ h g = absurd (no_end_given g)

@@ -111,9 +111,9 @@ module _ (Q : Token → Type 0) (L : ℕ → Type 0) (closed : AreClosed Q L) wh
   abbrev pub DirectiveItemsHold : Type 0
   DirectiveItemsHold = (token : Token) → is_ordinary token.value ≡ false → L token.location.line → Q token
 
-  unless_given : (o : Option Taken) → GivenBy step.Passed o → IfSome o (HoldsOfTaken Q)
-  unless_given o (inl n) = rw n tt
-  unless_given o (inr n) = rw n.1 tt
+  unless_given : (text : ℕ) (o : Option Taken) → GivenBy text step.Passed o → IfSome o (HoldsOfTaken Q)
+  unless_given text o (inl n) = rw n tt
+  unless_given text o (inr n) = rw n.1 tt
 
   module _ (items_hold : DirectiveItemsHold) (r : SourceReader) (h : HoldsOfReader r) where
     left_hold : HoldInItems Q (items_left r)
@@ -145,13 +145,13 @@ module _ (Q : Token → Type 0) (L : ℕ → Type 0) (closed : AreClosed Q L) wh
       token = λ its shown stands count least. (shown_holds shown stands, h);
     })
 
-    unpainted_holds : (o : Outcome) → HoldsOfOutcome Q o → HoldsOfTaken Q (taken_of o)
+    unpainted_holds : (o : Outcome) → HoldsOfOutcome Q o → HoldsOfTaken Q (taken_of r.text o)
     unpainted_holds (outcome.Token token) q = q
     unpainted_holds _ q = tt
 
-    outcome_given : (did : Step) (o : Option Taken) → HoldsOfStep did → GivenBy did o → IfSome o (HoldsOfTaken Q)
+    outcome_given : (did : Step) (o : Option Taken) → HoldsOfStep did → GivenBy r.text did o → IfSome o (HoldsOfTaken Q)
     outcome_given (step.Given x) o k g = subst (λ (y : Option Taken). IfSome y (HoldsOfTaken Q)) (sym g) (unpainted_holds x k)
-    outcome_given _ o k g = unless_given o g
+    outcome_given _ o k g = unless_given r.text o g
 
     reader_after : (did : Step) (after : SourceReader) → HoldsOfStep did → HoldsOfReader after → HoldsAfter HoldsOfReader r did after
     reader_after (step.Defines named) after body k = (k, (k.0, changed_holds after.definitions named.name (Some named.definition) k.1 body))

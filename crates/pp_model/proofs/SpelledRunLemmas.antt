@@ -16,7 +16,7 @@ use Rattle.pp_lexer.specs.declared.token.Token.{Token}
 use Rattle.pp_lexer.specs.declared.token.TokenValue.{TokenValue}
 use Rattle.pp_lexer.specs.declared.token.TokenValue.TheVariants.{Ident, Version, Extension, Pragma}
 use Rattle.pp_lexer.specs.declared.rules.Rules.{Rules}
-use Rattle.pp_model.specs.Places.{in_source}
+use Rattle.pp_model.specs.Places.{in_text, source_text}
 use Rattle.pp_model.specs.Names.{is_identifier, line_name}
 use Rattle.pp_model.specs.Conversions.{is_hash}
 use Rattle.pp_model.specs.inner.Definitions.{nothing_defined}
@@ -39,7 +39,7 @@ use Rattle.pp_model.specs.declared.call.Reply.TheVariants as reply
 use Rattle.pp_model.specs.declared.outcome.Outcome.TheVariants as outcome
 use Rattle.pp_model.specs.declared.read.Taken.{Taken}
 use Rattle.pp_model.specs.declared.read.Taken.TheVariants as taken
-use Rattle.pp_model.specs.Painting.{unpainted, is_one_of, taken_among}
+use Rattle.pp_model.specs.Painting.{read_in, is_one_of, taken_among}
 use Rattle.pp_model.specs.declared.sight.Sight.{Sight}
 use Rattle.pp_model.specs.declared.sight.Sight.TheVariants as sight
 use Rattle.pp_model.specs.declared.step.Step.TheVariants as step
@@ -81,7 +81,7 @@ no_blocks items position all = ap open_blocks (no_block_lines 0 (take position i
 
 -- the reader of such a text, and the expander over it
 abbrev reader_at : Rules → List Seen → ℕ → SourceReader
-reader_at rules items position = record { rules = rules; items = items; position = position; definitions = nothing_defined; contents = 0; line_offset = pos 0; truths = []; unfinished = 0 }
+reader_at rules items position = record { rules = rules; text = source_text; items = items; position = position; definitions = nothing_defined; contents = 0; line_offset = pos 0; truths = []; unfinished = 0 }
 
 abbrev state_at : Rules → List Seen → ℕ → Expander SourceReader
 state_at rules items position = record { held = None; list = []; reader = reader_at rules items position; hidden = [] }
@@ -103,7 +103,7 @@ or_none false _ = refl
 
 module _ (A : Answers) (rules : Rules) (items : List Seen) (all : Each IsNoHash items) where
   opens_nothing : (position : ℕ) (value : TokenValue) (location : Location)
-      → opening (source_reading A) (state_at rules items position) (taken.Token (unpainted (record { value = value; location = location }))) ≡ None
+      → opening (source_reading A) (state_at rules items position) (taken.Token (read_in source_text (record { value = value; location = location }))) ≡ None
   opens_nothing position (Ident name) location = refl
   opens_nothing position _ location = refl
 
@@ -131,27 +131,27 @@ module _ (A : Answers) (rules : Rules) (items : List Seen) (all : Each IsNoHash 
   }
 
   taken_plain : (shown : ℕ → Option Integer) (value : TokenValue) (location : Location) → is_identifier line_name value ≡ false
-      → taken.Token (unpainted (record { value = value; location = location }))
-      ≡ shown_token shown [] (unpainted (record { value = value; location = location }))
+      → taken.Token (read_in source_text (record { value = value; location = location }))
+      ≡ shown_token shown [] (read_in source_text (record { value = value; location = location }))
   taken_plain shown value location e =
-      ap (λ b. if b then line_number (in_source location) (shown (unwrap_or (outermost_line []) location.line)) else taken.Token
-      (unpainted (record { value = value; location = location }))) (sym e)
+      ap (λ b. if b then line_number (in_text source_text location) (shown (unwrap_or (outermost_line []) location.line)) else taken.Token
+      (read_in source_text (record { value = value; location = location }))) (sym e)
 
   -- a token gives itself
   gives_token : (position : ℕ) (value : TokenValue) (location : Location)
       → sight_of (drop position items) ≡ sight.Token (record { value = value; location = location }) → is_identifier line_name value ≡ false
-      → Emits (source_reading A) A (state_at rules items position) (taken.Token (unpainted (record { value = value; location = location })))
+      → Emits (source_reading A) A (state_at rules items position) (taken.Token (read_in source_text (record { value = value; location = location })))
       (state_at rules items (position + 1))
   gives_token position value location e plain =
       let token : Token = record { value = value; location = location } in
       let a = act_there position (sight.Token token) e in
       let r = reader_at rules items position in
-      let s : Steps A r (Some (taken.Token (unpainted token))) (reader_at rules items (position + 1)) =
-      act_does A (step.Given (outcome.Token token)) (reader_at rules items (position + 1)) r (Some (taken.Token (unpainted token))) (reader_at rules items (position + 1)) a
+      let s : Steps A r (Some (taken.Token (read_in source_text token))) (reader_at rules items (position + 1)) =
+      act_does A (step.Given (outcome.Token token)) (reader_at rules items (position + 1)) r (Some (taken.Token (read_in source_text token))) (reader_at rules items (position + 1)) a
       (refl, refl) in
-      itself (taken.Token (unpainted token)) (taken.Token (unpainted token)) (state_at rules items position) (state_at rules items (position + 1))
-      (taken_there position (taken.Token (unpainted token)) (taken.Token (unpainted token)) (position + 1)
-      (here (taken.Token (unpainted token)) r (reader_at rules items (position + 1)) s)
+      itself (taken.Token (read_in source_text token)) (taken.Token (read_in source_text token)) (state_at rules items position) (state_at rules items (position + 1))
+      (taken_there position (taken.Token (read_in source_text token)) (taken.Token (read_in source_text token)) (position + 1)
+      (here (taken.Token (read_in source_text token)) r (reader_at rules items (position + 1)) s)
       (taken_plain (text_number rules (reader_at rules items (position + 1)).line_offset) value location plain))
       (opens_nothing (position + 1) value location) refl
 
@@ -245,7 +245,7 @@ module _ (A : Answers) (rules : Rules) (items : List Seen) (all : Each IsNoHash 
         same = ap (λ later. value ∷ later) g.same;
         run = given (outcome.Token token) (state_at rules items position) (state_at rules items (position + 1)) (calls_for g.tokens) (replies_with g.tokens)
             (replies_with (token ∷ g.tokens))
-            (record { taken = taken.Token (unpainted token); emits = gives_token position value location e plain; is = refl }) refl g.run refl;
+            (record { taken = taken.Token (read_in source_text token); emits = gives_token position value location e plain; is = refl }) refl g.run refl;
       }
 
   -- such a text gives its values from each position on

@@ -2,7 +2,7 @@
 use Rattle.std.proofs.Common.{◌≡◌, ◌∷◌, ◌++◌, [], List, refl, ap, append_assoc}
 use Rattle.std.specs.Prelude.{if◌then◌else◌, Option, Some, Result, Ok, Err, Bool, true, false}
 use Rattle.std.proofs.lemmas.List.{append-nil}
-use Rattle.pp_lexer.specs.declared.token.Location.{Location}
+use Rattle.pp_model.specs.declared.place.Place.{Place}
 use Rattle.pp_model.specs.Places.{PlacedFault, fault_in}
 use Rattle.pp_model.specs.ItemCall.{item_call}
 use Rattle.pp_model.specs.Reading.{Expander, Listed, line_reading}
@@ -30,7 +30,7 @@ pub after_words-end : (words : List Word) (ending : Option PlacedFault)
 after_words-end words ending = ap (λ (ws : List Word). let r : Words = record { words = ws; ending = ending } in r) (append-nil words)
 
 -- the answer after a `)`, and the fault of what is none
-module _ (kind : LineKind) (directive : Location) (A : Answers) (n : Name) (found : Taken) (e f : Expander Listed) (emits : Emits line_reading A e found f)
+module _ (kind : LineKind) (directive : Place) (A : Answers) (n : Name) (found : Taken) (e f : Expander Listed) (emits : Emits line_reading A e found f)
   where
     closes_by : (b : Bool) → is_close_paren found ≡ b → Closes kind directive A n e
         (if b then Ok (is_defined f n) else Err (fault_in (item_call emits) (unwanted_closing kind directive found))) f
@@ -44,6 +44,6 @@ module _ (kind : LineKind) (directive : Location) (A : Answers) (n : Name) (foun
     does_not_close fault still is = rw is (closes_by false still)
 
 -- an operand in parentheses whose name was taken
-pub closes_named : (kind : LineKind) (directive : Location) (A : Answers) (n : Name) (o : Taken) (e f g : Expander Listed) (r : Result Bool PlacedFault)
+pub closes_named : (kind : LineKind) (directive : Place) (A : Answers) (n : Name) (o : Taken) (e f g : Expander Listed) (r : Result Bool PlacedFault)
     → Takes line_reading e o f → name_in o ≡ Some n → Closes kind directive A n f r g → InParentheses kind directive A e r g
 closes_named kind directive A n o e f g r takes is closed = named kind directive A o closed.found n e f g r takes is closed.emits closed.answer

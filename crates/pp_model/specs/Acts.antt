@@ -9,6 +9,7 @@ use Rattle.pp_model.specs.Blocks.{has_else}
 use Rattle.pp_model.specs.SourceReader.{SourceReader, has_live_text_before, is_first_directive}
 use Rattle.pp_model.specs.Moves.{BlockFacts, Effect, gives, gives_item, fails, ends, passes, defines, undefines, tests}
 use Rattle.pp_model.specs.Moves.{decides, renumbers, Move, move_at}
+use Rattle.pp_model.specs.declared.definition.Named.{Named}
 use Rattle.pp_model.specs.declared.outcome.Outcome.{Outcome}
 use Rattle.pp_model.specs.declared.outcome.Outcome.TheVariants as outcome
 use Rattle.pp_model.specs.declared.step.Step.{Step}
@@ -43,6 +44,10 @@ end_by None reader = outcome_at outcome.End reader
 abbrev pub end_at : SourceReader → Acted
 end_at reader = end_by (innermost (take reader.unfinished (blocks_at reader.items (length reader.items)))) reader
 
+-- what a line of this text defines
+abbrev pub defined_in : ℕ → Named → Named
+defined_in text named = record named { definition = record named.definition { text = text } }
+
 -- what an effect does to the reader `r`, if `after` is that reader after the items that are taken
 abbrev pub effect_on : Effect → SourceReader → SourceReader → Acted
 effect_on (gives token) r after = outcome_at (outcome.Token token) after
@@ -53,7 +58,7 @@ effect_on (gives_item value word) r after =
 effect_on (fails fault) r after = outcome_at (outcome.Fault fault) r
 effect_on ends r after = end_at r
 effect_on passes r after = pause_at after
-effect_on (defines named) r after = record { step = step.Defines named; after = after }
+effect_on (defines named) r after = record { step = step.Defines (defined_in r.text named); after = after }
 effect_on (undefines name) r after = pause_at (record after { definitions = with_change r.definitions name None })
 effect_on (tests holds name) r after = pause_at (decided r.position (holds (is_some (r.definitions name))) after)
 effect_on (decides word tokens) r after = record { step = step.Condition word tokens; after = after }

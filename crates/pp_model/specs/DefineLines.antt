@@ -58,7 +58,7 @@ abbrev pub has_parameters : List Seen → Bool
 has_parameters [] = false
 has_parameters (s ∷ rest) = is_attached_paren s.item
 
--- the definition on the line after the name, or its first fault
+-- the definition on the line after the name, as that of a line of the source, or its first fault
 abbrev pub definition_at : Location → List Seen → Result Definition Fault
 definition_at word rest =
     if has_parameters rest

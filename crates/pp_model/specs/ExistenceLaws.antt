@@ -2,10 +2,9 @@
 -- as in each state of a run. With endless names, each defined as the next one, macros would open for ever.
 use Rattle.std.specs.Prelude.{◌≡◌, ℕ, Bool, true, false, List, [], ◌∷◌, Option, Some, Result}
 use Rattle.pp_lexer.specs.Lexed.{Seen}
-use Rattle.pp_lexer.specs.declared.token.Location.{Location}
+use Rattle.pp_model.specs.declared.place.Place.{Place}
 use Rattle.pp_lexer.specs.declared.token.Token.{Token}
 use Rattle.pp_lexer.specs.declared.rules.Rules.{Rules}
-use Rattle.pp_model.specs.declared.place.Place.{Place}
 use Rattle.pp_model.specs.Places.{PlacedFault}
 use Rattle.pp_model.specs.Names.{Name, is_in}
 use Rattle.pp_model.specs.Definitions.{Definition, Definitions}
@@ -77,25 +76,25 @@ AList I A = (e : Expander Listed) → IsFinite e.reader.visible → (x : Result 
 
 -- The operand of a `defined` has an answer, or a fault.
 abbrev pub AnOperand : Answers → Type 0
-AnOperand A = (kind : LineKind) (directive : Location) (e : Expander Listed) → IsFinite e.reader.visible
+AnOperand A = (kind : LineKind) (directive : Place) (e : Expander Listed) → IsFinite e.reader.visible
     → (x : Result Bool PlacedFault) × (f : Expander Listed) × Operand kind directive A e x f
 
 -- The line of an `#if`, `#elif` or `#line` has a list of words, with an ending.
 abbrev pub ALine : Answers → Type 0
-ALine A = (kind : LineKind) (directive : Location) (e : Expander Listed) → IsFinite e.reader.visible
+ALine A = (kind : LineKind) (directive : Place) (e : Expander Listed) → IsFinite e.reader.visible
     → (words : Words) × LineWords kind directive A e words
 
 -- The condition of an `#if` or `#elif` holds or not, or has a fault.
 abbrev pub ACondition : Answers → Type 0
 ACondition A =
-    (directive : Location) (tokens : List Token) (numbering : Numbering) (definitions : Definitions)
+    (directive : Place) (tokens : List Token) (numbering : Numbering) (definitions : Definitions)
     → IsFinite definitions
     → (x : Result Bool PlacedFault) × IsCondition A directive tokens numbering definitions x
 
 -- A `#line` gives a number, or a fault.
 abbrev pub ALineNumber : Answers → Type 0
 ALineNumber A =
-    (directive : Location) (tokens : List Token) (numbering : Numbering) (definitions : Definitions)
+    (directive : Place) (tokens : List Token) (numbering : Numbering) (definitions : Definitions)
     → IsFinite definitions
     → (x : Result ℕ PlacedFault) × IsLineNumber A directive tokens numbering definitions x
 

@@ -1,6 +1,5 @@
 -- Laws of expansion: each step of it has at most one outcome, and leaves one state.
 use Rattle.std.specs.Prelude.{◌≡◌, ℕ, List, Bool, Result}
-use Rattle.pp_lexer.specs.declared.token.Location.{Location}
 use Rattle.pp_model.specs.declared.place.Place.{Place}
 use Rattle.pp_model.specs.Places.{PlacedFault}
 use Rattle.pp_model.specs.Names.{Name}
@@ -79,7 +78,7 @@ OneEach deeper =
 -- The operand of a `defined` has at most one answer, or one fault.
 abbrev pub OneOperand : Answers → Type 0
 OneOperand A =
-    (kind : LineKind) (directive : Location) (x y : Result Bool PlacedFault) (e f g : Expander Listed)
+    (kind : LineKind) (directive : Place) (x y : Result Bool PlacedFault) (e f g : Expander Listed)
     → Operand kind directive A e x f
     → Operand kind directive A e y g
     → (x ≡ y) × (f ≡ g)
@@ -87,7 +86,7 @@ OneOperand A =
 -- A line has at most one list of words, with one ending.
 abbrev pub OneLine : Answers → Type 0
 OneLine A =
-    (kind : LineKind) (directive : Location) (x y : Words) (e : Expander Listed)
+    (kind : LineKind) (directive : Place) (x y : Words) (e : Expander Listed)
     → LineWords kind directive A e x
     → LineWords kind directive A e y
     → x ≡ y

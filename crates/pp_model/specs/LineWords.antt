@@ -1,11 +1,11 @@
 -- The words of an `#if`, `#elif` or `#line` line (GLSL ES 3.20, section 3.4, and docs/RULES.md, Expressions 1 to 3).
 use Rattle.std.specs.Prelude.{◌≡◌, pos, Bool, true, false, if◌then◌else◌, List, [], ◌∷◌, Option, Some, None, is_some}
 use Rattle.std.specs.Prelude.{MatchOption, Result, Ok, Err}
-use Rattle.pp_lexer.specs.declared.token.Location.{Location}
+use Rattle.pp_model.specs.declared.place.Place.{Place}
 use Rattle.pp_lexer.specs.declared.token.PreprocessorError.TheVariants.{UnexpectedToken, UnexpectedEndOfInput}
 use Rattle.pp_lexer.specs.declared.token.TokenValue.{TokenValue}
 use Rattle.pp_lexer.specs.declared.token.TokenValue.TheVariants.{Ident, Integer}
-use Rattle.pp_model.specs.Places.{PlacedFault, in_source, place_of, place_in, fault_in}
+use Rattle.pp_model.specs.Places.{PlacedFault, place_of, place_in, fault_in}
 use Rattle.pp_model.specs.Names.{Name, is_same_name, defined_name}
 use Rattle.pp_model.specs.SpliceList.{outermost_call}
 use Rattle.pp_model.specs.Reading.{Expander, Listed, line_reading}
@@ -46,10 +46,10 @@ abbrev pub reading : LineKind → Read → WordReading
 reading kind read = reading_of_value kind read read.token.value
 
 -- the fault of what was taken in place of a part of `defined`; that of the end is at the directive's word
-abbrev pub unwanted_part : Location → Taken → PlacedFault
+abbrev pub unwanted_part : Place → Taken → PlacedFault
 unwanted_part directive (taken.Token read) = unexpected read
 unwanted_part directive (taken.Fault f) = f
-unwanted_part directive taken.End = (UnexpectedEndOfInput, in_source directive)
+unwanted_part directive taken.End = (UnexpectedEndOfInput, directive)
 
 -- the same of a token of the expanded line
 abbrev pub unwanted_reading : Read → WordReading → PlacedFault
@@ -57,7 +57,7 @@ unwanted_reading read operator = unexpected read
 unwanted_reading read (word w) = unexpected w
 unwanted_reading read (fault f) = f
 
-abbrev pub unwanted_closing : LineKind → Location → Taken → PlacedFault
+abbrev pub unwanted_closing : LineKind → Place → Taken → PlacedFault
 unwanted_closing kind directive (taken.Token read) = unwanted_reading read (reading kind read)
 unwanted_closing kind directive o = unwanted_part directive o
 
@@ -79,19 +79,19 @@ abbrev pub is_defined : Expander Listed → Name → Bool
 is_defined e name = is_some (e.reader.visible name)
 
 -- the answer, if a `)` was read, and otherwise the fault of what was read in this call
-abbrev pub closed_by : LineKind → Location → Bool → Option CallPlace → Taken → Result Bool PlacedFault
+abbrev pub closed_by : LineKind → Place → Bool → Option CallPlace → Taken → Result Bool PlacedFault
 closed_by kind directive answer call o =
     if has_value is_right_paren o then Ok answer else Err (fault_in call (unwanted_closing kind directive o))
 
 -- no part of `defined` was taken: what was taken in its place has a fault, in the call that is open among the line's
 -- entries then, and nothing else is taken
-abbrev pub IsUnwanted : Location → Taken → Expander Listed → Result Bool PlacedFault → Expander Listed
+abbrev pub IsUnwanted : Place → Taken → Expander Listed → Result Bool PlacedFault → Expander Listed
     → Type 0
 IsUnwanted directive o f r g = (r ≡ Err (fault_in (outermost_call f.list) (unwanted_part directive o))) × (g ≡ f)
 
 -- what the operand of a `defined` gives after its `(`: the name is taken and not looked up, and the `)` is read with
 -- expansion
-abbrev pub InParentheses : LineKind → Location → Answers
+abbrev pub InParentheses : LineKind → Place → Answers
     → Expander Listed → Result Bool PlacedFault → Expander Listed → Type 0
 InParentheses kind directive A e r g =
     (o : Taken) × (f : Expander Listed) × Takes line_reading e o f
@@ -101,7 +101,7 @@ InParentheses kind directive A e r g =
 
 -- what the operand of a `defined` gives: it is a name, alone or in parentheses. The name or the `(` is taken and not
 -- looked up.
-abbrev pub Operand : LineKind → Location → Answers
+abbrev pub Operand : LineKind → Place → Answers
     → Expander Listed → Result Bool PlacedFault → Expander Listed → Type 0
 Operand kind directive A e r g =
     (o : Taken) × (f : Expander Listed) × Takes line_reading e o f
@@ -123,7 +123,7 @@ abbrev pub word_of : Option CallPlace → Read → Word
 word_of call read = Plain read.token.value (place_in call (place_of read))
 
 -- The words of the rest of a line, after expansion. After a `defined` whose operand has a fault nothing is read.
-pub data LineWords (kind : LineKind) (directive : Location) (A : Answers) : Expander Listed → Words → Type 0 where
+pub data LineWords (kind : LineKind) (directive : Place) (A : Answers) : Expander Listed → Words → Type 0 where
   ended : (e f : Expander Listed) (ws : Words)
       → Emits line_reading A e taken.End f
       → ws ≡ record { words = []; ending = None }

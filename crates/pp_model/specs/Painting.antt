@@ -4,7 +4,7 @@ use Rattle.std.specs.Prelude.{ℕ, Bool, false, ◌||◌, List}
 use Rattle.pp_lexer.specs.declared.token.Token.{Token}
 use Rattle.pp_lexer.specs.declared.token.TokenValue.{TokenValue}
 use Rattle.pp_lexer.specs.declared.token.TokenValue.TheVariants.{Ident}
-use Rattle.pp_model.specs.Places.{placed, unplaced, source_text}
+use Rattle.pp_model.specs.Places.{placed, unplaced}
 use Rattle.pp_model.specs.Names.{Name, is_in}
 use Rattle.pp_model.specs.declared.outcome.Outcome.{Outcome}
 use Rattle.pp_model.specs.declared.outcome.Outcome.TheVariants as outcome
@@ -15,10 +15,6 @@ use Rattle.pp_model.specs.declared.read.Taken.TheVariants as taken
 -- a token as it begins, in the text with this number
 abbrev pub read_in : ℕ → Token → Read
 read_in text token = record { token = token; text = text; painted = false }
-
--- a token of the source, or of a directive's line, as it begins
-abbrev pub unpainted : Token → Read
-unpainted token = read_in source_text token
 
 -- the value is an identifier among these names
 abbrev pub is_one_of : List Name → TokenValue → Bool
@@ -34,11 +30,11 @@ taken_among names (taken.Token read) = taken.Token (painted_among names read)
 taken_among names (taken.Fault fault) = taken.Fault fault
 taken_among names taken.End = taken.End
 
--- what the source gives, unpainted
-abbrev pub taken_of : Outcome → Taken
-taken_of (outcome.Token token) = taken.Token (unpainted token)
-taken_of (outcome.Fault fault) = taken.Fault (placed fault)
-taken_of outcome.End = taken.End
+-- what this text gives, unpainted
+abbrev pub taken_of : ℕ → Outcome → Taken
+taken_of text (outcome.Token token) = taken.Token (read_in text token)
+taken_of text (outcome.Fault fault) = taken.Fault (placed text fault)
+taken_of text outcome.End = taken.End
 
 -- an item, without its paint and its text
 abbrev pub item_of : Taken → Outcome

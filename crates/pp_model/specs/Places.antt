@@ -10,13 +10,13 @@ use Rattle.pp_model.specs.declared.splice.CallPlace.{CallPlace}
 abbrev pub source_text : ℕ
 source_text = 0
 
--- a place of the source
-abbrev pub in_source : Location → Place
-in_source location = record { location = location; text = source_text; call = None }
+-- a place of the text with this number
+abbrev pub in_text : ℕ → Location → Place
+in_text text location = record { location = location; text = text; call = None }
 
 -- the place of a token that is read
 abbrev pub place_of : Read → Place
-place_of read = record { location = read.token.location; text = read.text; call = None }
+place_of read = in_text read.text read.token.location
 
 -- the place, in this call if there is one
 abbrev pub place_in : Option CallPlace → Place → Place
@@ -35,9 +35,9 @@ PlacedFault = PreprocessorError × Place
 abbrev pub fault_in : Option CallPlace → PlacedFault → PlacedFault
 fault_in call fault = (fault.0, place_in call fault.1)
 
--- an error of the source
-abbrev pub placed : Fault → PlacedFault
-placed fault = (fault.0, in_source fault.1)
+-- an error of this text
+abbrev pub placed : ℕ → Fault → PlacedFault
+placed text fault = (fault.0, in_text text fault.1)
 
 -- the error without the text and the call
 abbrev pub unplaced : PlacedFault → Fault

@@ -4,7 +4,7 @@ use Rattle.std.specs.Prelude.{◌≡◌, ◌⊎◌, ℕ, ◌+◌, pos, ◌-ℤ�
 use Rattle.std.specs.Prelude.{Result, Ok, Err}
 use Rattle.pp_lexer.specs.declared.rules.Rules.{Rules}
 use Rattle.pp_lexer.specs.declared.token.PreprocessorError.TheVariants.{DefineRedefined}
-use Rattle.pp_model.specs.Places.{PlacedFault, placed}
+use Rattle.pp_model.specs.Places.{PlacedFault, in_text, placed}
 use Rattle.pp_model.specs.Definitions.{Definition, with_change, IsSameDefinition}
 use Rattle.pp_model.specs.Painting.{taken_of}
 use Rattle.pp_model.specs.Reading.{Reading}
@@ -24,15 +24,15 @@ abbrev pub numbered_line : Rules → ℕ → ℕ
 numbered_line rules line = if rules.numbers_next_line then line + 1 else line
 
 -- A `#define` of a name that had this definition, if it had one: a new name is defined. The same definition again gives
--- nothing, another one is a fault, and both leave the old one.
-abbrev pub Defines : Named → Option Definition → SourceReader → Option Taken → SourceReader → Type 0
-Defines named None after o t =
+-- nothing, another one is a fault of this text, and both leave the old one.
+abbrev pub Defines : ℕ → Named → Option Definition → SourceReader → Option Taken → SourceReader → Type 0
+Defines text named None after o t =
     (o ≡ None) × (t ≡ record after { definitions = with_change after.definitions named.name (Some named.definition) })
-Defines named (Some old) after o t =
+Defines text named (Some old) after o t =
     (t ≡ after)
     × ((IsSameDefinition old named.definition × (o ≡ None))
     ⊎ ((IsSameDefinition old named.definition → ⊥)
-    × (o ≡ Some (taken.Fault (placed (DefineRedefined, named.location))))))
+    × (o ≡ Some (taken.Fault (placed text (DefineRedefined, named.location))))))
 
 -- A line of this value gives nothing, and `next` says which reader comes after it. A fault is given, and the reader `r`
 -- stays as it is.
@@ -45,15 +45,15 @@ Evaluated (Err fault) next r o t = (o ≡ Some (taken.Fault fault)) × (t ≡ r)
 -- takes. `A` says what calls in `#if`, `#elif` and `#line` lines give.
 abbrev pub Does : Answers → SourceReader → Step → SourceReader → Option Taken → SourceReader → Type 0
 Does A r step.Passed after o t = (o ≡ None) × (t ≡ after)
-Does A r (step.Given x) after o t = (o ≡ Some (taken_of x)) × (t ≡ after)
-Does A r (step.Defines named) after o t = Defines named (r.definitions named.name) after o t
+Does A r (step.Given x) after o t = (o ≡ Some (taken_of r.text x)) × (t ≡ after)
+Does A r (step.Defines named) after o t = Defines r.text named (r.definitions named.name) after o t
 Does A r (step.Condition word tokens) after o t =
     (condition : Result Bool PlacedFault)
-    × IsCondition A word tokens (list_numbering r.rules r.line_offset) r.definitions condition
+    × IsCondition A (in_text r.text word) tokens (list_numbering r.rules r.line_offset) r.definitions condition
     × Evaluated condition (λ holds. decided r.position holds after) r o t
 Does A r (step.LineNumber word tokens) after o t =
     (number : Result ℕ PlacedFault)
-    × IsLineNumber A word tokens (list_numbering r.rules r.line_offset) r.definitions number
+    × IsLineNumber A (in_text r.text word) tokens (list_numbering r.rules r.line_offset) r.definitions number
     × Evaluated number (λ n. record after { line_offset = pos n -ℤ pos (numbered_line r.rules word.line) }) r o t
 
 -- One token or line of the source: it gives something, or nothing.

@@ -4,7 +4,7 @@ use Rattle.pp_expression.specs.declared.symbol.Value.{Value}
 use Rattle.pp_expression.specs.declared.symbol.Found.{Found}
 use Rattle.pp_expression.specs.Lines.{Line}
 use Rattle.pp_expression.specs.FirstFault.{Evaluates}
-use Rattle.pp_lexer.specs.declared.token.Location.{Location}
+use Rattle.pp_model.specs.declared.place.Place.{Place}
 use Rattle.pp_lexer.specs.declared.token.PreprocessorError.TheVariants.{DefineRedefined}
 use Rattle.pp_lexer.specs.declared.token.Token.{Token}
 use Rattle.pp_lexer.specs.declared.rules.Rules.{Rules}
@@ -32,7 +32,7 @@ OneEvaluation = (line : Line) (x y : Result Value Found) → Evaluates line x �
 -- The condition of an `#if` or `#elif` has at most one outcome: it holds, it doesn't, or it has a fault.
 abbrev pub OneCondition : Answers → Type 0
 OneCondition A =
-    (directive : Location) (tokens : List Token) (numbering : Numbering) (definitions : Definitions)
+    (directive : Place) (tokens : List Token) (numbering : Numbering) (definitions : Definitions)
     (x y : Result Bool PlacedFault)
     → IsCondition A directive tokens numbering definitions x
     → IsCondition A directive tokens numbering definitions y
@@ -41,7 +41,7 @@ OneCondition A =
 -- The words of a `#line` give at most one number or fault.
 abbrev pub OneNumber : Type 0
 OneNumber =
-    (directive : Location) (words : Words) (x y : Result ℕ PlacedFault)
+    (directive : Place) (words : Words) (x y : Result ℕ PlacedFault)
     → Numbers directive words x
     → Numbers directive words y
     → x ≡ y
@@ -49,7 +49,7 @@ OneNumber =
 -- A `#line` gives at most one number or fault.
 abbrev pub OneLineNumber : Answers → Type 0
 OneLineNumber A =
-    (directive : Location) (tokens : List Token) (numbering : Numbering) (definitions : Definitions)
+    (directive : Place) (tokens : List Token) (numbering : Numbering) (definitions : Definitions)
     (x y : Result ℕ PlacedFault)
     → IsLineNumber A directive tokens numbering definitions x
     → IsLineNumber A directive tokens numbering definitions y
@@ -85,7 +85,7 @@ pub record Redefined (named : Named) (old : Definition) (r : SourceReader) (o : 
     (t : SourceReader) : Type 0 where
   pub repeated : IsSameDefinition old named.definition → o ≡ None
   pub refused : (IsSameDefinition old named.definition → ⊥)
-      → o ≡ Some (taken.Fault (placed (DefineRedefined, named.location)))
+      → o ≡ Some (taken.Fault (placed r.text (DefineRedefined, named.location)))
   pub same_definitions : t.definitions ≡ r.definitions
 
 -- A `#define` of a name that is defined is compared with the old definition.

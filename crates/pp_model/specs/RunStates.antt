@@ -4,8 +4,7 @@ use Rattle.std.specs.Prelude.{◌≡◌, Bool, true, false, List, ◌∷◌, ◌
 use Rattle.pp_lexer.specs.Lexed.{Seen}
 use Rattle.pp_lexer.specs.declared.token.Token.{Token}
 use Rattle.pp_lexer.specs.declared.rules.Rules.{Rules}
-use Rattle.pp_model.specs.Names.{Name}
-use Rattle.pp_model.specs.Painting.{taken_of}
+use Rattle.pp_model.specs.Names.{Name, is_identifier, line_name}
 use Rattle.pp_model.specs.Reading.{Expander}
 use Rattle.pp_model.specs.Calls.{Answers}
 use Rattle.pp_model.specs.Emitting.{Emits}
@@ -13,7 +12,6 @@ use Rattle.pp_model.specs.SourceReader.{SourceReader}
 use Rattle.pp_model.specs.Reads.{source_reading}
 use Rattle.pp_model.specs.Run.{by_rules, Call, start_by, with_added, Runs}
 use Rattle.pp_model.specs.ApartMarks.{HasApartMarks}
-use Rattle.pp_model.specs.NoLineName.{is_line_name}
 use Rattle.pp_model.specs.declared.call.Reply.{Reply}
 use Rattle.pp_model.specs.declared.call.Reply.TheVariants as reply
 use Rattle.pp_model.specs.declared.outcome.Outcome.TheVariants as outcome
@@ -45,9 +43,8 @@ RunKeepsMarksApart A =
 
 -- whether the reply is the identifier `__LINE__`
 abbrev pub gives_line_name : Reply → Bool
-gives_line_name (reply.Given o) = is_line_name (taken_of o)
-gives_line_name (reply.Refused fault) = false
-gives_line_name reply.Added = false
+gives_line_name (reply.Given (outcome.Token token)) = is_identifier line_name token.value
+gives_line_name _ = false
 
 -- No reply of a run is the identifier `__LINE__`.
 abbrev pub RunShowsNoLineName : Answers → Type 0

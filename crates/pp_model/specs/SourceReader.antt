@@ -4,16 +4,18 @@ use Rattle.std.specs.Prelude.{reverse, None}
 use Rattle.std.specs.List.{list_any, take_while}
 use Rattle.pp_lexer.specs.declared.rules.Rules.{Rules}
 use Rattle.pp_lexer.specs.Lexed.{Seen}
+use Rattle.pp_model.specs.Places.{source_text}
 use Rattle.pp_model.specs.Definitions.{Definitions}
 use Rattle.pp_model.specs.Lines.{ends_line}
 use Rattle.pp_model.specs.Sights.{sight_of, is_directive, is_text, is_directive_hash}
 use Rattle.pp_model.specs.Blocks.{Truths, blocks_at, is_live}
 
--- The rules by which it reads, the source's items and the position among them, what is defined, how many contents were
--- added, what `#line` adds to a line, the conditions that were read, and how many blocks that stay open at the end are
--- still to be reported.
+-- The rules by which it reads, the number of the text, its items and the position among them, what is defined, how many
+-- contents were added, what `#line` adds to a line, the conditions that were read, and how many blocks that stay open
+-- at the end are still to be reported.
 pub record SourceReader : Type 0 where
   pub rules : Rules
+  pub text : ℕ
   pub items : List Seen
   pub position : ℕ
   pub definitions : Definitions
@@ -25,6 +27,7 @@ pub record SourceReader : Type 0 where
 abbrev pub reader_at_start : Rules → List Seen → SourceReader
 reader_at_start rules source = record {
   rules = rules;
+  text = source_text;
   items = source;
   position = 0;
   definitions = λ name. None;

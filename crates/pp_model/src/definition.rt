@@ -1,5 +1,8 @@
 //! Macros.
 
+ghost use Rattle.std.specs.Prelude.{◌≡◌};
+ghost use Rattle.pp_model.specs.Acts.{defined_in};
+
 use pp_lexer::token::{Location, Text, Token};
 use std::marker::Model;
 
@@ -63,4 +66,14 @@ pub struct Named {
     pub location: Location,
     /// The definition.
     pub definition: Definition,
+}
+
+impl Named {
+    /// Returns what the line defines if it is a line of this text.
+    pub fn in_text(mut self, text: u32) -> Named
+        ensures { result ≡ defined_in text self }
+    {
+        self.definition.text = text;
+        self
+    }
 }

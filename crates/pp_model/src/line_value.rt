@@ -12,7 +12,7 @@ use crate::place::{Place, PlacedFault};
 use crate::word::{Word, Words};
 use pp_expression::evaluator::evaluate;
 use pp_expression::symbol::{ExpressionFault, Found, Symbol, Value};
-use pp_lexer::token::{Location, PreprocessorError, Text, TokenValue};
+use pp_lexer::token::{PreprocessorError, Text, TokenValue};
 use std::alloc::{AllocError, Global};
 
 // What a word is in the grammar of expressions.
@@ -77,21 +77,14 @@ pub fn unwanted_word(alloc: Global, word: &Word) -> Result<PlacedFault, AllocErr
 }
 
 /// Returns the fault of a line that ends too early, which is at the directive's word.
-pub fn ended_early(directive: Location) -> PlacedFault
+pub fn ended_early(directive: Place) -> PlacedFault
     ensures { result ≡ ended_early directive }
 {
-    (
-        PreprocessorError::UnexpectedEndOfInput,
-        Place::in_source(directive),
-    )
+    (PreprocessorError::UnexpectedEndOfInput, directive)
 }
 
 // The fault of the operand of a `defined`, or for any other word that of a line that ends too early.
-fn fault_of_operand(
-    alloc: Global,
-    directive: Location,
-    word: &Word,
-) -> Result<PlacedFault, AllocError>
+fn fault_of_operand(alloc: Global, directive: Place, word: &Word) -> Result<PlacedFault, AllocError>
     ensures { IfOk result (λ fault. fault ≡ fault_of_operand (ended_early directive) word.now) }
 {
     match word {
@@ -103,17 +96,16 @@ fn fault_of_operand(
 // The first fault of an expression, with its place.
 fn reported_fault(
     alloc: Global,
-    directive: Location,
+    directive: Place,
     words: &Words,
     found: Found,
 ) -> Result<PlacedFault, AllocError>
     ensures { IfOk result (λ fault. fault ≡ reported_fault directive words.now found) }
 {
-    let place = Place::in_source(directive);
     match found.kind {
-        ExpressionFault::IntegerOverflow => Ok((PreprocessorError::IntegerOverflow, place)),
-        ExpressionFault::DivisionByZero => Ok((PreprocessorError::DivisionByZero, place)),
-        ExpressionFault::RemainderByZero => Ok((PreprocessorError::RemainderByZero, place)),
+        ExpressionFault::IntegerOverflow => Ok((PreprocessorError::IntegerOverflow, directive)),
+        ExpressionFault::DivisionByZero => Ok((PreprocessorError::DivisionByZero, directive)),
+        ExpressionFault::RemainderByZero => Ok((PreprocessorError::RemainderByZero, directive)),
         ExpressionFault::UnexpectedEndOfInput => Ok(ended_early(directive)),
         ExpressionFault::Unexpected => match word_from_end(words, found.left) {
             Some(word) => unwanted_word(alloc, word),
@@ -157,7 +149,7 @@ impl Words {
     pub fn take_expression(
         &mut self,
         alloc: Global,
-        directive: Location,
+        directive: Place,
     ) -> Result<Result<i64, PlacedFault>, AllocError>
         ensures takes { IfOk result (λ taken. TakesExpression directive self.old taken self.new) }
         ensures keeps { IfOk result (λ taken. OnErr taken (self.new ≡ self.old)) }

@@ -1,7 +1,7 @@
 //! Places in texts, and errors with their places.
 
 ghost use Rattle.std.specs.Prelude.{◌≡◌};
-ghost use Rattle.pp_model.specs.Places.{fault_in, in_source, place_in, placed, unplaced};
+ghost use Rattle.pp_model.specs.Places.{fault_in, in_text, place_in, placed, unplaced};
 
 use crate::outcome::Fault;
 use crate::splice::CallPlace;
@@ -23,13 +23,13 @@ pub struct Place {
 }
 
 impl Place {
-    /// Returns a place of the source.
-    pub fn in_source(location: Location) -> Place
-        ensures { result ≡ in_source location }
+    /// Returns a place of this text.
+    pub fn in_text(text: u32, location: Location) -> Place
+        ensures { result ≡ in_text text location }
     {
         Place {
             location,
-            text: SOURCE_TEXT,
+            text,
             call: None,
         }
     }
@@ -49,11 +49,11 @@ impl Place {
 /// An error with its place in one of the texts.
 pub type PlacedFault = (PreprocessorError, Place);
 
-/// Returns an error of the source with its text.
-pub fn placed(fault: Fault) -> PlacedFault
-    ensures { result ≡ placed fault }
+/// Returns an error of this text with its text.
+pub fn placed(text: u32, fault: Fault) -> PlacedFault
+    ensures { result ≡ placed text fault }
 {
-    (fault.0, Place::in_source(fault.1))
+    (fault.0, Place::in_text(text, fault.1))
 }
 
 /// Returns the error in this call, if there is one, in place of any call that it has.

@@ -1,11 +1,11 @@
 //! Tokens that are taken, and whether they may still open a macro.
 
 ghost use Rattle.std.specs.Prelude.{◌≡◌};
-ghost use Rattle.pp_model.specs.Painting.{unpainted, read_in, taken_of, item_of};
+ghost use Rattle.pp_model.specs.Painting.{read_in, taken_of, item_of};
 ghost use Rattle.pp_model.specs.Places.{place_of};
 
 use crate::outcome::Outcome;
-use crate::place::{Place, PlacedFault, SOURCE_TEXT, placed, unplaced};
+use crate::place::{Place, PlacedFault, placed, unplaced};
 use pp_lexer::token::Token;
 
 /// A token that is read, the text that it is in, and whether it is painted. An identifier is painted if its name is
@@ -21,14 +21,7 @@ pub struct Read {
 }
 
 impl Read {
-    /// Returns the token unpainted, as every token of a source and of a directive's line begins.
-    pub fn unpainted(token: Token) -> Read
-        ensures { result ≡ unpainted token }
-    {
-        Read::of_text(token, SOURCE_TEXT)
-    }
-
-    /// Returns a token of this text unpainted, as every token of a body begins.
+    /// Returns a token of this text unpainted, as every token of a text and of a body begins.
     pub fn of_text(token: Token, text: u32) -> Read
         ensures { result ≡ read_in text token }
     {
@@ -43,11 +36,7 @@ impl Read {
     pub fn place(&self) -> Place
         ensures { result ≡ place_of self.now }
     {
-        Place {
-            location: self.token.location,
-            text: self.text,
-            call: None,
-        }
+        Place::in_text(self.text, self.token.location)
     }
 }
 
@@ -63,13 +52,13 @@ pub enum Taken {
 }
 
 impl Taken {
-    /// Returns an outcome of reading a source, unpainted.
-    pub fn unpainted(outcome: Outcome) -> Taken
-        ensures { result ≡ taken_of outcome }
+    /// Returns an outcome of reading this text, unpainted.
+    pub fn of_text(text: u32, outcome: Outcome) -> Taken
+        ensures { result ≡ taken_of text outcome }
     {
         match outcome {
-            Outcome::Token(token) => Taken::Token(Read::unpainted(token)),
-            Outcome::Fault(fault) => Taken::Fault(placed(fault)),
+            Outcome::Token(token) => Taken::Token(Read::of_text(token, text)),
+            Outcome::Fault(fault) => Taken::Fault(placed(text, fault)),
             Outcome::End => Taken::End,
         }
     }

@@ -1,7 +1,7 @@
 -- The words of a line whose next item is a token, with the call that it comes from.
 use Rattle.std.proofs.Common.{◌≡◌, Bool, [], ◌∷◌, refl, subst}
 use Rattle.std.specs.Prelude.{Some, None, Ok, Err}
-use Rattle.pp_lexer.specs.declared.token.Location.{Location}
+use Rattle.pp_model.specs.declared.place.Place.{Place}
 use Rattle.pp_model.specs.Places.{PlacedFault, place_of, place_in, fault_in}
 use Rattle.pp_model.specs.Reading.{Expander, Listed, line_reading}
 use Rattle.pp_model.specs.Calls.{Answers}
@@ -14,7 +14,7 @@ use Rattle.pp_model.specs.declared.word.Word.TheVariants.{Defined}
 use Rattle.pp_reference.specs.inner.Seen.{EmitsFrom}
 use Rattle.pp_reference.specs.declared.emitted.Emitted.{Emitted}
 
-module _ (kind : LineKind) (directive : Location) (A : Answers) (e g : Expander Listed) (item : Emitted) (read : Read)
+module _ (kind : LineKind) (directive : Place) (A : Answers) (e g : Expander Listed) (item : Emitted) (read : Read)
     (is : item.taken ≡ taken.Token read) (from : EmitsFrom line_reading A e item g) where
   -- the token is the item
   token_from : EmitsFrom line_reading A e (record { taken = taken.Token read; call = item.call }) g

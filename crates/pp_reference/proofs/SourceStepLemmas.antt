@@ -20,7 +20,7 @@ abbrev pub comes : Step → SourceReader → Acted
 comes s after = record { step = s; after = after }
 
 pub step_defines : (A : Answers) (r after : SourceReader) (named : Named) (o : Option Taken) (t : SourceReader) → act r ≡ comes (step.Defines named) after
-    → Defines named (after.definitions named.name) after o t → Steps A r o t
+    → Defines r.text named (after.definitions named.name) after o t → Steps A r o t
 step_defines A r after named o t e by =
     let left : (act r).after.definitions ≡ r.definitions = define_leaves r named (ap (λ (a : Acted). a.step) e) in
     let same : after.definitions ≡ r.definitions = sym (ap (λ (a : Acted). a.after.definitions) e) ∙ left in

@@ -8,7 +8,7 @@ ghost use Rattle.pp_model.specs.LineValues.{IsAlone, IsCondition, IsLineNumber};
 use crate::definitions::Definitions;
 use crate::line_words::line_words;
 use crate::stop::{Budget, Stop};
-use pp_lexer::token::{Location, PreprocessorError};
+use pp_lexer::token::PreprocessorError;
 use pp_model::definition::TokenList;
 use pp_model::line_value::unwanted_word;
 use pp_model::numbering::{Numbering, as_line_number};
@@ -19,7 +19,7 @@ use std::alloc::Global;
 // The value of the words, which are one expression, or their first fault.
 fn value_alone(
     alloc: Global,
-    directive: Location,
+    directive: Place,
     words: &mut Words,
 ) -> Result<Result<i64, PlacedFault>, Stop>
     ensures { IfOk result (λ answer. IsAlone directive words.old (λ value. value) answer) }
@@ -36,7 +36,7 @@ fn value_alone(
 /// Whether the condition of an `#if` or `#elif` line holds, or its first fault.
 pub fn condition(
     alloc: Global,
-    directive: Location,
+    directive: Place,
     tokens: TokenList,
     numbering: Numbering,
     definitions: &Definitions,
@@ -67,7 +67,7 @@ pub fn condition(
 /// The line number of a `#line`, or its first fault.
 pub fn line_number(
     alloc: Global,
-    directive: Location,
+    directive: Place,
     tokens: TokenList,
     numbering: Numbering,
     definitions: &Definitions,
@@ -94,7 +94,7 @@ pub fn line_number(
         Err(fault) => return Ok(Err(fault)),
     };
     let Some(number) = as_line_number(value) else {
-        return Ok(Err((PreprocessorError::LineOverflow, Place::in_source(directive))));
+        return Ok(Err((PreprocessorError::LineOverflow, directive)));
     };
     if words.peek().is_none() {
         return Ok(Ok(number));

@@ -6,7 +6,7 @@ ghost use Rattle.pp_model.specs.Emitting.{answers_at};
 ghost use Rattle.pp_model.specs.LineWords.{LineWords, InParentheses, Operand, name_in, is_defined, unwanted_part};
 ghost use Rattle.pp_model.specs.LineWords.{unwanted_closing};
 ghost use Rattle.pp_model.specs.inner.LineWords.{is_open_paren, is_close_paren};
-ghost use Rattle.pp_model.specs.Painting.{unpainted};
+ghost use Rattle.pp_model.specs.Painting.{read_in};
 ghost use Rattle.pp_model.specs.Reading.{reading_of};
 ghost use Rattle.pp_model.specs.inner.WordsRead.{Closes};
 ghost use Rattle.pp_reference.specs.inner.Seen.{seen};
@@ -19,7 +19,7 @@ use crate::expander::Expander;
 use crate::list::outermost_call;
 use crate::reader::LineReader;
 use crate::stop::{Budget, Stop};
-use pp_lexer::token::{Location, PreprocessorError, Text, Token, TokenValue};
+use pp_lexer::token::{PreprocessorError, Text, Token, TokenValue};
 use pp_model::numbering::Numbering;
 use pp_model::parentheses::{is_left_paren, is_right_paren};
 use pp_model::place::{Place, PlacedFault, fault_in};
@@ -29,21 +29,18 @@ use pp_model::word::{LineKind, Word, WordReading, Words, reading_of, unwanted_re
 use std::alloc::{AllocError, Global};
 
 /// The fault of what was taken in place of the operand or of a parenthesis of a `defined`.
-fn unwanted_word(kind: LineKind, directive: Location, taken: Taken) -> PlacedFault
+fn unwanted_word(kind: LineKind, directive: Place, taken: Taken) -> PlacedFault
     ensures { result ≡ unwanted_closing kind directive taken }
 {
     match taken {
         Taken::Token(read) => unwanted_reading(reading_of(kind, read)),
         Taken::Fault(fault) => fault,
-        Taken::End => (
-            PreprocessorError::UnexpectedEndOfInput,
-            Place::in_source(directive),
-        ),
+        Taken::End => (PreprocessorError::UnexpectedEndOfInput, directive),
     }
 }
 
 /// The name of an identifier, or the fault of anything else that was taken in place of the name of a `defined`.
-fn name_or_fault(directive: Location, taken: Taken) -> Result<Text, PlacedFault>
+fn name_or_fault(directive: Place, taken: Taken) -> Result<Text, PlacedFault>
     ensures { MatchResult result (λ name. name_in taken ≡ Some name)
         (λ fault. (name_in taken ≡ None) × (fault ≡ unwanted_part directive taken)) }
 {
@@ -57,10 +54,7 @@ fn name_or_fault(directive: Location, taken: Taken) -> Result<Text, PlacedFault>
             }
         }
         Taken::Fault(fault) => Err(fault),
-        Taken::End => Err((
-            PreprocessorError::UnexpectedEndOfInput,
-            Place::in_source(directive),
-        )),
+        Taken::End => Err((PreprocessorError::UnexpectedEndOfInput, directive)),
     }
 }
 
@@ -94,7 +88,7 @@ fn is_defined(expander: &Expander<LineReader<'_>>, name: &Text) -> bool
 /// The value of a `defined` after its `(` and the name.
 fn closed_operand(
     kind: LineKind,
-    directive: Location,
+    directive: Place,
     expander: &mut Expander<LineReader<'_>>,
     name: &Text,
     levels: u32,
@@ -117,7 +111,7 @@ fn closed_operand(
 /// The value of a `defined` after its `(`.
 fn operand_in_parentheses(
     kind: LineKind,
-    directive: Location,
+    directive: Place,
     expander: &mut Expander<LineReader<'_>>,
     levels: u32,
     budget: &mut Budget,
@@ -137,7 +131,7 @@ fn operand_in_parentheses(
 /// The value of a `defined`, from its operand.
 fn operand(
     kind: LineKind,
-    directive: Location,
+    directive: Place,
     expander: &mut Expander<LineReader<'_>>,
     levels: u32,
     budget: &mut Budget,
@@ -161,7 +155,7 @@ fn operand(
 /// reading, if there is one.
 fn read_into(
     kind: LineKind,
-    directive: Location,
+    directive: Place,
     expander: &mut Expander<LineReader<'_>>,
     words: &mut Vec<Word>,
     levels: u32,
@@ -201,7 +195,7 @@ fn read_into(
 /// The words of the rest of a line.
 fn read_words(
     kind: LineKind,
-    directive: Location,
+    directive: Place,
     expander: &mut Expander<LineReader<'_>>,
     levels: u32,
     budget: &mut Budget,
@@ -220,13 +214,13 @@ fn read_words(
     }
 }
 
-/// The tokens of a line, unpainted.
-fn unpainted(alloc: Global, tokens: Vec<Token>) -> Result<Vec<Read>, AllocError>
-    ensures { IfOk result (λ reads. reads.items ≡ map unpainted tokens.items) }
+/// The tokens of a line of this text, unpainted.
+fn unpainted(alloc: Global, text: u32, tokens: Vec<Token>) -> Result<Vec<Read>, AllocError>
+    ensures { IfOk result (λ reads. reads.items ≡ map (read_in text) tokens.items) }
 {
     let mut reads = Vec::new(alloc);
     for token in tokens {
-        reads.push(Read::unpainted(token))?;
+        reads.push(Read::of_text(token, text))?;
     }
     Ok(reads)
 }
@@ -235,7 +229,7 @@ fn unpainted(alloc: Global, tokens: Vec<Token>) -> Result<Vec<Read>, AllocError>
 pub fn line_words(
     alloc: Global,
     kind: LineKind,
-    directive: Location,
+    directive: Place,
     tokens: Vec<Token>,
     numbering: Numbering,
     definitions: &Definitions,
@@ -243,11 +237,11 @@ pub fn line_words(
     budget: &mut Budget,
 ) -> Result<Words, Stop>
     ensures words { IfOk result (λ words. LineWords kind directive (answers_at levels)
-        (reading_of (map unpainted tokens.items) numbering (meaning_of definitions.now) []) words) }
+        (reading_of (map (read_in directive.text) tokens.items) numbering (meaning_of definitions.now) []) words) }
     ensures budget { budget.new.steps ≤ budget.old.steps }
 {
     let reader = LineReader {
-        tokens: unpainted(alloc, tokens)?,
+        tokens: unpainted(alloc, directive.text, tokens)?,
         numbering,
         definitions,
     };

@@ -26,6 +26,7 @@ use pp_lexer::token::{PreprocessorError, Text};
 use pp_model::call::{Call, Reply};
 use pp_model::definition::TokenList;
 use pp_model::outcome::Outcome;
+use pp_model::place::SOURCE_TEXT;
 use std::alloc::{AllocError, Global};
 
 // Whether the item is the error `OutOfMemory`.
@@ -101,6 +102,7 @@ fn start(alloc: Global, rules: Rules, items: &[SourceItem]) -> Result<Expander<S
     let unfinished = blocks_at(alloc, items, items.len())?.len();
     let reader = SourceReader {
         rules,
+        text: SOURCE_TEXT,
         items,
         position: 0,
         definitions: Definitions::new(alloc),

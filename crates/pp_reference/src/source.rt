@@ -18,7 +18,7 @@ use crate::stop::{Budget, Stop};
 use pp_lexer::token::{Integer, Location, PreprocessorError, Text};
 use pp_model::definition::{Named, TokenList};
 use pp_model::numbering::Numbering;
-use pp_model::place::{PlacedFault, placed};
+use pp_model::place::{Place, PlacedFault, placed};
 use pp_model::read::Taken;
 use pp_model::step::Step;
 use std::alloc::Global;
@@ -40,9 +40,9 @@ fn given_fault(fault: PlacedFault) -> Option<Taken>
 }
 
 impl<'a> Source<'a> {
-    // Defines the name, unless it has another definition already.
-    fn define(&mut self, named: Named) -> Result<Option<Taken>, Stop>
-        ensures { IfOk result (λ o. Defines named
+    // Defines the name as a line of this text says, unless it has another definition already.
+    fn define(&mut self, text: u32, named: Named) -> Result<Option<Taken>, Stop>
+        ensures { IfOk result (λ o. Defines text named
             (meaning_of self.old.reader.changes named.name) (reader_of self.old.reader) o
             (reader_of self.new.reader)) }
     {
@@ -54,10 +54,10 @@ impl<'a> Source<'a> {
                 Ok(None)
             }
             Some(old) if is_same_definition(old, &named.definition) => Ok(None),
-            Some(_) => Ok(given_fault(placed((
-                PreprocessorError::DefineRedefined,
-                named.location,
-            )))),
+            Some(_) => Ok(given_fault(placed(
+                text,
+                (PreprocessorError::DefineRedefined, named.location),
+            ))),
         }
     }
 
@@ -73,11 +73,12 @@ impl<'a> Source<'a> {
             (reader_of self.old.reader) o (reader_of self.new.reader)) }
         ensures budget { budget.new.steps ≤ budget.old.steps }
     {
+        let place = Place::in_text(self.reader.text(), word);
         let numbering = self.reader.list_numbering();
         let definitions = &self.reader.definitions;
         match condition(
             self.alloc,
-            word,
+            place,
             tokens,
             numbering,
             definitions,
@@ -105,11 +106,12 @@ impl<'a> Source<'a> {
             (reader_of self.old.reader) o (reader_of self.new.reader)) }
         ensures budget { budget.new.steps ≤ budget.old.steps }
     {
+        let place = Place::in_text(self.reader.text(), word);
         let numbering = self.reader.list_numbering();
         let definitions = &self.reader.definitions;
         match line_number(
             self.alloc,
-            word,
+            place,
             tokens,
             numbering,
             definitions,
@@ -130,10 +132,11 @@ impl<'a> Source<'a> {
             (reader_of self.old.reader) o (reader_of self.new.reader)) }
         ensures budget { budget.new.steps ≤ budget.old.steps }
     {
+        let text = self.reader.text();
         match self.reader.act(self.alloc)? {
             Step::Passed => Ok(None),
-            Step::Given(outcome) => Ok(Some(Taken::unpainted(outcome))),
-            Step::Defines(named) => self.define(named),
+            Step::Given(outcome) => Ok(Some(Taken::of_text(text, outcome))),
+            Step::Defines(named) => self.define(text, named),
             Step::Condition(word, tokens) => self.decide(word, tokens, budget),
             Step::LineNumber(word, tokens) => self.renumber(word, tokens, budget),
         }

@@ -47,6 +47,8 @@ use std::marker::Model;
 pub struct SourceReader<'a> {
     /// The rules by which it reads.
     pub rules: Rules,
+    /// The number of the text.
+    pub text: u32,
     /// The items of the source.
     pub items: &'a [SourceItem],
     /// The position of the item that comes next.
@@ -71,6 +73,7 @@ impl<'a> Model for SourceReader<'a> {
 
     ghost view = { λ r. record {
       rules = r.rules;
+      text = r.text;
       items = r.items.now;
       position = r.position;
       changes = r.definitions;
@@ -159,6 +162,13 @@ impl<'a> SourceReader<'a> {
         self.pass_line();
     }
 
+    /// The number of the text that is read.
+    pub fn text(&self) -> u32
+        ensures { result ≡ self.now.text }
+    {
+        self.text
+    }
+
     /// The number that `__LINE__` shows for a line.
     pub fn shown_line(&self, line: u32) -> Option<Integer>
         ensures { result ≡ text_number self.now.rules self.now.line_offset line }
@@ -230,7 +240,7 @@ impl<'a> SourceReader<'a> {
     {
         let named = defined_on(alloc, self.rules, word, self.after_word())?;
         self.pass_line();
-        Ok(Step::Defines(named))
+        Ok(Step::Defines(named.in_text(self.text)))
     }
 
     // Acts on an `#undef`.

@@ -11,8 +11,8 @@ use Rattle.pp_lexer.specs.declared.token.TokenValue.TheVariants.{Ident}
 use Rattle.pp_model.specs.Calls.{Answers}
 use Rattle.pp_model.specs.Emitting.{Emits, itself}
 use Rattle.pp_model.specs.Names.{Name, is_same_name, line_name}
-use Rattle.pp_model.specs.Painting.{unpainted}
-use Rattle.pp_model.specs.Places.{in_source}
+use Rattle.pp_model.specs.Painting.{read_in}
+use Rattle.pp_model.specs.Places.{in_text, source_text}
 use Rattle.pp_model.specs.Reading.{Expander}
 use Rattle.pp_model.specs.Reads.{Steps, Reads, here, later, source_reading}
 use Rattle.pp_model.specs.Run.{by_rules, start, next, Runs, done, given}
@@ -49,11 +49,11 @@ module _ (A : Answers) (name : Name) (place after : Location) (b f c g : Bool) (
   state_at position = record (start items) { reader = reader_at position }
 
   abbrev first : Taken
-  first = taken.Token (unpainted (token_of name place))
+  first = taken.Token (read_in source_text (token_of name place))
 
   -- it isn't `__LINE__`, and so it is shown as it is
-  shown : first ≡ shown_token (text_number (reader_at 1).rules (reader_at 1).line_offset) [] (unpainted (token_of name place))
-  shown = ap (λ is_line. if is_line then line_number (in_source place) (text_number (reader_at 1).rules (reader_at 1).line_offset (unwrap_or None place.line)) else first) (sym other)
+  shown : first ≡ shown_token (text_number (reader_at 1).rules (reader_at 1).line_offset) [] (read_in source_text (token_of name place))
+  shown = ap (λ is_line. if is_line then line_number (in_text source_text place) (text_number (reader_at 1).rules (reader_at 1).line_offset (unwrap_or None place.line)) else first) (sym other)
 
   word_comes : Emits (source_reading A) A (state_at 0) first (state_at 1)
   word_comes =

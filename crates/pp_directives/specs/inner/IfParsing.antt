@@ -1,6 +1,6 @@
 -- The expressions of an `#if`, `#elif` or `#line` line (docs/RULES.md, Expressions 3 to 7).
 use Rattle.std.specs.Prelude.{◌≡◌, ℤ, List, Result}
-use Rattle.pp_lexer.specs.declared.token.Location.{Location}
+use Rattle.pp_model.specs.declared.place.Place.{Place}
 use Rattle.pp_lexer.specs.declared.token.Token.{Token}
 use Rattle.pp_model.specs.Places.{PlacedFault}
 use Rattle.pp_model.specs.Emitting.{expansion_limit}
@@ -13,11 +13,11 @@ use Rattle.pp_model.specs.declared.numbering.Numbering.{Numbering}
 
 -- the place of the directive's word, and the words that are left of its line
 pub record IfParser : Type 0 where
-  pub directive : Location
+  pub directive : Place
   pub words : Words
 
 -- no word of the line is taken yet
-pub record IsAtFront (kind : LineKind) (directive : Location) (tokens : List Token) (numbering : Numbering)
+pub record IsAtFront (kind : LineKind) (directive : Place) (tokens : List Token) (numbering : Numbering)
     (definitions : List Defined)
     (parser : IfParser) : Type 0 where
   pub place : parser.directive ≡ directive

@@ -2,7 +2,7 @@
 -- (docs/RULES.md, Expressions 1 and 2).
 use Rattle.std.specs.Prelude.{◌≡◌, ℕ, ◌≤◌, ◌<◌, true, List, [], Bool, Option, Some, None, option_map, Result, Ok, Err}
 use Rattle.std.specs.Prelude.{⊤}
-use Rattle.pp_lexer.specs.declared.token.Location.{Location}
+use Rattle.pp_model.specs.declared.place.Place.{Place}
 use Rattle.pp_model.specs.Places.{PlacedFault}
 use Rattle.pp_model.specs.declared.read.Read.{Read}
 use Rattle.pp_model.specs.Names.{Name}
@@ -111,19 +111,19 @@ ReadsTaken levels numbering definitions m l (Err (halt.Fault fault)) n k = ⊥
 ReadsTaken levels numbering definitions m l (Err halt.OutOfMemory) n k = ⊤
 
 -- what the operand of a `defined` gives; the same after its `(`; and after the `(` and the name
-abbrev pub ReadsOperand : LineKind → Location → ℕ → Numbering → List Defined → kept.Expander → Listing
+abbrev pub ReadsOperand : LineKind → Place → ℕ → Numbering → List Defined → kept.Expander → Listing
     → Result Bool PlacedHalt → kept.Expander → Listing → Type 0
 ReadsOperand kind directive levels numbering definitions m l =
     ReadsOfLine levels numbering definitions m l
     (λ answer f. Operand kind directive (answers_at levels) (expander_of m l) answer f)
 
-abbrev pub ReadsInParentheses : LineKind → Location → ℕ → Numbering → List Defined → kept.Expander
+abbrev pub ReadsInParentheses : LineKind → Place → ℕ → Numbering → List Defined → kept.Expander
     → Listing → Result Bool PlacedHalt → kept.Expander → Listing → Type 0
 ReadsInParentheses kind directive levels numbering definitions m l =
     ReadsOfLine levels numbering definitions m l
     (λ answer f. InParentheses kind directive (answers_at levels) (expander_of m l) answer f)
 
-abbrev pub ReadsClosed : LineKind → Location → ℕ → Numbering → List Defined → Name → kept.Expander
+abbrev pub ReadsClosed : LineKind → Place → ℕ → Numbering → List Defined → Name → kept.Expander
     → Listing → Result Bool PlacedHalt → kept.Expander → Listing → Type 0
 ReadsClosed kind directive levels numbering definitions name m l =
     ReadsOfLine levels numbering definitions m l

@@ -1,10 +1,10 @@
 -- What the reader of the words of an `#if`, `#elif` or `#line` line gives (docs/RULES.md, Expressions 1 to 3).
 use Rattle.std.specs.Prelude.{◌≡◌, ℕ, List, [], map, Bool, Option, Some, None, Result, MatchResult, IfOk, IfSome}
-use Rattle.pp_lexer.specs.declared.token.Location.{Location}
+use Rattle.pp_model.specs.declared.place.Place.{Place}
 use Rattle.pp_lexer.specs.declared.token.Token.{Token}
 use Rattle.pp_model.specs.Places.{PlacedFault}
 use Rattle.pp_model.specs.declared.read.Read.{Read}
-use Rattle.pp_model.specs.Painting.{unpainted}
+use Rattle.pp_model.specs.Painting.{read_in}
 use Rattle.pp_model.specs.Names.{Name}
 use Rattle.pp_model.specs.Emitting.{answers_at}
 use Rattle.pp_model.specs.LineWords.{Words, LineWords, name_in, unwanted_part}
@@ -49,7 +49,7 @@ GivesTaken reader old result new =
     result new.expander.here (rest_of new)
 
 -- the name of an identifier, or the fault of anything else, if a part of `defined` is needed here
-abbrev pub IsNameOrFault : Location → Option Read → Result Name PlacedFault → Type 0
+abbrev pub IsNameOrFault : Place → Option Read → Result Name PlacedFault → Type 0
 IsNameOrFault directive found result =
     MatchResult result (λ name. name_in (taken_of_read found) ≡ Some name)
     (λ fault. (name_in (taken_of_read found) ≡ None) × (fault ≡ unwanted_part directive (taken_of_read found)))
@@ -77,8 +77,8 @@ AreWordsOf reader line words =
     (expander_of line.expander.here (rest_of line)) words
 
 -- the words that the whole line gives
-abbrev pub AreWordsOfLine : LineKind → Location → ℕ → List Token → Numbering → List Defined → Words
+abbrev pub AreWordsOfLine : LineKind → Place → ℕ → List Token → Numbering → List Defined → Words
     → Type 0
 AreWordsOfLine kind directive levels tokens numbering definitions words =
     LineWords kind directive (answers_at levels)
-    (reading_of (map unpainted tokens) numbering (meaning_of definitions) []) words
+    (reading_of (map (read_in directive.text) tokens) numbering (meaning_of definitions) []) words

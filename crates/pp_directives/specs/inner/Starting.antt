@@ -4,12 +4,14 @@ use Rattle.pp_lexer.specs.Items.{places_by}
 use Rattle.pp_lexer.specs.Lexed.{start_by}
 use Rattle.pp_lexer.specs.Spots.{spots_of}
 use Rattle.pp_lexer.specs.declared.rules.Rules.{Rules}
+use Rattle.pp_model.specs.Places.{source_text}
 use Rattle.pp_macros.specs.inner.Source.{Source}
 
 abbrev pub source_start : Rules → List ℕ → Source
 source_start rules input =
     record {
       rules = rules;
+      text = source_text;
       rest = (start_by rules (spots_of input)).rest;
       places = places_by rules (spots_of input);
       error_place = None;

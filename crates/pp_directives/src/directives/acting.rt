@@ -13,6 +13,7 @@ ghost use Rattle.pp_directives.specs.inner.SourceActs.{Acts, GivesDirective, Act
 ghost use Rattle.pp_directives.specs.inner.SourceActs.{without_item, word_change, word_move, word_note, define_move};
 ghost use Rattle.pp_model.specs.Moves as moves;
 
+use crate::directive_halt::DirectiveHalt;
 use crate::directives::DirectiveProcessor;
 use crate::line_value::line_number;
 use crate::lines::{
@@ -21,11 +22,11 @@ use crate::lines::{
 };
 use pp_lexer::lexer;
 use pp_lexer::token::{Extension, Location, Pragma, PreprocessorError, Token, TokenValue, Version};
-use pp_macros::halt::{Halt, PlacedHalt};
+use pp_macros::halt::Halt;
 use pp_macros::list_lexer::Scope;
 use pp_model::conversion::refused_token;
 use pp_model::directive::{Directive, directive_of};
-use pp_model::place::placed;
+use pp_model::place::Place;
 
 // Whether the directive is an item in live text.
 fn is_item(directive: Directive) -> bool {
@@ -36,7 +37,7 @@ fn is_item(directive: Directive) -> bool {
 }
 
 // The result of a directive that gives nothing, as that of one that may give an item.
-fn without_item(acted: Result<(), PlacedHalt>) -> Result<Option<Token>, PlacedHalt>
+fn without_item(acted: Result<(), DirectiveHalt>) -> Result<Option<Token>, DirectiveHalt>
     ensures { result ≡ without_item acted }
 {
     acted?;
@@ -45,25 +46,30 @@ fn without_item(acted: Result<(), PlacedHalt>) -> Result<Option<Token>, PlacedHa
 
 impl<'a> DirectiveProcessor<'a> {
     // Defines a name as its line says. If the name has the same definition already, the old one stays.
-    fn add(&mut self, line: DefineLine) -> Result<(), PlacedHalt>
+    fn add(&mut self, line: DefineLine) -> Result<(), DirectiveHalt>
         requires { self.old.spent ≡ false }
         ensures { Acts unchanged (define_move (as_named line)) self.old result self.new }
     {
-        if let Some(before) = self.definitions.get(line.name.as_str()) {
-            let is_same = before.is_same(&line.define);
-            let location = line.location;
-            drop(line);
+        let DefineLine {
+            name,
+            location,
+            define,
+        } = line;
+        let define = define.in_text(self.text);
+        if let Some(before) = self.definitions.get(name.as_str()) {
+            let is_same = before.is_same(&define);
+            drop((name, define));
             if is_same {
                 return Ok(());
             }
-            return Err(PlacedHalt::of_source(PreprocessorError::DefineRedefined, location));
+            return Err(DirectiveHalt::Fault((PreprocessorError::DefineRedefined, location)));
         }
-        self.definitions.set(line.name, line.define)?;
+        self.definitions.set(name, define)?;
         Ok(())
     }
 
     // Acts on a `#define` line, after its word.
-    fn define(&mut self, word: Location) -> Result<(), PlacedHalt>
+    fn define(&mut self, word: Location) -> Result<(), DirectiveHalt>
         requires { self.old.spent ≡ false }
         ensures { Acts unchanged (moves.directive_move self.old.rules true
             (facts_among self.old.blocks) d.Define word self.old.rest) self.old result self.new }
@@ -73,7 +79,7 @@ impl<'a> DirectiveProcessor<'a> {
     }
 
     // Acts on an `#undef` line, after its word. A name that is followed by more tokens is undefined too.
-    fn undef(&mut self, word: Location) -> Result<(), PlacedHalt>
+    fn undef(&mut self, word: Location) -> Result<(), DirectiveHalt>
         requires { self.old.spent ≡ false }
         ensures { Acts unchanged (moves.line_move (undefined_on self.old.rules word self.old.rest)
             moves.undefines self.old.rest) self.old result self.new }
@@ -96,17 +102,18 @@ impl<'a> DirectiveProcessor<'a> {
 
     // Acts on a `#line` line, after its word: the next lines are numbered from its first number, also if only what
     // follows that number has a fault.
-    fn number_lines(&mut self, word: Location) -> Result<(), PlacedHalt>
+    fn number_lines(&mut self, word: Location) -> Result<(), DirectiveHalt>
         requires { self.old.spent ≡ false }
         ensures { Acts unchanged (moves.line_move (line_tokens self.old.rest)
             (moves.renumbers word) self.old.rest) self.old result self.new }
     {
-        let tokens = line_reads(self.alloc, &mut self.lexer)?;
+        let tokens = line_reads(self.alloc, self.text, &mut self.lexer)?;
         let scope = Scope {
             numbering: self.list_numbering(),
             definitions: &self.definitions,
         };
-        match line_number(self.alloc, word, tokens, &scope, &mut self.counts) {
+        let place = Place::in_text(self.text, word);
+        match line_number(self.alloc, place, tokens, &scope, &mut self.counts) {
             Ok(number) => {
                 self.count_from(word.line, number);
                 Ok(())
@@ -114,15 +121,15 @@ impl<'a> DirectiveProcessor<'a> {
             Err(unnumbered) => match unnumbered.number {
                 Some(number) => {
                     self.count_from(word.line, number);
-                    Err(unnumbered.halt)
+                    Err(DirectiveHalt::from(unnumbered.halt))
                 }
-                None => Err(unnumbered.halt),
+                None => Err(DirectiveHalt::from(unnumbered.halt)),
             },
         }
     }
 
     // Skips the line.
-    fn skip(&mut self) -> Result<(), PlacedHalt>
+    fn skip(&mut self) -> Result<(), DirectiveHalt>
         requires { self.old.spent ≡ false }
         ensures { Acts unchanged (moves.skip_move self.old.rules self.old.rest) self.old result self.new }
     {
@@ -131,7 +138,7 @@ impl<'a> DirectiveProcessor<'a> {
     }
 
     // A `#version` line as an item.
-    fn version(&mut self, word: Location) -> Result<Token, PlacedHalt>
+    fn version(&mut self, word: Location) -> Result<Token, DirectiveHalt>
         requires unspent { self.old.spent ≡ false }
         requires left { self.old.rest ≢ [] }
         ensures { ActsAsItem
@@ -151,7 +158,7 @@ impl<'a> DirectiveProcessor<'a> {
     }
 
     // An `#extension` line as an item.
-    fn extension(&mut self, word: Location) -> Result<Token, PlacedHalt>
+    fn extension(&mut self, word: Location) -> Result<Token, DirectiveHalt>
         requires unspent { self.old.spent ≡ false }
         requires left { self.old.rest ≢ [] }
         ensures { ActsAsItem
@@ -169,7 +176,7 @@ impl<'a> DirectiveProcessor<'a> {
     }
 
     // A `#pragma` line as an item.
-    fn pragma(&mut self, word: Location) -> Result<Token, PlacedHalt>
+    fn pragma(&mut self, word: Location) -> Result<Token, DirectiveHalt>
         requires unspent { self.old.spent ≡ false }
         requires left { self.old.rest ≢ [] }
         ensures { ActsAsItem
@@ -187,7 +194,7 @@ impl<'a> DirectiveProcessor<'a> {
         &mut self,
         directive: Directive,
         word: Location,
-    ) -> Result<Option<Token>, PlacedHalt>
+    ) -> Result<Option<Token>, DirectiveHalt>
         requires unspent { self.old.spent ≡ false }
         requires left { self.old.rest ≢ [] }
         ensures { Gives (block_change (part_of directive) word) (moves.directive_move self.old.rules true
@@ -203,19 +210,22 @@ impl<'a> DirectiveProcessor<'a> {
             Directive::Else => without_item(self.else_line(word)),
             Directive::Endif => without_item(self.endif_line(word)),
             Directive::Line => without_item(self.number_lines(word)),
-            Directive::Error => Err(PlacedHalt::of_source(PreprocessorError::ErrorDirective, word)),
+            Directive::Error => Err(DirectiveHalt::Fault((
+                PreprocessorError::ErrorDirective,
+                word,
+            ))),
             Directive::Version => Ok(Some(self.version(word)?)),
             Directive::Extension => Ok(Some(self.extension(word)?)),
             Directive::Pragma => Ok(Some(self.pragma(word)?)),
-            Directive::Unknown => Err(PlacedHalt::of_source(
+            Directive::Unknown => Err(DirectiveHalt::Fault((
                 PreprocessorError::UnknownDirective,
                 word,
-            )),
+            ))),
         }
     }
 
     // Acts on a directive in dead text, after its word.
-    fn act_dead(&mut self, directive: Directive, word: Location) -> Result<(), PlacedHalt>
+    fn act_dead(&mut self, directive: Directive, word: Location) -> Result<(), DirectiveHalt>
         requires { self.old.spent ≡ false }
         ensures { Acts (block_change (part_of directive) word) (moves.directive_move self.old.rules false
             (facts_among self.old.blocks) directive word self.old.rest) self.old result self.new }
@@ -238,7 +248,7 @@ impl<'a> DirectiveProcessor<'a> {
 
     // The item that a directive gives in live text, if it gives one, after its number sign. A number sign alone on its
     // line gives nothing. A line that would be an item counts as a directive even if it has a fault.
-    fn read_live(&mut self, hash: Location) -> Result<Option<Token>, PlacedHalt>
+    fn read_live(&mut self, hash: Location) -> Result<Option<Token>, DirectiveHalt>
         requires { self.old.spent ≡ false }
         ensures { GivesNoted (word_note true (first_token hash self.old.rest))
             (word_change (first_token hash self.old.rest))
@@ -266,13 +276,13 @@ impl<'a> DirectiveProcessor<'a> {
                 self.has_directive = true;
                 Ok(None)
             }
-            _ => Err(PlacedHalt::Fault(placed(refused_token(token)))),
+            _ => Err(DirectiveHalt::Fault(refused_token(token))),
         }
     }
 
     // Acts on a directive in dead text, after its number sign. Without a word after the number sign it does nothing,
     // and an error of the lexer there is passed if the rules say so.
-    fn read_dead(&mut self, hash: Location) -> Result<(), PlacedHalt>
+    fn read_dead(&mut self, hash: Location) -> Result<(), DirectiveHalt>
         requires { self.old.spent ≡ false }
         ensures { ActsNoted (word_note false (first_token hash self.old.rest))
             (word_change (first_token hash self.old.rest))
@@ -286,7 +296,7 @@ impl<'a> DirectiveProcessor<'a> {
                 self.lexer.take_error_place();
                 return Ok(());
             }
-            Err(halt) => return Err(PlacedHalt::from(halt)),
+            Err(halt) => return Err(DirectiveHalt::from(halt)),
         };
         let word = token.location;
         match token.value {
@@ -306,7 +316,7 @@ impl<'a> DirectiveProcessor<'a> {
     }
 
     // The item that a directive gives, if it gives one, after its number sign.
-    pub(crate) fn read_directive(&mut self, hash: Location) -> Result<Option<Token>, PlacedHalt>
+    pub(crate) fn read_directive(&mut self, hash: Location) -> Result<Option<Token>, DirectiveHalt>
         requires { self.old.spent ≡ false }
         ensures { GivesDirective hash self.old result self.new }
     {

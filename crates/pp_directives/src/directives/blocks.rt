@@ -7,17 +7,18 @@ ghost use Rattle.pp_macros.specs.inner.OpenBlocks.{last_block, facts_among, elif
 ghost use Rattle.pp_directives.specs.inner.SourceActs.{Acts, is_as};
 ghost use Rattle.pp_model.specs.Moves as moves;
 
+use crate::directive_halt::DirectiveHalt;
 use crate::directives::DirectiveProcessor;
 use crate::line_value::condition;
 use crate::lines::{ended_line, endif_end, line_reads, line_tokens, only_name, skip_line};
 use pp_lexer::token::{Location, PreprocessorError};
 use pp_macros::blocks::OpenBlock;
-use pp_macros::halt::PlacedHalt;
 use pp_macros::list_lexer::Scope;
+use pp_model::place::Place;
 
 impl<'a> DirectiveProcessor<'a> {
     // Opens a block whose condition is that the name on the line is defined, or (if not `wanted`) that it isn't.
-    pub(crate) fn open_where(&mut self, wanted: bool, word: Location) -> Result<(), PlacedHalt>
+    pub(crate) fn open_where(&mut self, wanted: bool, word: Location) -> Result<(), DirectiveHalt>
         requires { self.old.spent ≡ false }
         ensures { Acts (block_change (Some part.Opens) word)
             (moves.line_move (only_name word self.old.rest) (moves.tests (is_as wanted))
@@ -32,24 +33,25 @@ impl<'a> DirectiveProcessor<'a> {
     }
 
     // Opens a block with the condition on the line.
-    pub(crate) fn open_if(&mut self, word: Location) -> Result<(), PlacedHalt>
+    pub(crate) fn open_if(&mut self, word: Location) -> Result<(), DirectiveHalt>
         requires { self.old.spent ≡ false }
         ensures { Acts (block_change (Some part.Opens) word)
             (moves.line_move (line_tokens self.old.rest) (moves.decides word) self.old.rest)
             self.old result self.new }
     {
-        let tokens = line_reads(self.alloc, &mut self.lexer)?;
+        let tokens = line_reads(self.alloc, self.text, &mut self.lexer)?;
         let scope = Scope {
             numbering: self.list_numbering(),
             definitions: &self.definitions,
         };
-        let holds = condition(self.alloc, word, tokens, &scope, &mut self.counts)?;
+        let place = Place::in_text(self.text, word);
+        let holds = condition(self.alloc, place, tokens, &scope, &mut self.counts)?;
         self.blocks.push(OpenBlock::opened(word, holds))?;
         Ok(())
     }
 
     // Opens a block in dead text, without reading its line.
-    pub(crate) fn open_unread(&mut self, word: Location) -> Result<(), PlacedHalt>
+    pub(crate) fn open_unread(&mut self, word: Location) -> Result<(), DirectiveHalt>
         requires { self.old.spent ≡ false }
         ensures { Acts (block_change (Some part.Opens) word)
             (moves.skip_move self.old.rules self.old.rest) self.old result self.new }
@@ -60,7 +62,7 @@ impl<'a> DirectiveProcessor<'a> {
     }
 
     // Skips the branch after an `#elif` of the innermost block, also if its line has a fault.
-    fn skip_branch(&mut self, block: OpenBlock) -> Result<(), PlacedHalt>
+    fn skip_branch(&mut self, block: OpenBlock) -> Result<(), DirectiveHalt>
         requires unspent { self.old.spent ≡ false }
         requires innermost { last_block self.old.blocks ≡ Some block }
         ensures { Acts elif_change (moves.skip_move self.old.rules self.old.rest) self.old result self.new }
@@ -71,7 +73,7 @@ impl<'a> DirectiveProcessor<'a> {
     }
 
     // Begins a new branch of the innermost block by the condition on the line. After a fault the branch is dead.
-    fn part_if(&mut self, block: OpenBlock, word: Location) -> Result<(), PlacedHalt>
+    fn part_if(&mut self, block: OpenBlock, word: Location) -> Result<(), DirectiveHalt>
         requires unspent { self.old.spent ≡ false }
         requires innermost { last_block self.old.blocks ≡ Some block }
         ensures { Acts elif_change
@@ -79,18 +81,19 @@ impl<'a> DirectiveProcessor<'a> {
             self.old result self.new }
     {
         self.blocks.replace_last(block.skipped());
-        let tokens = line_reads(self.alloc, &mut self.lexer)?;
+        let tokens = line_reads(self.alloc, self.text, &mut self.lexer)?;
         let scope = Scope {
             numbering: self.list_numbering(),
             definitions: &self.definitions,
         };
-        let holds = condition(self.alloc, word, tokens, &scope, &mut self.counts)?;
+        let place = Place::in_text(self.text, word);
+        let holds = condition(self.alloc, place, tokens, &scope, &mut self.counts)?;
         self.blocks.replace_last(block.decided(holds));
         Ok(())
     }
 
     // Acts on an `#elif` line, after its word. After a fault the text that follows is dead.
-    pub(crate) fn elif_line(&mut self, word: Location) -> Result<(), PlacedHalt>
+    pub(crate) fn elif_line(&mut self, word: Location) -> Result<(), DirectiveHalt>
         requires { self.old.spent ≡ false }
         ensures { Acts elif_change
             (moves.elif_move self.old.rules (facts_among self.old.blocks) word self.old.rest)
@@ -98,11 +101,11 @@ impl<'a> DirectiveProcessor<'a> {
     {
         let Some(block) = self.blocks.last() else {
             self.dead_for_good = true;
-            return Err(PlacedHalt::of_source(PreprocessorError::ElifOutsideOfBlock, word));
+            return Err(DirectiveHalt::Fault((PreprocessorError::ElifOutsideOfBlock, word)));
         };
         if block.with_else {
             self.blocks.replace_last(block.skipped());
-            return Err(PlacedHalt::of_source(PreprocessorError::ElifAfterElse, word));
+            return Err(DirectiveHalt::Fault((PreprocessorError::ElifAfterElse, word)));
         }
         if block.skips_branches() {
             return self.skip_branch(block);
@@ -111,7 +114,7 @@ impl<'a> DirectiveProcessor<'a> {
     }
 
     // Acts on an `#else` line, after its word.
-    pub(crate) fn else_line(&mut self, word: Location) -> Result<(), PlacedHalt>
+    pub(crate) fn else_line(&mut self, word: Location) -> Result<(), DirectiveHalt>
         requires { self.old.spent ≡ false }
         ensures { Acts (block_change (Some part.Else) word)
             (moves.else_move (facts_among self.old.blocks) word self.old.rest)
@@ -119,24 +122,24 @@ impl<'a> DirectiveProcessor<'a> {
     {
         ended_line(word, &mut self.lexer)?;
         let Some(block) = self.blocks.last() else {
-            return Err(PlacedHalt::of_source(PreprocessorError::ElseOutsideOfBlock, word));
+            return Err(DirectiveHalt::Fault((PreprocessorError::ElseOutsideOfBlock, word)));
         };
         if block.with_else {
-            return Err(PlacedHalt::of_source(PreprocessorError::MoreThanOneElse, word));
+            return Err(DirectiveHalt::Fault((PreprocessorError::MoreThanOneElse, word)));
         }
         self.blocks.replace_last(block.parted());
         Ok(())
     }
 
     // Acts on an `#endif` line, after its word: the block closes, also if more tokens follow on the line.
-    pub(crate) fn endif_line(&mut self, word: Location) -> Result<(), PlacedHalt>
+    pub(crate) fn endif_line(&mut self, word: Location) -> Result<(), DirectiveHalt>
         requires { self.old.spent ≡ false }
         ensures { Acts (block_change (Some part.Closes) word)
             (moves.endif_move self.old.rules (facts_among self.old.blocks) word self.old.rest)
             self.old result self.new }
     {
         let Some(block) = self.blocks.pop() else {
-            return Err(PlacedHalt::of_source(PreprocessorError::EndifOutsideOfBlock, word));
+            return Err(DirectiveHalt::Fault((PreprocessorError::EndifOutsideOfBlock, word)));
         };
         endif_end(
             block.live_around,

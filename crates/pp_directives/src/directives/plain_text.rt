@@ -19,6 +19,7 @@ impl<'a> DirectiveProcessor<'a> {
     pub fn next_word(&mut self) -> Option<(PlainItem<'a>, Option<NameId>)>
         requires { IsInText self.old }
         ensures gives { GivesWord self.old result self.new }
+        ensures text { self.new.text ≡ self.old.text }
         ensures stays { IsInText self.new }
     {
         let word = self.lexer.peek_word()?;
@@ -48,7 +49,7 @@ impl<'a> DirectiveProcessor<'a> {
         let is_parenthesis = is_parenthesis(&word);
         let token = self.lexer.take_word(self.alloc, word)?;
         self.has_text = true;
-        tokens.push(Read::unpainted(token))?;
+        tokens.push(Read::of_text(token, self.text))?;
         Ok(Some(is_parenthesis))
     }
 
@@ -58,6 +59,7 @@ impl<'a> DirectiveProcessor<'a> {
     pub fn pass_newline(&mut self) -> bool
         requires { IsInText self.old }
         ensures pauses { PausesAtNewline self.old result self.new }
+        ensures text { self.new.text ≡ self.old.text }
         ensures stays { IsInText self.new }
     {
         self.lexer.pass_newline()

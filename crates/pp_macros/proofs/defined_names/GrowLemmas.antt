@@ -3,6 +3,7 @@ use Rattle.std.proofs.Common.{◌≡◌, ◌∙◌, inl, inr, ◌⊎◌, ℕ, Bo
 use Rattle.std.proofs.lemmas.List.{append-nil}
 use Rattle.pp_lexer.specs.declared.token.Location.{Location}
 use Rattle.pp_lexer.specs.declared.token.Token.{Token}
+use Rattle.pp_model.specs.Acts.{defined_in}
 use Rattle.pp_model.specs.Definitions.{Definition}
 use Rattle.pp_model.specs.declared.definition.Named.{Named}
 use Rattle.pp_model.specs.Moves.{Effect, gives, gives_item, fails, ends, passes, defines, undefines, tests, decides, renumbers}
@@ -65,7 +66,7 @@ module _ (old new : Source) where
   effect_grows (fails fault) taken note change step h = fault_grows h.1
   effect_grows ends taken note change step h = end_grows (last_block old.blocks) step h
   effect_grows passes taken note change step h = stays h.2
-  effect_grows (defines named) taken note change step h = define_grows named (meaning_of old.definitions named.name) taken note step h
+  effect_grows (defines named) taken note change step h = define_grows (defined_in old.text named) (meaning_of old.definitions named.name) taken note step h
   effect_grows (undefines name) taken note change step h = h.2.kept
   effect_grows (tests asked name) taken note change step h = stays h.2
   effect_grows (decides word tokens) taken note change step h =
@@ -82,14 +83,14 @@ module _ (old new : Source) where
           let move = move_of old.rules old.dead_for_good old.blocks old.rest in
           effect_grows move.effect move.taken (note_of old.dead_for_good old.blocks old.rest) (block_change_at (sight_of old.rest)) step h
 
-given_wants : (given : PlacedStep Token) → wants_memory (unpainted_step given) ≡ wants_memory given
-given_wants (Ok token) = refl
-given_wants (Err exit) = refl
+given_wants : (text : ℕ) (given : PlacedStep Token) → wants_memory (unpainted_step text given) ≡ wants_memory given
+given_wants text (Ok token) = refl
+given_wants text (Err exit) = refl
 
 pub reads_grow : (step : PlacedStep Read) (r s : Reader) → Reads r step s → wants_memory step ≡ false
     → GrowAtEnd (names_in (definitions_of r)) (names_in (definitions_of s))
 reads_grow step (of_source old) (of_source new) h reported =
-    source_grows old new h.given h.steps (sym (given_wants h.given) ∙ ap wants_memory (sym h.is) ∙ reported)
+    source_grows old new h.given h.steps (sym (given_wants old.text h.given) ∙ ap wants_memory (sym h.is) ∙ reported)
 reads_grow step (of_list old) (of_list new) (inl h) reported = rw h.1 (grow_not (names_in old.definitions))
 reads_grow step (of_list old) (of_list new) (inr h) reported = absurd (let bad : true ≡ false = rw h at reported in cc)
 reads_grow step (of_source old) (of_list new) h reported = absurd h

@@ -3,6 +3,7 @@ use Rattle.std.proofs.Common.{◌≡◌, inl, inr, ℕ, Bool, true, false, List,
 use Rattle.std.specs.Prelude.{Err}
 use Rattle.pp_lexer.specs.declared.token.Location.{Location}
 use Rattle.pp_lexer.specs.declared.token.Token.{Token}
+use Rattle.pp_model.specs.Acts.{defined_in}
 use Rattle.pp_model.specs.Definitions.{Definition}
 use Rattle.pp_model.specs.declared.definition.Named.{Named}
 use Rattle.pp_macros.specs.inner.Defined.{meaning_of}
@@ -40,7 +41,7 @@ finished_ends (gives_item item word) taken note change old new h = let e = h.0 i
 finished_ends (fails fault) taken note change old new h = let e = h.0 in cc
 finished_ends ends taken note change old new h = refl
 finished_ends passes taken note change old new h = let e = h.0 in cc
-finished_ends (defines named) taken note change old new h = absurd (defines_on named (meaning_of old.definitions named.name) taken note old new h)
+finished_ends (defines named) taken note change old new h = absurd (defines_on (defined_in old.text named) (meaning_of old.definitions named.name) taken note old new h)
 finished_ends (undefines name) taken note change old new h = let e = h.0 in cc
 finished_ends (tests asked name) taken note change old new h = let e = h.0 in cc
 finished_ends (decides word tokens) taken note change old new h = absurd (decides_on word tokens _ taken note old new h)

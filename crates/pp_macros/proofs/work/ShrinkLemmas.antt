@@ -5,6 +5,7 @@ use Rattle.std.proofs.lemmas.Option.{slice_get_within}
 use Rattle.std.specs.Prelude.{pos, ◌-ℤ◌}
 use Rattle.pp_lexer.specs.declared.token.Location.{Location}
 use Rattle.pp_lexer.specs.declared.token.Token.{Token}
+use Rattle.pp_model.specs.Acts.{defined_in}
 use Rattle.pp_model.specs.Definitions.{Definition}
 use Rattle.pp_model.specs.Reads.{numbered_line}
 use Rattle.pp_model.specs.declared.definition.Named.{Named}
@@ -103,7 +104,7 @@ module _ (old new : Source) where
     effect_shrinks ends low h = end_shrinks (last_block old.blocks) refl step h not_end
     effect_shrinks passes low h = passed_shrinks old new taken more note (change None old.blocks) h.1 h.2 (omega (arith, low refl)) (few None)
     effect_shrinks (defines named) low h =
-        define_shrinks old new named (meaning_of old.definitions named.name) taken note step (omega (arith, low refl)) h
+        define_shrinks old new (defined_in old.text named) (meaning_of old.definitions named.name) taken note step (omega (arith, low refl)) h
     effect_shrinks (undefines name) low h =
         let names : length new.definitions ≤ length old.definitions + 0 = h.2.names in
         after_shrinks old new taken more note old.blocks h.1 (omega arith) (omega (arith, h.2.tokens)) (omega (arith, low refl)) (omega arith)

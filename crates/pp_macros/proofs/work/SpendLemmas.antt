@@ -111,7 +111,7 @@ pub record IsRead (step : PlacedStep Read) (r s : Reader) : Type 0 where
   pub tightens : Tightens r s
 
 source_read : (step : PlacedStep Token) (old new : Source) → StepsSource old step new → wants_memory step ≡ false
-    → IsRead (unpainted_step step) (of_source old) (of_source new)
+    → IsRead (unpainted_step old.text step) (of_source old) (of_source new)
 source_read (Ok token) old new h reported = let k = source_shrinks old new (Ok token) h refl in record {
   spends = k.shorter;
   tightens = shrinks_tightens old new k;
@@ -138,7 +138,7 @@ pub reader_read : (step : PlacedStep Read) (r s : Reader) → Reads r step s →
 reader_read step (of_source old) (of_source new) h reported =
     rw h.is (source_read h.given old new h.steps (given_quiet h.given (rw h.is at reported)))
   where
-    given_quiet : (given : PlacedStep Token) → wants_memory (unpainted_step given) ≡ false → wants_memory given ≡ false
+    given_quiet : (given : PlacedStep Token) → wants_memory (unpainted_step old.text given) ≡ false → wants_memory given ≡ false
     given_quiet (Ok token) e = refl
     given_quiet (Err exit) e = e
 reader_read step (of_list old) (of_list new) (inl h) reported = list_read old.tokens step old new refl h.0 h.1

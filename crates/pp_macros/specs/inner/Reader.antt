@@ -47,7 +47,7 @@ pub record ReadsSource (old : Source) (step : PlacedStep Read) (new : Source) : 
   pub given : PlacedStep Token
   pub steps : StepsSource old given new
   pub reports : StepReports old.rules.passes_dead_errors given (unreported_of old) (unreported_of new)
-  pub is : step ≡ unpainted_step given
+  pub is : step ≡ unpainted_step old.text given
 
 -- one step of a reader: a source stays a source, a list a list
 abbrev pub Reads : Reader → PlacedStep Read → Reader → Type 0

@@ -2,7 +2,7 @@
 use Rattle.std.specs.Prelude.{ℕ, zero, suc, List, [], ◌∷◌, All, Ok, Err}
 use Rattle.pp_lexer.specs.declared.token.Token.{Token}
 use Rattle.pp_model.specs.Names.{Name}
-use Rattle.pp_model.specs.Painting.{unpainted, painted_among}
+use Rattle.pp_model.specs.Painting.{read_in, painted_among}
 use Rattle.pp_model.specs.declared.read.Read.{Read}
 use Rattle.pp_macros.specs.Held.{HoldsOrdinary}
 use Rattle.pp_macros.specs.Item.{PlacedStep}
@@ -10,10 +10,10 @@ use Rattle.pp_macros.specs.Item.{PlacedStep}
 abbrev pub AllReadOrdinary : List Read → Type 0
 AllReadOrdinary reads = All (λ read. HoldsOrdinary read.token.value) reads
 
--- what a source gives is unpainted
-abbrev pub unpainted_step : PlacedStep Token → PlacedStep Read
-unpainted_step (Ok token) = Ok (unpainted token)
-unpainted_step (Err exit) = Err exit
+-- what this text gives is unpainted
+abbrev pub unpainted_step : ℕ → PlacedStep Token → PlacedStep Read
+unpainted_step text (Ok token) = Ok (read_in text token)
+unpainted_step text (Err exit) = Err exit
 
 -- what is taken while these names are open
 abbrev pub painted_step : List Name → PlacedStep Read → PlacedStep Read

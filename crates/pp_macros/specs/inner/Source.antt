@@ -6,12 +6,14 @@ use Rattle.pp_lexer.specs.declared.rules.Rules.{Rules}
 use Rattle.pp_lexer.specs.declared.token.PreprocessorError.TheVariants.{DefineRedefined, UnfinishedBlock}
 use Rattle.pp_lexer.specs.declared.token.Token.{Token}
 use Rattle.pp_lexer.specs.declared.token.Location.{Location}
-use Rattle.pp_model.specs.Places.{PlacedFault, placed}
+use Rattle.pp_model.specs.Places.{PlacedFault, in_text, placed}
+use Rattle.pp_model.specs.Acts.{defined_in}
 use Rattle.pp_model.specs.Definitions.{Definition, IsSameDefinition}
 use Rattle.pp_model.specs.Emitting.{answers_at, expansion_limit}
 use Rattle.pp_model.specs.LineValues.{IsCondition, IsLineNumber}
 use Rattle.pp_model.specs.Reads.{numbered_line}
 use Rattle.pp_model.specs.declared.definition.Named.{Named}
+use Rattle.pp_model.specs.declared.place.Place.{Place}
 use Rattle.pp_macros.specs.Item.{PlacedStep, no_memory}
 use Rattle.pp_macros.specs.inner.Defined.{Defined, meaning_of, names_in, body_tokens, IsChanged}
 use Rattle.pp_macros.specs.inner.OpenBlocks.{last_block, outer_blocks, BlockChange, block_change_at}
@@ -25,12 +27,13 @@ use Rattle.pp_macros.specs.declared.step.PlacedExit.TheVariants.{Error, Continue
 use Rattle.pp_model.specs.Numbering.{list_numbering}
 use Rattle.pp_model.specs.declared.numbering.Numbering.{Numbering}
 
--- the rules by which it is read; the items that are left, with their places; the place of an error of the lexer that
--- was read and not reported; what is defined; the open blocks, the outermost first; what `#line` adds to a line;
--- whether memory ran out; whether a live token of the text was read so far, and whether a directive was; whether an
--- `#elif` outside of all blocks made all that follows dead; and how many contents were added
+-- the rules by which it is read; the number of its text; the items that are left, with their places; the place of an
+-- error of the lexer that was read and not reported; what is defined; the open blocks, the outermost first; what
+-- `#line` adds to a line; whether memory ran out; whether a live token of the text was read so far, and whether a
+-- directive was; whether an `#elif` outside of all blocks made all that follows dead; and how many contents were added
 pub record Source : Type 0 where
   pub rules : Rules
+  pub text : ℕ
   pub rest : List Seen
   pub places : List Location
   pub error_place : Option Location
@@ -50,6 +53,7 @@ unreported_of s = unreported s.rest s.places s.error_place
 -- after `taken` items, with this remembered of them, and with these blocks open
 pub record IsAfter (taken : ℕ) (note : Note) (still_open : List OpenBlock) (old new : Source) : Type 0 where
   pub rules : new.rules ≡ old.rules
+  pub text : new.text ≡ old.text
   pub rest : new.rest ≡ drop taken old.rest
   pub blocks : new.blocks ≡ still_open
   pub line_offset : new.line_offset ≡ old.line_offset
@@ -88,12 +92,13 @@ DefinesOver named (Some before) taken note old step new =
     × IsAfter taken note old.blocks old new
     × (new.definitions ≡ old.definitions))
     ⊎ ((IsSameDefinition before named.definition → ⊥)
-    × (step ≡ Err (Error (placed (DefineRedefined, named.location))))
+    × (step ≡ Err (Error (placed old.text (DefineRedefined, named.location))))
     × IsAfterFault old new)
 
 -- at the end of the source the innermost open block is reported, or, if none is open, the end is given
 abbrev pub Ends : Option OpenBlock → Source → PlacedStep Token → Source → Type 0
-Ends (Some block) old step new = (step ≡ Err (Error (placed (UnfinishedBlock, block.word)))) × IsAfterBlock old new
+Ends (Some block) old step new =
+    (step ≡ Err (Error (placed old.text (UnfinishedBlock, block.word)))) × IsAfterBlock old new
 Ends None old step new = (step ≡ Err Finished) × (new ≡ old)
 
 -- a pause after `taken` items, with this remembered of them, and with these blocks open
@@ -102,12 +107,12 @@ Pauses taken note blocks old step new =
     (step ≡ Err Continue) × IsAfter taken note blocks old new × (new.definitions ≡ old.definitions)
 
 -- the condition of an `#if` or `#elif` with this word and these tokens holds, doesn't hold, or has this fault
-abbrev pub Condition : Location → List Token → Numbering → List Defined → Result Bool PlacedFault → Type 0
+abbrev pub Condition : Place → List Token → Numbering → List Defined → Result Bool PlacedFault → Type 0
 Condition word tokens numbering definitions result =
     IsCondition (answers_at expansion_limit) word tokens numbering (meaning_of definitions) result
 
 -- the number that a `#line` with this word and these tokens gives, or its fault
-abbrev pub LineNumber : Location → List Token → Numbering → List Defined → Result ℕ PlacedFault → Type 0
+abbrev pub LineNumber : Place → List Token → Numbering → List Defined → Result ℕ PlacedFault → Type 0
 LineNumber word tokens numbering definitions result =
     IsLineNumber (answers_at expansion_limit) word tokens numbering (meaning_of definitions) result
 
@@ -115,11 +120,11 @@ LineNumber word tokens numbering definitions result =
 pub data Decides (word : Location) (tokens : List Token) (blocks : Bool → List OpenBlock) (taken : ℕ) (note : Note)
     (old : Source) (step : PlacedStep Token) (new : Source) : Type 0 where
   holds : (value : Bool)
-      → Condition word tokens (list_numbering old.rules old.line_offset) old.definitions (Ok value)
+      → Condition (in_text old.text word) tokens (list_numbering old.rules old.line_offset) old.definitions (Ok value)
       → Pauses taken note (blocks value) old step new
       → Decides word tokens blocks taken note old step new
   faulty : (fault : PlacedFault)
-      → Condition word tokens (list_numbering old.rules old.line_offset) old.definitions (Err fault)
+      → Condition (in_text old.text word) tokens (list_numbering old.rules old.line_offset) old.definitions (Err fault)
       → step ≡ Err (Error fault)
       → IsAfterFault old new
       → Decides word tokens blocks taken note old step new
@@ -128,12 +133,12 @@ pub data Decides (word : Location) (tokens : List Token) (blocks : Bool → List
 pub data Renumbers (word : Location) (tokens : List Token) (taken : ℕ) (note : Note) (old : Source)
     (step : PlacedStep Token) (new : Source) : Type 0 where
   numbers : (n : ℕ)
-      → LineNumber word tokens (list_numbering old.rules old.line_offset) old.definitions (Ok n)
+      → LineNumber (in_text old.text word) tokens (list_numbering old.rules old.line_offset) old.definitions (Ok n)
       → Pauses taken note old.blocks
       (record old { line_offset = pos n -ℤ pos (numbered_line old.rules word.line) }) step new
       → Renumbers word tokens taken note old step new
   unnumbered : (fault : PlacedFault)
-      → LineNumber word tokens (list_numbering old.rules old.line_offset) old.definitions (Err fault)
+      → LineNumber (in_text old.text word) tokens (list_numbering old.rules old.line_offset) old.definitions (Err fault)
       → step ≡ Err (Error fault)
       → IsAfterFault old new
       → Renumbers word tokens taken note old step new
@@ -146,11 +151,12 @@ HasEffect (gives_item value word) taken note change old step new =
     (step ≡ Ok (record { value = value old.has_text (not (old.has_directive || old.has_text)); location = word }))
     × IsAfter taken note old.blocks old new
     × (new.definitions ≡ old.definitions)
-HasEffect (fails fault) taken note change old step new = (step ≡ Err (Error (placed fault))) × IsAfterFault old new
+HasEffect (fails fault) taken note change old step new =
+    (step ≡ Err (Error (placed old.text fault))) × IsAfterFault old new
 HasEffect ends taken note change old step new = Ends (last_block old.blocks) old step new
 HasEffect passes taken note change old step new = Pauses taken note (change None old.blocks) old step new
 HasEffect (defines named) taken note change old step new =
-    DefinesOver named (meaning_of old.definitions named.name) taken note old step new
+    DefinesOver (defined_in old.text named) (meaning_of old.definitions named.name) taken note old step new
 HasEffect (undefines name) taken note change old step new =
     (step ≡ Err Continue)
     × IsAfter taken note old.blocks old new

@@ -1,7 +1,7 @@
 -- A line whose value is needed has a list of words, no matter what is on it.
 use Rattle.std.proofs.Common.{◌≡◌, Bool, true, false, [], ◌∷◌, refl, Option, Some, None}
 use Rattle.std.specs.Prelude.{Result, Ok, Err, is_ok}
-use Rattle.pp_lexer.specs.declared.token.Location.{Location}
+use Rattle.pp_model.specs.declared.place.Place.{Place}
 use Rattle.pp_lexer.specs.declared.token.TokenValue.{TokenValue}
 use Rattle.pp_model.specs.Places.{PlacedFault, place_of, place_in, fault_in}
 use Rattle.pp_model.specs.SpliceList.{outermost_call}
@@ -31,7 +31,7 @@ name_is_token : (o : Taken) (n : Name) → name_in o ≡ Some n → is_token o �
 name_is_token (taken.Token read) n h = refl
 name_is_token _ n h = cc
 
-module _ (kind : LineKind) (directive : Location) (A : Answers) where
+module _ (kind : LineKind) (directive : Place) (A : Answers) where
   -- ---- what is known where a line is read
 
   abbrev Worded : Expander Listed → Type 0

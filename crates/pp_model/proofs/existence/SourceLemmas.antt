@@ -6,7 +6,7 @@ use Rattle.pp_lexer.specs.declared.token.PreprocessorError.TheVariants.{DefineRe
 use Rattle.pp_lexer.specs.declared.token.Token.{Token}
 use Rattle.pp_model.specs.declared.read.Taken.{Taken}
 use Rattle.pp_model.specs.declared.read.Taken.TheVariants as taken
-use Rattle.pp_model.specs.Places.{PlacedFault, placed}
+use Rattle.pp_model.specs.Places.{PlacedFault, in_text, placed}
 use Rattle.pp_model.specs.Definitions.{Definition, IsSameDefinition}
 use Rattle.pp_model.specs.Painting.{taken_of}
 use Rattle.pp_model.specs.Reading.{Expander}
@@ -38,9 +38,9 @@ goes (Some x) = is_token x
 abbrev pub HasFinite : SourceReader → Type 0
 HasFinite r = IsFinite r.definitions
 
-token_given : (o : Outcome) → is_token (taken_of o) ≡ true → is_given_token o ≡ true
-token_given (outcome.Token token) h = refl
-token_given _ h = h
+token_given : (text : ℕ) (o : Outcome) → is_token (taken_of text o) ≡ true → is_given_token o ≡ true
+token_given text (outcome.Token token) h = refl
+token_given text _ h = h
 
 module _ (A : Answers) (answered : AnAnswer A) where
   -- ---- one token or line
@@ -78,16 +78,16 @@ module _ (A : Answers) (answered : AnAnswer A) where
       where
         by : IsSameDefinition old named.definition ⊎ (IsSameDefinition old named.definition → ⊥) → Stepped r
         by (inl same) = passed (step.Defines named) (act r).after p refl ((moves r).finite f) refl (rw q (refl, inl (same, refl)))
-        by (inr other) = faulty (step.Defines named) (placed (DefineRedefined, named.location)) (act r).after p ((moves r).finite f) (rw q (refl, inr (other, refl)))
+        by (inr other) = faulty (step.Defines named) (placed r.text (DefineRedefined, named.location)) (act r).after p ((moves r).finite f) (rw q (refl, inr (other, refl)))
 
     decided_by : (word : Location) (tokens : List Token) → (act r).step ≡ step.Condition word tokens
-        → (x : Result Bool PlacedFault) → IsCondition A word tokens (list_numbering r.rules r.line_offset) r.definitions x → Stepped r
+        → (x : Result Bool PlacedFault) → IsCondition A (in_text r.text word) tokens (list_numbering r.rules r.line_offset) r.definitions x → Stepped r
     decided_by word tokens p (Ok holds) c =
         passed (step.Condition word tokens) (decided r.position holds (act r).after) p refl ((moves r).finite f) refl (Ok holds, c, (refl, refl))
     decided_by word tokens p (Err fault) c = faulty (step.Condition word tokens) fault r p f (Err fault, c, (refl, refl))
 
     numbered_by : (word : Location) (tokens : List Token) → (act r).step ≡ step.LineNumber word tokens
-        → (x : Result ℕ PlacedFault) → IsLineNumber A word tokens (list_numbering r.rules r.line_offset) r.definitions x → Stepped r
+        → (x : Result ℕ PlacedFault) → IsLineNumber A (in_text r.text word) tokens (list_numbering r.rules r.line_offset) r.definitions x → Stepped r
     numbered_by word tokens p (Ok n) c =
         let t : SourceReader = record (act r).after { line_offset = pos n -ℤ pos (numbered_line r.rules word.line) } in
         passed (step.LineNumber word tokens) t p refl ((moves r).finite f) refl (Ok n, c, (refl, refl))
@@ -96,18 +96,18 @@ module _ (A : Answers) (answered : AnAnswer A) where
     step_by : (s : Step) → (act r).step ≡ s → Stepped r
     step_by step.Passed p = passed step.Passed (act r).after p refl ((moves r).finite f) refl (refl, refl)
     step_by (step.Given x) p = record {
-      outcome = Some (taken_of x);
+      outcome = Some (taken_of r.text x);
       after = (act r).after;
-      steps = that_does A (step.Given x) r (Some (taken_of x)) (act r).after p (refl, refl);
+      steps = that_does A (step.Given x) r (Some (taken_of r.text x)) (act r).after p (refl, refl);
       finite = (moves r).finite f;
-      falls = λ h. act_less_left r (rw p (rw (token_given x h) refl));
+      falls = λ h. act_less_left r (rw p (rw (token_given r.text x h) refl));
     }
     step_by (step.Defines named) p = defined_by named p (r.definitions named.name) refl
     step_by (step.Condition word tokens) p =
-        let c = a_condition A answered word tokens (list_numbering r.rules r.line_offset) r.definitions f in
+        let c = a_condition A answered (in_text r.text word) tokens (list_numbering r.rules r.line_offset) r.definitions f in
         decided_by word tokens p c.0 c.1
     step_by (step.LineNumber word tokens) p =
-        let c = a_line_number A answered word tokens (list_numbering r.rules r.line_offset) r.definitions f in
+        let c = a_line_number A answered (in_text r.text word) tokens (list_numbering r.rules r.line_offset) r.definitions f in
         numbered_by word tokens p c.0 c.1
 
     stepped : Stepped r

@@ -1,6 +1,6 @@
 -- The end of a `defined`.
 use Rattle.std.specs.Prelude.{◌≡◌, Bool, Result}
-use Rattle.pp_lexer.specs.declared.token.Location.{Location}
+use Rattle.pp_model.specs.declared.place.Place.{Place}
 use Rattle.pp_model.specs.Places.{PlacedFault}
 use Rattle.pp_model.specs.Names.{Name}
 use Rattle.pp_model.specs.Reading.{Expander, Listed, line_reading}
@@ -12,7 +12,7 @@ use Rattle.pp_model.specs.declared.read.Taken.{Taken}
 use Rattle.pp_model.specs.declared.word.LineKind.{LineKind}
 
 -- what a `defined` gives after its `(` and the name
-pub record Closes (kind : LineKind) (directive : Location) (A : Answers) (n : Name)
+pub record Closes (kind : LineKind) (directive : Place) (A : Answers) (n : Name)
     (e : Expander Listed) (r : Result Bool PlacedFault) (f : Expander Listed) : Type 0 where
   pub found : Taken
   pub emits : Emits line_reading A e found f

@@ -2,7 +2,7 @@
 use Rattle.std.specs.Prelude.{◌≡◌, ◌+◌, ◌≤◌, length, ℕ, Bool, List, Option, Result, Ok, Err, ⊤}
 use Rattle.pp_lexer.specs.declared.token.Location.{Location}
 use Rattle.pp_lexer.specs.declared.token.Token.{Token}
-use Rattle.pp_model.specs.Places.{PlacedFault}
+use Rattle.pp_model.specs.Places.{PlacedFault, in_text}
 use Rattle.pp_model.specs.Calls.{Answers}
 use Rattle.pp_model.specs.LineValues.{IsCondition, IsLineNumber}
 use Rattle.pp_model.specs.SourceReader.{SourceReader}
@@ -44,12 +44,12 @@ HasLineIfOk (Err h) old new = ⊤
 pub record Deciding (A : Answers) (word : Location) (tokens : List Token) (r : SourceReader) (o : Option Taken)
     (t : SourceReader) : Type 0 where
   pub result : Result Bool PlacedFault
-  pub is : IsCondition A word tokens (list_numbering r.rules r.line_offset) r.definitions result
+  pub is : IsCondition A (in_text r.text word) tokens (list_numbering r.rules r.line_offset) r.definitions result
   pub comes : Evaluated result (after_condition r) r o t
 
 -- what a `#line` gives
 pub record Renumbering (A : Answers) (word : Location) (tokens : List Token) (r : SourceReader) (o : Option Taken)
     (t : SourceReader) : Type 0 where
   pub result : Result ℕ PlacedFault
-  pub is : IsLineNumber A word tokens (list_numbering r.rules r.line_offset) r.definitions result
+  pub is : IsLineNumber A (in_text r.text word) tokens (list_numbering r.rules r.line_offset) r.definitions result
   pub comes : Evaluated result (after_line_number r word) r o t

@@ -10,6 +10,7 @@ use Rattle.pp_reference.specs.declared.definitions.Change.{Change}
 -- a reader of a source, with the changes of the definitions in place of the map that they give
 pub record ReaderState : Type 0 where
   pub rules : Rules
+  pub text : ℕ
   pub items : List Seen
   pub position : ℕ
   pub changes : List Change
@@ -21,6 +22,7 @@ pub record ReaderState : Type 0 where
 abbrev pub reader_of : ReaderState → SourceReader
 reader_of state = record {
   rules = state.rules;
+  text = state.text;
   items = state.items;
   position = state.position;
   definitions = meaning_of state.changes;

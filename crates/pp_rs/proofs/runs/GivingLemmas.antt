@@ -9,7 +9,6 @@ use Rattle.pp_directives.specs.WordTokens.{word_token}
 use Rattle.pp_macros.specs.Item.{Item}
 use Rattle.pp_rs.specs.Giving.{AreGiven, GivesTokens, is_ordinary_token, nothing, one_more}
 use Rattle.pp_rs.specs.Kept.{Preprocessing, is_spent, most_items, call_place, item_text, origin_of, rules_of}
-use Rattle.pp_model.specs.Places.{source_text}
 use Rattle.pp_model.specs.declared.splice.CallPlace.{CallPlace}
 use Rattle.pp_model.specs.declared.splice.Origin.{Origin}
 use Rattle.pp_rs.specs.inner.NextWord.{IsPassed, IsWord}
@@ -95,9 +94,9 @@ module _ {S : Type 0} (takes : S → TokenRef → S → Type 0) where
 
       -- a word is given
       pub giving_word : (word : PlainItem) (new : Preprocessing) (token : TokenRef) (after : S) → IsWord now word new
-          → token_of token ≡ word_token word → token.origin ≡ record { text = source_text; call = None } → takes sink token after → IsGiving takes start first new after
+          → token_of token ≡ word_token word → token.origin ≡ record { text = new.source.text; call = None } → takes sink token after → IsGiving takes start first new after
       giving_word word new token after is refers outside taken =
-          giving_takes token new after (rw refers is.next) (outside ∙ sym (origin_is (record { text = source_text; call = None }) new is.text is.call)) taken
+          giving_takes token new after (rw refers is.next) (outside ∙ sym (origin_is (record { text = new.source.text; call = None }) new is.text is.call)) taken
 
       -- no more tokens come
       pub giving_ends : (answer : Option Item) (new : Preprocessing) → IsNextItem now answer new → is_ordinary_token answer ≡ false

@@ -6,11 +6,10 @@ use Rattle.std.proofs.lemmas.Bool.{and_parts}
 use Rattle.pp_lexer.specs.declared.token.Token.{Token}
 use Rattle.pp_lexer.specs.declared.token.TokenValue.{TokenValue}
 use Rattle.pp_lexer.specs.declared.token.TokenValue.TheVariants.{Ident}
-use Rattle.pp_model.specs.Places.{source_text}
 use Rattle.pp_model.specs.declared.read.Read.{Read}
 use Rattle.pp_model.specs.Names.{Name, is_same_name, is_identifier, line_name}
 use Rattle.pp_model.specs.Definitions.{Definition}
-use Rattle.pp_model.specs.Painting.{unpainted}
+use Rattle.pp_model.specs.Painting.{read_in}
 use Rattle.pp_model.proofs.SpelledRunLemmas.{or_none}
 use Rattle.pp_macros.specs.inner.CallTurns.{TurnsTo, passes, gives, object, seeks}
 use Rattle.pp_macros.specs.inner.Defined.{Macro, meaning_of, opened_by}
@@ -78,15 +77,15 @@ module _ (levels : ℕ) (r s : Source) where
   takes_first step fetches = record { first = step; fetches = fetches; paints = sym (painted_nothing step) }
 
   -- a step as which the word is taken
-  shown : (word : Token) (step : PlacedStep Read) → StepsReporting r (Ok word) s → step ≡ taken_as (Ok (unpainted word)) [] (of_source s)
+  shown : (word : Token) (step : PlacedStep Read) → StepsReporting r (Ok word) s → step ≡ taken_as (Ok (read_in r.text word)) [] (of_source s)
       → StepsTaking idle (of_source r) step idle (of_source s)
-  shown word step reads is = takes_first step (fetches_step idle None None [] [] (Ok (unpainted word)) step (of_source r) (of_source s)
+  shown word step reads is = takes_first step (fetches_step idle None None [] [] (Ok (read_in r.text word)) step (of_source r) (of_source s)
       refl refl refl (refl, reads_step r s (Ok word) reads) is)
 
   -- a token that isn't `__LINE__` is taken as it stands there
   takes_token : (token : Token) → StepsReporting r (Ok token) s → is_identifier line_name token.value ≡ false
-      → StepsTaking idle (of_source r) (Ok (unpainted token)) idle (of_source s)
-  takes_token token reads apart = shown token (Ok (unpainted token)) reads (rw apart refl)
+      → StepsTaking idle (of_source r) (Ok (read_in r.text token)) idle (of_source s)
+  takes_token token reads apart = shown token (Ok (read_in r.text token)) reads (rw apart refl)
 
   exits : (exit : PlacedExit) (step : PlacedStep Read) → StepsTaking idle (of_source r) (Err exit) idle (of_source s) → step ≡ Err exit
       → StepsOver levels idle r step idle s
@@ -104,33 +103,33 @@ module _ (levels : ℕ) (r s : Source) where
 
   -- a token that is given as it stands there
   pub idle_token : (m : Expander) (token : Token) → m ≡ idle → StepsReporting r (Ok token) s
-      → gives_itself s.definitions token.value ≡ true → StepsOver levels m r (Ok (unpainted token)) m s
+      → gives_itself s.definitions token.value ≡ true → StepsOver levels m r (Ok (read_in r.text token)) m s
   idle_token m token e reads itself =
-      let read = unpainted token in
+      let read = read_in r.text token in
       let turns = gives read (Ok (taken.Token read)) idle idle (of_source r) (of_source s)
       (takes_token token reads (itself_apart s.definitions token.value itself)) (opens_none s token.value itself) refl in
       rw e (inl (record { taken = Ok (taken.Token read); between = idle; turns = turns; follows = (refl, refl) }))
 
   -- the name of a macro without parentheses, which opens
   pub idle_opens : (m n : Expander) (token : Token) (opened : Macro) → m ≡ idle → StepsReporting r (Ok token) s
-      → is_identifier line_name token.value ≡ false → Opens (of_source s) (unpainted token) opened
-      → opened.definition.function_like ≡ false → n ≡ record m { frames = new_frame opened (bare_call source_text token.location) [] ∷ m.frames }
+      → is_identifier line_name token.value ≡ false → Opens (of_source s) (read_in r.text token) opened
+      → opened.definition.function_like ≡ false → n ≡ record m { frames = new_frame opened (bare_call r.text token.location) [] ∷ m.frames }
       → StepsOver levels m r (Err Continue) n s
   idle_opens m n token opened e reads apart opens bare is =
-      let after : Expander = record { held = None; frames = new_frame opened (bare_call source_text token.location) [] ∷ [] } in
-      let turns = object (unpainted token) opened (Err Continue) idle idle after (of_source r) (of_source s)
+      let after : Expander = record { held = None; frames = new_frame opened (bare_call r.text token.location) [] ∷ [] } in
+      let turns = object (read_in r.text token) opened (Err Continue) idle idle after (of_source r) (of_source s)
       (takes_token token reads apart) opens bare refl refl in
       rw (is, e) (inl (record { taken = Err Continue; between = after; turns = turns; follows = (refl, refl) }))
 
   -- `__LINE__` out of range
   pub idle_fault : (m n : Expander) (word : Token) (exit : PlacedExit) (step : PlacedStep Read) → m ≡ idle
-      → StepsReporting r (Ok word) s → HoldsWord word s m (Err exit) n → step ≡ Err exit → StepsOver levels m r step n s
+      → StepsReporting r (Ok word) s → HoldsWord r.text word s m (Err exit) n → step ≡ Err exit → StepsOver levels m r step n s
   idle_fault m n word exit step e reads fault is =
       rw (fault.2, e) (exits exit step (shown word (Err exit) reads (ap Err fault.0 ∙ ap step_of_outcome (sym fault.1))) is)
 
   -- a word that is held goes on to what it goes on to as it is read
   pub idle_word : (m h n : Expander) (t : Source) (word : Token) (step : PlacedStep Read) → m ≡ idle
-      → StepsReporting r (Ok word) s → IsHeld word s m h → StepsOver levels h s step n t → StepsOver levels m r step n t
+      → StepsReporting r (Ok word) s → IsHeld r.text word s m h → StepsOver levels h s step n t → StepsOver levels m r step n t
   idle_word m h n t word step e reads w steps = rw e (goes (rw (w.holds, e) at steps))
     where
       kept : Expander

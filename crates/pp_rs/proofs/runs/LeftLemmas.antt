@@ -45,7 +45,7 @@ read_before : (old : Source) (rest : List Seen) (blocks : List OpenBlock) (s : R
 read_before old (x ∷ rest) blocks s step h goes = inl (λ e. cc)
 read_before old [] (block ∷ blocks) s step h goes = inr (λ e. cc)
 read_before old [] [] (of_source new) step h goes =
-    absurd (goes (h.is ∙ ap unpainted_step (empty_source old old.dead_for_good new h.given h.steps)))
+    absurd (goes (h.is ∙ ap (unpainted_step old.text) (empty_source old old.dead_for_good new h.given h.steps)))
 read_before old [] [] (of_list new) step h goes = absurd h
 
 left_in_source : (old : Source) (s : Reader) (step : PlacedStep Read) → old.spent ≡ false → Reads (of_source old) step s → (step ≡ Err Finished → ⊥)

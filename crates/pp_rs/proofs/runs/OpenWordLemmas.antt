@@ -2,11 +2,10 @@
 use Rattle.std.proofs.Common.{◌≡◌, true, false, ℕ, [], ◌∷◌, refl, ap, sym, Option, Some, None, Err}
 use Rattle.std.specs.Prelude.{unwrap_or}
 use Rattle.std.proofs.lemmas.Bool.{not-true}
-use Rattle.pp_model.specs.Places.{source_text}
 use Rattle.pp_model.specs.Definitions.{Definition}
 use Rattle.pp_model.specs.Emitting.{expansion_limit}
 use Rattle.pp_model.specs.Names.{Name, is_identifier, line_name}
-use Rattle.pp_model.specs.Painting.{unpainted}
+use Rattle.pp_model.specs.Painting.{read_in}
 use Rattle.pp_macros.specs.inner.Defined.{Macro, AreNumbered, meaning_of, names_in, numbered_by, opened_by}
 use Rattle.pp_macros.specs.inner.Expander.{Expander}
 use Rattle.pp_macros.specs.inner.Frames.{new_frame, bare_call}
@@ -45,10 +44,10 @@ module _ (m n : Expander) (r s : Source) (word : PlainItem) (id : ℕ) (takes : 
   apart : is_identifier line_name (word_token word).value ≡ false
   apart = rw takes.does.0 takes.does.1.apart
 
-  opens : Opens (of_source s) (unpainted (word_token word)) opened
+  opens : Opens (of_source s) (read_in r.text (word_token word)) opened
   opens = record { is = rw takes.does.0 (sym found); numbered = numbered }
 
-  opens_over : is_idle m ≡ true → n ≡ record m { frames = new_frame opened (bare_call source_text word.location) [] ∷ m.frames }
+  opens_over : is_idle m ≡ true → n ≡ record m { frames = new_frame opened (bare_call r.text word.location) [] ∷ m.frames }
       → StepsOver expansion_limit m r (Err Continue) n s
   opens_over idle is =
       idle_opens expansion_limit r s m n (word_token word) opened (is_idle-idle m idle) (takes.step.reads, takes.step.errors) apart opens
@@ -56,7 +55,7 @@ module _ (m n : Expander) (r s : Source) (word : PlainItem) (id : ℕ) (takes : 
 
 module _ (m : Expander) (r s : Source) (word : PlainItem) (id : ℕ) (idle : is_idle m ≡ true) (takes : TakesWord r word (Some id) s) where
   -- the macro opens
-  pub bare_over : (n : Expander) → OpensNumbered s.definitions id word.location m n → StepsOver expansion_limit m r (Err Continue) n s
+  pub bare_over : (n : Expander) → OpensNumbered s.definitions r.text id word.location m n → StepsOver expansion_limit m r (Err Continue) n s
   bare_over n opens =
       opens_over m n r s word id takes opens.opened (opens.is word.spelling.now takes.does.1.number) opens.numbered idle opens.opens
 
@@ -65,5 +64,5 @@ module _ (m : Expander) (r s : Source) (word : PlainItem) (id : ℕ) (idle : is_
   bare_would =
       let definition = there (meaning_of s.definitions word.spelling.now) takes.does.1.bare in
       let opened : Macro = record { name = word.spelling.now; number = id; definition = definition.0; noted = [] } in
-      let after : Expander = record m { frames = new_frame opened (bare_call source_text word.location) [] ∷ m.frames } in
+      let after : Expander = record m { frames = new_frame opened (bare_call r.text word.location) [] ∷ m.frames } in
       (after, opens_over m after r s word id takes opened (ap (λ (o : Option Definition). opened_by word.spelling.now o) (sym definition.1)) (takes.does.1.number, tt) idle refl)

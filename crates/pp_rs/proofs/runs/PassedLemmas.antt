@@ -6,7 +6,7 @@ use Rattle.pp_lexer.specs.declared.token.Location.{Location}
 use Rattle.pp_lexer.specs.declared.token.Token.{Token}
 use Rattle.pp_model.specs.Emitting.{answers_at, expansion_limit}
 use Rattle.pp_model.specs.declared.splice.CallPlace.{CallPlace}
-use Rattle.pp_model.specs.Painting.{unpainted}
+use Rattle.pp_model.specs.Painting.{read_in}
 use Rattle.pp_model.specs.declared.read.Read.{Read}
 use Rattle.std.specs.Prelude.{IsSome}
 use Rattle.pp_macros.specs.inner.Ahead.{painted_as, given_next, token_given}
@@ -39,7 +39,7 @@ newline_over m r s idle step = idle_exit expansion_limit r s m Continue (Err Con
 
 -- so is a word
 pub word_over : (m : Expander) (r s : Source) (token : Token) → is_idle m ≡ true → IsStep r (Ok token) s → gives_itself s.definitions token.value ≡ true
-    → StepsOver expansion_limit m r (Ok (unpainted token)) m s
+    → StepsOver expansion_limit m r (Ok (read_in r.text token)) m s
 word_over m r s token idle step itself = idle_token expansion_limit r s m token (is_idle-idle m idle) (step.reads, step.errors) itself
 
 -- while no macro is open, no call is kept

@@ -30,14 +30,14 @@ use Rattle.pp_lexer.specs.declared.token.Integer.{Integer}
 
 reads_ready : (r s : Reader) (step : PlacedStep Read) → IsReady r → Reads r step s → wants_memory step ≡ false → IsReady s
 reads_ready (of_source old) (of_source new) step ready h reported =
-    steps_unspent old new h.given ready old.spent refl (unpainted_reported h.given (rw h.is at reported)) h.steps
+    steps_unspent old new h.given ready old.spent refl (unpainted_reported old.text h.given (rw h.is at reported)) h.steps
 reads_ready (of_list old) (of_list new) step ready h reported = tt
 reads_ready (of_source old) (of_list new) step ready h reported = absurd h
 reads_ready (of_list old) (of_source new) step ready h reported = absurd h
 
 reads_end : (r s : Reader) → IsReady r → Reads r (Err Finished) s → NothingIn s
 reads_end (of_source old) (of_source new) ready h =
-    source_end old new old.spent refl ready (subst (λ (x : PlacedStep Token). StepsSource old x new) (unpainted_end h.given (sym h.is)) h.steps)
+    source_end old new old.spent refl ready (subst (λ (x : PlacedStep Token). StepsSource old x new) (unpainted_end old.text h.given (sym h.is)) h.steps)
 reads_end (of_list old) (of_list new) ready h = tt
 reads_end (of_source old) (of_list new) ready h = absurd h
 reads_end (of_list old) (of_source new) ready h = absurd h

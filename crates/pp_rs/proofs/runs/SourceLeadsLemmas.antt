@@ -7,7 +7,7 @@ use Rattle.pp_model.specs.Definitions.{Definitions}
 use Rattle.pp_model.specs.Reading.{Expander}
 use Rattle.pp_model.specs.Calls.{Answers}
 use Rattle.pp_model.specs.SourceReader.{SourceReader}
-use Rattle.pp_model.specs.Painting.{unpainted}
+use Rattle.pp_model.specs.Painting.{read_in}
 use Rattle.pp_model.specs.declared.read.Read.{Read}
 use Rattle.pp_model.specs.declared.read.Taken.TheVariants as given
 use Rattle.pp_macros.specs.inner.CallTurns.{TurnsTo}
@@ -33,8 +33,8 @@ IsSource (of_source source) x = StandsForReader source x
 IsSource (of_list l) x = ⊥
 
 pub reads_source : (old new : Source) (x : SourceReader) (step : PlacedStep Token) → Simulates step x new
-    → ReadsTo source_rules IsSource [] (unpainted_step step) x (of_source new)
-reads_source old new x (Ok token) h = (h.after, here (given.Token (unpainted token)) x h.after h.steps, h.stands)
+    → ReadsTo source_rules IsSource [] (unpainted_step x.text step) x (of_source new)
+reads_source old new x (Ok token) h = (h.after, here (given.Token (read_in x.text token)) x h.after h.steps, h.stands)
 reads_source old new x (Err Continue) h = (h.after, h.stands, λ o z reads. later o x h.after z h.steps reads)
 reads_source old new x (Err Finished) h = (h.after, here given.End x h.after h.steps, h.stands)
 reads_source old new x (Err (Error fault)) h = (h.after, here (given.Fault fault) x h.after h.steps)
@@ -42,7 +42,7 @@ reads_source old new x (Err (Error fault)) h = (h.after, here (given.Fault fault
 pub sources_simulate : (r s : Reader) (x : SourceReader) (step : PlacedStep Read) → IsSource r x → Reads r step s → wants_memory step ≡ false
     → ReadsTo source_rules IsSource [] step x s
 sources_simulate (of_source old) (of_source new) x step stands h reported =
-    rw h.is (reads_source old new x h.given (source_simulates old new x h.given stands h.steps (unpainted_reported h.given (rw h.is at reported))))
+    rw (h.is, ← stands.text) (reads_source old new x h.given (source_simulates old new x h.given stands h.steps (unpainted_reported old.text h.given (rw h.is at reported))))
 sources_simulate (of_source old) (of_list new) x step stands h reported = absurd h
 sources_simulate (of_list old) s x step stands h reported = absurd stands
 

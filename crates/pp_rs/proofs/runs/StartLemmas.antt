@@ -5,6 +5,7 @@ use Rattle.pp_lexer.specs.Location.{nowhere}
 use Rattle.pp_lexer.specs.Items.{places_by}
 use Rattle.pp_lexer.specs.Spots.{spots_of}
 use Rattle.pp_lexer.specs.declared.rules.Rules.{Rules}
+use Rattle.pp_model.specs.Places.{source_text}
 use Rattle.pp_model.specs.Run.{items_by, start_by as run_start}
 use Rattle.pp_rs.specs.Kept.{Preprocessing, Stands, errors_left, from_text}
 use Rattle.pp_macros.specs.LexerErrors.{lexer_errors_by}
@@ -17,6 +18,7 @@ start_by rules text = record {
   expander = record { held = None; frames = [] };
   source = record {
     rules = rules;
+    text = source_text;
     rest = items_by rules text;
     places = places_by rules (spots_of text);
     error_place = None;
@@ -44,6 +46,7 @@ start_stands rules text = record {
   list = refl;
   reader = record {
     rules = refl;
+    text = refl;
     rest = refl;
     within = omega arith;
     definitions = refl;

@@ -66,7 +66,7 @@ module _ (rules : Rules) where
 
   reads_tell : (r s : Reader) (step : PlacedStep Read) → Reads r step s → GoesBy rules r → StepReports passes_dead step (unreported_in r) (unreported_in s)
   reads_tell (of_source old) (of_source new) step h by =
-      rw h.is (unpainted_tells passes_dead h.given (unreported_of old) (unreported_of new)
+      rw h.is (unpainted_tells old.text passes_dead h.given (unreported_of old) (unreported_of new)
       (subst (λ (rs : Rules). StepReports rs.passes_dead_errors h.given (unreported_of old) (unreported_of new)) by h.reports))
   reads_tell (of_list old) (of_list new) step h by = step_same passes_dead step _ _ refl
   reads_tell (of_source old) (of_list new) step h by = absurd h

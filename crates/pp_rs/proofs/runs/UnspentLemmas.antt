@@ -3,6 +3,7 @@ use Rattle.std.proofs.Common.{◌≡◌, ◌∙◌, inl, inr, true, false, ap, �
 use Rattle.std.specs.Prelude.{Err, MatchBool}
 use Rattle.pp_lexer.specs.declared.token.Location.{Location}
 use Rattle.pp_lexer.specs.declared.token.Token.{Token}
+use Rattle.pp_model.specs.Acts.{defined_in}
 use Rattle.pp_model.specs.Definitions.{Definition}
 use Rattle.pp_model.specs.Sights.{sight_of}
 use Rattle.pp_model.specs.declared.definition.Named.{Named}
@@ -37,7 +38,7 @@ module _ (old new : Source) (step : PlacedStep Token) (unspent : old.spent ≡ f
 
   effect_unspent : (effect : Effect) (taken : ℕ) (note : Note) (change : BlockChange) → HasEffect effect taken note change old step new → new.spent ≡ false
   effect_unspent ends taken note change h = end_unspent (last_block old.blocks) h
-  effect_unspent (defines named) taken note change h = defines_unspent named (meaning_of old.definitions named.name) taken note h
+  effect_unspent (defines named) taken note change h = defines_unspent (defined_in old.text named) (meaning_of old.definitions named.name) taken note h
   effect_unspent (decides word tokens) taken note change h = decides_unspent word tokens _ taken note h
   effect_unspent (renumbers word tokens) taken note change h = renumbers_unspent word tokens taken note h
   effect_unspent _ taken note change h = h.1.spent

@@ -4,7 +4,7 @@ use Rattle.std.specs.Prelude.{Err}
 use Rattle.std.proofs.lemmas.List.{take_all}
 use Rattle.pp_lexer.specs.declared.token.PreprocessorError.TheVariants.{UnfinishedBlock}
 use Rattle.pp_lexer.specs.declared.token.Token.{Token}
-use Rattle.pp_model.specs.Places.{in_source}
+use Rattle.pp_model.specs.Places.{in_text}
 use Rattle.pp_model.specs.Sights.{sight_of}
 use Rattle.pp_model.specs.Blocks.{Block, blocks_at, innermost}
 use Rattle.pp_model.specs.SourceReader.{SourceReader}
@@ -40,4 +40,4 @@ module _ {old : Source} {r : SourceReader} (s : StandsForReader old r) (e : sigh
     end_simulates (Some kept) found h =
         let i = block_here old r s kept found in
         fails_here s move new (ended_here (Some i.block) (innermost_here old r s kept found))
-        (h.0 ∙ ap (λ place. Err (Error (UnfinishedBlock, in_source place))) (sym i.stands.word))
+        (h.0 ∙ ap (λ place. Err (Error (UnfinishedBlock, in_text old.text place))) (sym i.stands.word))

@@ -14,7 +14,7 @@ use Rattle.pp_model.specs.Blocks.{part_of}
 use Rattle.pp_model.specs.SourceReader.{SourceReader}
 use Rattle.pp_model.specs.Moves.{BlockFacts, Effect, gives_item, passes, defines, undefines, tests, decides, renumbers, directive_move}
 use Rattle.pp_model.specs.inner.Moves.{taking_more}
-use Rattle.pp_model.specs.Acts.{pause_at, outcome_at, advanced_by, decided, effect_on, perform, act}
+use Rattle.pp_model.specs.Acts.{defined_in, pause_at, outcome_at, advanced_by, decided, effect_on, perform, act}
 use Rattle.pp_model.specs.inner.Acts.{after_line, after_condition}
 use Rattle.pp_model.specs.Reads.{numbered_line, Does, Steps}
 use Rattle.pp_model.specs.inner.Reads.{after_line_number}
@@ -116,12 +116,14 @@ module _ {old : Source} {r : SourceReader} (s : StandsForReader old r) (move : P
   define_over its named a (Some before) known (inr h) =
       rw h.1 (record {
         after = after_line r;
-        steps = steps_by (step.Defines named) _ (after_line r) a (rw (defined_now s named.name known) (refl, inr (h.0, refl)));
+        steps = steps_by (step.Defines named) _ (after_line r) a (rw (defined_now s named.name known, s.text) (refl, inr (h.0, refl)));
       })
 
   define_simulates : part_of directive ≡ None → (named : Named) → ActsBy (defines named) → Has (defines named) → Simulates move r new
   define_simulates its named a h =
-      define_over its named (line_here s (λ n. record { step = step.Defines named; after = advanced_by n r }) a)
+      let there = line_here s (λ n. record { step = step.Defines (defined_in r.text named); after = advanced_by n r }) a in
+      define_over its (defined_in old.text named)
+      (subst (λ (text : ℕ). act r ≡ record { step = step.Defines (defined_in text named); after = after_line r }) s.text there)
       (meaning_of old.definitions named.name) refl h
 
   undefine_simulates : part_of directive ≡ None → (name : Name) → ActsBy (undefines name) → Has (undefines name) → Simulates move r new
@@ -139,12 +141,12 @@ module _ {old : Source} {r : SourceReader} (s : StandsForReader old r) (move : P
       let offset = λ (rules : Rules). pos n -ℤ pos (numbered_line rules word.line) in
       rw pauses.0 (record {
         after = after_line_number r word n;
-        steps = steps_by (step.LineNumber word tokens) None (after_line_number r word n) there (Ok n, rw (s.definitions, s.rules, s.line_offset) number, (refl, refl));
+        steps = steps_by (step.LineNumber word tokens) None (after_line_number r word n) there (Ok n, rw (s.text, s.definitions, s.rules, s.line_offset) number, (refl, refl));
         stands = line_stays (stands_with old r s old.definitions r.definitions old.contents r.contents (offset old.rules) (offset r.rules) s.definitions s.contents (ap offset s.rules)) e its pauses.1 pauses.2;
       })
   number_simulates its tokens a (faulty_number fault number failed left) =
       let there = line_here s (λ n. record { step = step.LineNumber word tokens; after = advanced_by n r }) a in
-      rw failed (record { after = r; steps = steps_by (step.LineNumber word tokens) _ r there (Err fault, rw (s.definitions, s.rules, s.line_offset) number, (refl, refl)) })
+      rw failed (record { after = r; steps = steps_by (step.LineNumber word tokens) _ r there (Err fault, rw (s.text, s.definitions, s.rules, s.line_offset) number, (refl, refl)) })
 
   -- a line whose condition holds or not, or is at fault
   condition_simulates : (tokens : List Token) → ActsBy (decides word tokens)
@@ -156,12 +158,12 @@ module _ {old : Source} {r : SourceReader} (s : StandsForReader old r) (move : P
       let there = stands value pauses in
       rw there.0 (record {
         after = after_condition r value;
-        steps = steps_by (step.Condition word tokens) None (after_condition r value) acts (Ok value, rw (s.definitions, s.rules, s.line_offset) condition, (refl, refl));
+        steps = steps_by (step.Condition word tokens) None (after_condition r value) acts (Ok value, rw (s.text, s.definitions, s.rules, s.line_offset) condition, (refl, refl));
         stands = there.1;
       })
   condition_simulates tokens a stands (faulty fault condition failed left) =
       let acts = line_here s (λ n. record { step = step.Condition word tokens; after = advanced_by n r }) a in
-      rw failed (record { after = r; steps = steps_by (step.Condition word tokens) _ r acts (Err fault, rw (s.definitions, s.rules, s.line_offset) condition, (refl, refl)) })
+      rw failed (record { after = r; steps = steps_by (step.Condition word tokens) _ r acts (Err fault, rw (s.text, s.definitions, s.rules, s.line_offset) condition, (refl, refl)) })
 
   -- lines of blocks: a block opens,
   ask_simulates : is_live_in (last_block old.blocks) ≡ true → part_of directive ≡ Some part.Opens → (asked : Bool → Bool) (name : Name)

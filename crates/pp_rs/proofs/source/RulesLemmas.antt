@@ -3,6 +3,7 @@ use Rattle.std.proofs.Common.{◌≡◌, ◌∙◌, inl, inr, ◌⊎◌, ℕ, Bo
 use Rattle.pp_lexer.specs.declared.rules.Rules.{Rules}
 use Rattle.pp_lexer.specs.declared.token.Location.{Location}
 use Rattle.pp_lexer.specs.declared.token.Token.{Token}
+use Rattle.pp_model.specs.Acts.{defined_in}
 use Rattle.pp_model.specs.Definitions.{Definition}
 use Rattle.pp_model.specs.declared.definition.Named.{Named}
 use Rattle.pp_model.specs.Moves.{Effect, gives, gives_item, fails, ends, passes, defines, undefines, tests, decides, renumbers}
@@ -50,7 +51,7 @@ module _ (old new : Source) where
   effect_keeps (fails fault) taken note change step h = h.1.rules
   effect_keeps ends taken note change step h = end_keeps (last_block old.blocks) step h
   effect_keeps passes taken note change step h = h.1.rules
-  effect_keeps (defines named) taken note change step h = define_keeps named (meaning_of old.definitions named.name) taken note step h
+  effect_keeps (defines named) taken note change step h = define_keeps (defined_in old.text named) (meaning_of old.definitions named.name) taken note step h
   effect_keeps (undefines name) taken note change step h = h.1.rules
   effect_keeps (tests asked name) taken note change step h = h.1.rules
   effect_keeps (decides word tokens) taken note change step h =
@@ -67,14 +68,14 @@ module _ (old new : Source) where
           let move = move_of old.rules old.dead_for_good old.blocks old.rest in
           effect_keeps move.effect move.taken (note_of old.dead_for_good old.blocks old.rest) (block_change_at (sight_of old.rest)) step h
 
-given_wants : (given : PlacedStep Token) → wants_memory (unpainted_step given) ≡ wants_memory given
-given_wants (Ok token) = refl
-given_wants (Err exit) = refl
+given_wants : (text : ℕ) (given : PlacedStep Token) → wants_memory (unpainted_step text given) ≡ wants_memory given
+given_wants text (Ok token) = refl
+given_wants text (Err exit) = refl
 
 -- a reader goes on by its rules, unless memory ran out
 pub reads_by : (rules : Rules) (r s : Reader) (step : PlacedStep Read) → Reads r step s → GoesBy rules r → wants_memory step ≡ false → GoesBy rules s
 reads_by rules (of_source old) (of_source new) step h by reported =
-    source_keeps old new h.given h.steps (sym (given_wants h.given) ∙ ap wants_memory (sym h.is) ∙ reported) ∙ by
+    source_keeps old new h.given h.steps (sym (given_wants old.text h.given) ∙ ap wants_memory (sym h.is) ∙ reported) ∙ by
 reads_by rules (of_list old) (of_list new) step h by reported = tt
 reads_by rules (of_source old) (of_list new) step h by reported = absurd h
 reads_by rules (of_list old) (of_source new) step h by reported = absurd h

@@ -6,7 +6,7 @@ use Rattle.pp_model.specs.Places.{PlacedFault}
 use Rattle.pp_model.specs.Emitting.{answers_at, expansion_limit}
 use Rattle.pp_model.specs.Reads.{Steps}
 use Rattle.pp_model.specs.SourceReader.{SourceReader}
-use Rattle.pp_model.specs.Painting.{unpainted}
+use Rattle.pp_model.specs.Painting.{read_in}
 use Rattle.pp_model.specs.declared.read.Taken.{Taken}
 use Rattle.pp_model.specs.declared.read.Taken.TheVariants as taken
 use Rattle.pp_macros.specs.Item.{PlacedStep, wants_memory}
@@ -26,7 +26,7 @@ pub record SimulatedFault (fault : PlacedFault) (r : SourceReader) : Type 0 wher
   pub steps : Steps (answers_at expansion_limit) r (Some (taken.Fault fault)) after
 
 abbrev pub Simulates : PlacedStep Token → SourceReader → Source → Type 0
-Simulates (Ok token) r new = Simulated (Some (taken.Token (unpainted token))) r new
+Simulates (Ok token) r new = Simulated (Some (taken.Token (read_in r.text token))) r new
 Simulates (Err Continue) r new = Simulated None r new
 Simulates (Err Finished) r new = Simulated (Some taken.End) r new
 Simulates (Err (Error fault)) r new = SimulatedFault fault r

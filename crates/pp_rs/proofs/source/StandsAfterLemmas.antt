@@ -84,6 +84,7 @@ module _ (old : Source) (r : SourceReader) (s : StandsForReader old r) where
       (record r { definitions = meaning; contents = counted; line_offset = other })
   stands_with definitions meaning kept counted offset other means counts same = record {
     rules = s.rules;
+    text = s.text;
     rest = s.rest;
     within = s.within;
     definitions = means;
@@ -105,17 +106,18 @@ module _ (old : Source) (r : SourceReader) (s : StandsForReader old r) where
 
   -- some items further on
   pub stands_further : (n : ℕ) (definitions : Definitions) (truths : Truths) (more : List BlockLine) (new : Source) → n ≤ length old.rest
-      → new.rules ≡ old.rules → new.rest ≡ drop n old.rest → new.spent ≡ false → new.dead_for_good ≡ old.dead_for_good → new.line_offset ≡ old.line_offset
+      → new.rules ≡ old.rules → new.text ≡ old.text → new.rest ≡ drop n old.rest → new.spent ≡ false → new.dead_for_good ≡ old.dead_for_good → new.line_offset ≡ old.line_offset
       → new.contents ≡ old.contents → definitions ≡ meaning_of new.definitions → AddsLines r.position n old.rest more
       → StandForBlocks r.items truths new.blocks (blocks_at r.items (r.position + n)) → AreBefore (r.position + n) truths
       → IsRemembered new r.items truths (r.position + n) → StandsForReader new (record r
       { position = r.position + n; definitions = definitions; truths = truths })
-  stands_further n definitions truths more new within ruled after unspent dead offset counted means adds blocks before remembered =
+  stands_further n definitions truths more new within ruled same_text after unspent dead offset counted means adds blocks before remembered =
       let further : AreLinesBefore r.items (r.position + n) (block_lines 0 (take r.position r.items) ++ more) =
       lines_further r.items r.position n (block_lines 0 (take r.position r.items)) more s.lines
       (subst (λ (items : List Seen). AddsLines r.position n items more) s.rest adds) in
       record {
         rules = s.rules ∙ sym ruled;
+        text = s.text ∙ sym same_text;
         rest = after ∙ ap (λ items. drop n items) s.rest ∙ drop-drop n r.position r.items;
         within = omega (arith, s.within, within, ap length s.rest, length-drop r.position r.items);
         definitions = means;

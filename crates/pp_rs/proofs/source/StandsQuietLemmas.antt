@@ -31,7 +31,7 @@ module _ {old : Source} {r : SourceReader} (s : StandsForReader old r) {new : So
       → definitions ≡ meaning_of new.definitions → AddsLines r.position n old.rest [] → IsRemembered new r.items r.truths (r.position + n)
       → StandsForReader new (record r { position = r.position + n; definitions = definitions })
   stands_quiet n definitions within b means adds remembered =
-      stands_further old r s n definitions r.truths [] new within b.rules b.rest b.spent b.dead_for_good b.line_offset b.contents means adds
+      stands_further old r s n definitions r.truths [] new within b.rules b.text b.rest b.spent b.dead_for_good b.line_offset b.contents means adds
       (subst (λ (kept : List OpenBlock). StandForBlocks r.items r.truths kept (blocks_at r.items (r.position + n))) (sym b.blocks)
       (subst (λ (blocks : List Block). StandForBlocks r.items r.truths old.blocks blocks) (sym (blocks_stay old r s n adds)) s.blocks))
       (before_later r.position (r.position + n) r.truths (omega arith) s.truths) remembered

@@ -57,8 +57,8 @@ module _ {old : Source} {r : SourceReader} (s : StandsForReader old r) where
       ∙ ap (λ rules. perform (move_at rules live (facts_among old.blocks) shown old.rest) r) s.rules
 
   -- the reader's step gives what is given there
-  pub gives_here : {o : Outcome} {t : SourceReader} → act r ≡ outcome_at o t → Steps (answers_at expansion_limit) r (Some (taken_of o)) t
-  gives_here {o} {t} a = act_does (answers_at expansion_limit) (step.Given o) t r (Some (taken_of o)) t a (refl, refl)
+  pub gives_here : {o : Outcome} {t : SourceReader} → act r ≡ outcome_at o t → Steps (answers_at expansion_limit) r (Some (taken_of r.text o)) t
+  gives_here {o} {t} a = act_does (answers_at expansion_limit) (step.Given o) t r (Some (taken_of r.text o)) t a (refl, refl)
 
   -- what takes the source's whole line takes the reader's
   pub line_here : (next : ℕ → Acted) → act r ≡ next (whole_line old.rest) → act r ≡ next (whole_line (items_left r))
@@ -66,8 +66,8 @@ module _ {old : Source} {r : SourceReader} (s : StandsForReader old r) where
 
   module _ (move : PlacedStep Token) (new : Source) where
     -- where a fault is given, the step that gives it is the reader's
-    pub fails_here : {fault : Fault} {t : SourceReader} → act r ≡ outcome_at (outcome.Fault fault) t → move ≡ Err (Error (placed fault)) → Simulates move r new
-    fails_here {fault} {t} a m = rw m (record { after = t; steps = gives_here a })
+    pub fails_here : {fault : Fault} {t : SourceReader} → act r ≡ outcome_at (outcome.Fault fault) t → move ≡ Err (Error (placed old.text fault)) → Simulates move r new
+    fails_here {fault} {t} a m = rw (m, ← s.text) (record { after = t; steps = gives_here a })
 
     -- where nothing is given, a pause is the reader's step
     pub pauses_here : {t : SourceReader} → act r ≡ pause_at t → PausesAt move new t → Simulates move r new

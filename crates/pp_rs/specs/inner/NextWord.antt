@@ -17,7 +17,6 @@ use Rattle.pp_model.specs.ItemCall.{item_call}
 use Rattle.pp_lexer.specs.declared.token.Location.{Location}
 use Rattle.pp_rs.specs.Comes.{State, Comes}
 use Rattle.pp_rs.specs.Kept.{Preprocessing, Stands, IsAhead, is_spent, most_items, errors_left, error_place, call_place}
-use Rattle.pp_model.specs.Places.{source_text}
 use Rattle.pp_model.specs.declared.read.Read.{Read}
 use Rattle.pp_rs.specs.Kept.{item_text, rules_of}
 use Rattle.pp_rs.specs.TokenRefs.{token_of}
@@ -57,18 +56,19 @@ ReadsText p = IsInLiveText p.expander p.source p.spent
 -- the next token is this word, which no macro gives, and the text goes on
 pub record IsWord (old : Preprocessing) (word : PlainItem) (new : Preprocessing) : Type 0 where
   pub next : IsNextItem old (Some (Ok (word_token word))) new
-  pub text : item_text new ≡ source_text
+  pub text : item_text new ≡ new.source.text
   pub call : call_place new ≡ None
   pub plain : IsPlain word
   pub reads : ReadsText new
 
--- the macro opens whose name has this number and is at this place
-pub record OpensNumbered (definitions : List Defined) (id : ℕ) (name : Location) (old new : Expander) : Type 0 where
+-- the macro opens whose name has this number and is at this place of this text
+pub record OpensNumbered (definitions : List Defined) (text id : ℕ) (name : Location) (old new : Expander)
+    : Type 0 where
   pub opened : Macro
   pub is : (known : Name) → position (is_same_name known) (names_in definitions) ≡ Some id
       → Some (opened.name, opened.definition) ≡ opened_by known (meaning_of definitions known)
   pub numbered : AreNumbered (names_in definitions) (numbered_by opened)
-  pub opens : new ≡ record old { frames = new_frame opened (bare_call source_text name) [] ∷ old.frames }
+  pub opens : new ≡ record old { frames = new_frame opened (bare_call text name) [] ∷ old.frames }
 
 -- nothing was given; if a macro is open now, less is left
 pub record IsPassedText (old new : Preprocessing) : Type 0 where

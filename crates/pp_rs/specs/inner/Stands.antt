@@ -24,6 +24,7 @@ use Rattle.pp_macros.specs.declared.step.PlacedExit.TheVariants.{Error, Continue
 -- on a directive's line.
 pub record StandsForReader (source : Source) (reader : SourceReader) : Type 0 where
   pub rules : reader.rules ≡ source.rules
+  pub text : reader.text ≡ source.text
   pub rest : source.rest ≡ drop reader.position reader.items
   pub within : reader.position ≤ length reader.items
   pub definitions : reader.definitions ≡ meaning_of source.definitions

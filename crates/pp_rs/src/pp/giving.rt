@@ -79,7 +79,7 @@ impl<'a> Preprocessor<'a> {
         }
         'words: while let Some(word) = self.next_word()? {
             self.pay()?;
-            sink.take(TokenRef::of_word(&word))?;
+            sink.take(TokenRef::of_word(self.source_text(), &word))?;
         }
         Ok(!self.is_idle())
     }

@@ -127,19 +127,20 @@ fn refused_item(
     Err(error)
 }
 
-// Opens the macro without parentheses whose name has this number and is at this place, which is given by its parts: so
-// words that open none are never put into memory.
+// Opens the macro without parentheses whose name has this number and is at this place of this text. The place is given
+// by its parts: so words that open none are never put into memory.
 #[inline(always)]
 fn open_numbered(
     expander: &mut MacroProcessor,
     definitions: &Definitions,
+    text: u32,
     id: NameId,
     start: u32,
     end: u32,
     line: u32,
 ) -> Result<(), AllocError>
     requires { (known : Name) × IsBare definitions.now id known }
-    ensures opens { OnOk result (OpensNumbered definitions.now id (record { start = start; end = end; line = line })
+    ensures opens { OnOk result (OpensNumbered definitions.now text id (record { start = start; end = end; line = line })
         expander.old.here expander.new.here) }
     ensures below { expander.new.below ≡ expander.old.below }
 {
@@ -147,7 +148,7 @@ fn open_numbered(
         unreachable!();
     };
     let opened = found.clone()?;
-    expander.open_bare(opened, SOURCE_TEXT, Location { start, end, line })
+    expander.open_bare(opened, text, Location { start, end, line })
 }
 
 impl<'a> Preprocessor<'a> {
@@ -247,14 +248,23 @@ impl<'a> Preprocessor<'a> {
         'words: loop {
             match self.source.next_word() {
                 Some((word, None)) => {
-                    self.last.set_text(SOURCE_TEXT);
+                    self.last.set_text(self.source.text());
                     return Ok(Some(word));
                 }
                 Some((word, Some(id))) => {
                     let definitions = self.source.definitions();
+                    let text = self.source.text();
                     let Location { start, end, line } = word.location;
                     self.in_text = false;
-                    match open_numbered(&mut self.expander, definitions, id, start, end, line) {
+                    match open_numbered(
+                        &mut self.expander,
+                        definitions,
+                        text,
+                        id,
+                        start,
+                        end,
+                        line,
+                    ) {
                         Ok(()) => return Ok(None),
                         Err(refused) => {
                             self.spent = true;
@@ -269,6 +279,14 @@ impl<'a> Preprocessor<'a> {
                 }
             }
         }
+    }
+
+    // The number of the text that is read.
+    #[inline(always)]
+    pub(crate) fn source_text(&self) -> u32
+        ensures { result ≡ self.now.source.text }
+    {
+        self.source.text()
     }
 
     // Pays for a word of live text. It fails if no step is left.

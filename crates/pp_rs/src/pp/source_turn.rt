@@ -5,8 +5,8 @@ ghost use Rattle.pp_lexer.specs.PreprocessorError.{out_of_memory};
 ghost use Rattle.pp_lexer.specs.declared.token.PreprocessorError.TheVariants.{LineOverflow};
 ghost use Rattle.pp_macros.specs.Item.{no_memory};
 ghost use Rattle.pp_model.specs.Emitting.{expansion_limit};
-ghost use Rattle.pp_model.specs.Painting.{unpainted};
-ghost use Rattle.pp_model.specs.Places.{in_source};
+ghost use Rattle.pp_model.specs.Painting.{read_in};
+ghost use Rattle.pp_model.specs.Places.{in_text};
 ghost use Rattle.pp_model.specs.declared.read.Taken.TheVariants as given;
 ghost use Rattle.pp_macros.specs.Held.{HoldsOrdinary};
 ghost use Rattle.pp_macros.specs.inner.Defined.{names_in};
@@ -77,39 +77,40 @@ fn turn_expander(
     }
 }
 
-// A token of the source as it is taken if no macro is open: `__LINE__` becomes a number at once.
-fn take_in(source: &DirectiveProcessor<'_>, token: Token) -> PlacedStep<Token>
+// A token of this text as it is taken if no macro is open: `__LINE__` becomes a number at once.
+fn take_in(source: &DirectiveProcessor<'_>, text: u32, token: Token) -> PlacedStep<Token>
     requires { HoldsOrdinary token.value }
     ensures taken { MatchResult result
-        (λ taken. taken_in [] (of_source source.now) (unpainted token)
-        ≡ given.Token (unpainted taken))
-        (λ exit. (exit ≡ Error (LineOverflow, in_source token.location))
-        × (taken_in [] (of_source source.now) (unpainted token)
-        ≡ given.Fault (LineOverflow, in_source token.location))) }
+        (λ taken. taken_in [] (of_source source.now) (read_in text token)
+        ≡ given.Token (read_in text taken))
+        (λ exit. (exit ≡ Error (LineOverflow, in_text text token.location))
+        × (taken_in [] (of_source source.now) (read_in text token)
+        ≡ given.Fault (LineOverflow, in_text text token.location))) }
     ensures holds { IfOk result (λ token. HoldsOrdinary token.value) }
 {
     if !is_line_name(&token.value) {
         return Ok(token);
     }
-    let place = Place::in_source(token.location);
+    let place = Place::in_text(text, token.location);
     drop(token);
     Ok(line_number(place, source.shown_line(place.location.line))?.token)
 }
 
-// Holds a token of the source that is `__LINE__` or may open a macro, while no macro is open. The next step of the
+// Holds a token of this text that is `__LINE__` or may open a macro, while no macro is open. The next step of the
 // expander then takes it.
 #[inline(never)]
 fn hold_word(
     expander: &mut MacroProcessor,
     source: &DirectiveProcessor<'_>,
+    text: u32,
     word: Token,
 ) -> PlacedStep<()>
     requires { HoldsOrdinary word.value }
-    ensures holds { HoldsWord word source.now expander.old.here result expander.new.here }
+    ensures holds { HoldsWord text word source.now expander.old.here result expander.new.here }
     ensures below { expander.new.below ≡ expander.old.below }
 {
-    let token = take_in(source, word)?;
-    expander.hold(token);
+    let token = take_in(source, text, word)?;
+    expander.put_back(Ok(Read::of_text(token, text)));
     Ok(())
 }
 
@@ -129,11 +130,12 @@ pub fn turn_source(
     ensures holds { IfOk result (λ read. HoldsOrdinary read.token.value) }
 {
     if expander.is_idle() {
+        let text = source.text();
         let token = source.step()?;
         if gives_itself(source.definitions(), &token.value) {
-            return Ok(Read::unpainted(token));
+            return Ok(Read::of_text(token, text));
         }
-        hold_word(expander, &*source, token)?;
+        hold_word(expander, &*source, text, token)?;
     }
     turn_expander(alloc, expander, source)
 }

@@ -3,7 +3,6 @@
 ghost use Rattle.std.specs.Prelude.{◌≡◌, ◌++◌, IsTrue, OnOk, OnErr, None, string_bytes};
 ghost use Rattle.std.specs.Str.{chars};
 ghost use Rattle.pp_lexer.specs.Spelling.{spelling};
-ghost use Rattle.pp_model.specs.Places.{source_text};
 ghost use Rattle.pp_directives.specs.WordTokens.{word_token, word_value};
 ghost use Rattle.pp_lexer.specs.TokenValue.{is_ordinary};
 ghost use Rattle.pp_rs.specs.inner.NextWord.{IsPlain};
@@ -12,7 +11,6 @@ ghost use Rattle.pp_rs.specs.TokenRefs.{TakesText, token_of, value_of};
 use crate::lexer::{Form, PlainItem, without_suffix};
 use crate::pp::spelling::{push_float, push_integer, push_punct};
 use crate::token::{Integer, Location, Punct, Token, TokenValue};
-use pp_model::place::SOURCE_TEXT;
 use pp_model::splice::Origin;
 use std::alloc::AllocError;
 
@@ -64,20 +62,17 @@ impl TokenSink for String {
 }
 
 impl<'a> TokenRef<'a> {
-    // A word of plain text, which no macro gave.
+    // A word of this text, which no macro gave.
     #[inline(always)]
-    pub(crate) fn of_word(word: &PlainItem<'a>) -> TokenRef<'a>
+    pub(crate) fn of_word(text: u32, word: &PlainItem<'a>) -> TokenRef<'a>
         requires { IsPlain word.now }
         ensures token { token_of result ≡ word_token word.now }
-        ensures origin { result.origin ≡ record { text = source_text; call = None } }
+        ensures origin { result.origin ≡ record { text = text; call = None } }
     {
         TokenRef {
             value: ValueRef::of_word(word),
             location: word.location,
-            origin: Origin {
-                text: SOURCE_TEXT,
-                call: None,
-            },
+            origin: Origin { text, call: None },
         }
     }
 

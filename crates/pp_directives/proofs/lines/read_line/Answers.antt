@@ -10,7 +10,7 @@ pub loop-next-preserved : goal.loop-next-preserved
 loop-next-preserved g c =
     let before = c.loop-next.invariant in
     let n = c.in_ok-next.ensures.reads in
-    let items = c.in_ok-put.ensures in
+    let items = c.in_ok-put.ensures.tokens in
     record {
       whole = whole_more _ _ _ n.is n.takes.rest _ _ _ _ (rw c.in-Some.is at before.whole) items;
       place = place_more _ _ _ n.is n.takes.rest _ (rw c.in-Some.is at before.place);
@@ -21,8 +21,9 @@ loop-next-preserved g c =
       next_ordinary = c.in_ok-next.ensures.ordinary;
       comments = comments_more _ _ _ _ _ (rw c.in-Some.is at before.left) n.is n.takes.rest c.in_ok-next.ensures.comments ∙ (rw c.in-Some.is at before.comments);
       left = c.in_ok-next.ensures.left;
+      text = c.in_ok-put.ensures.text ∙ before.text;
     }
 
-pub returns : goal.returns
-returns g c =
+pub returns-clause-reads : goal.returns-clause-reads
+returns-clause-reads g c =
     record { reads = search rules; comments = rw c.in_default.is at c.loop-next.invariant.comments; ordinary = search rules }

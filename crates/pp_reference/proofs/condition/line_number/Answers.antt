@@ -1,7 +1,7 @@
 use Rattle.std.proofs.Common.{rules, ◌∙◌, ap, sym, is_none, not, Bool, w64, FitsSigned}
 use Rattle.std.proofs.lemmas.Int.{to_z-of_z}
-use Rattle.std.specs.Prelude.{Err}
-use Rattle.pp_model.proofs.LineExpressionLemmas.{alone_at_fault, none_copied, numbers_alone, numbers_followed}
+use Rattle.std.specs.Prelude.{Ok, Err}
+use Rattle.pp_model.proofs.LineExpressionLemmas.{alone_at_fault, alone_at_value, none_copied, numbers_alone, numbers_followed}
 use Rattle.pp_reference.proofs.condition.line_number.Goals as goal
 
 pub returns-then-is_none-clause-reads : goal.returns-then-is_none-clause-reads
@@ -27,4 +27,17 @@ returns-clause-reads c =
       numbers = numbers_followed c.args.directive c.in_ok-words.words _ _ c.in_ok-value.ensures.takes c.in-Ok.value c.in-Some.number
           c.in-Ok.is some (Err c.in-Err-2.fault) more
           (alone_at_fault c.args.directive _ _ _ c.in-Err-2.fault (rw c.in-Err-2.is at c.in_ok-value_alone.ensures));
+    }
+
+pub returns-in-Ok-2-clause-reads : goal.returns-in-Ok-2-clause-reads
+returns-in-Ok-2-clause-reads c =
+    let fits : FitsSigned w64 c.in-Ok.value = search rules in
+    let some = rw (to_z-of_z w64 c.in-Ok.value fits) at (sym c.as_line_number.ensures ∙ c.in-Some.is) in
+    let more = ap is_none (sym c.peek.ensures) ∙ none_copied c.peek.result ∙ ap not c.is_none.ensures ∙ ap (λ (b : Bool). not (not b)) c.if-is_none.false in
+    record {
+      words = c.in_ok-words.words;
+      read = rw (← c.tokens.view_is) c.in_ok-words.ensures.words;
+      numbers = numbers_followed c.args.directive c.in_ok-words.words _ _ c.in_ok-value.ensures.takes c.in-Ok.value c.in-Some.number
+          c.in-Ok.is some (Ok c.in-Some.number) more
+          (alone_at_value c.args.directive _ _ c.in-Ok-2.field-0 c.in-Some.number (rw c.in-Ok-2.is at c.in_ok-value_alone.ensures));
     }

@@ -13,7 +13,7 @@ returns-in-Ident c =
     let acts = rw (c.directive_of-directive.ensures, c.in-Ident.name-is, ← c.self-in-Ident.view_is) at c.in_ok-act_dead-in-Ident.ensures in
     record {
       acts = rw (← c.self.view_is, e.is, c.in-Ident.is, ← e.takes.rest)
-          (word_read p.rules p.definitions p.blocks p.line_offset p.has_text p.has_directive p.dead_for_good p.contents p.lexer c.first_token.new.lexer e.takes.rest
+          (word_read p.rules p.text p.definitions p.blocks p.line_offset p.has_text p.has_directive p.dead_for_good p.contents p.lexer c.first_token.new.lexer e.takes.rest
           (block_change (part_of (directive_of c.in-Ident.name)) c.in-Ok.token.location)
           (directive_move p.rules false (facts_among p.blocks) (directive_of c.in-Ident.name) c.in-Ok.token.location c.first_token.new.lexer.rest) None _ acts.acts);
       holds = search rules;
@@ -25,5 +25,5 @@ returns-in-Err-Fault c =
     let p = c.self.inside in
     let e = rw c.in-Err-Fault.field-0-is at c.in-Err-Fault.ensures in
     rw (← c.self.view_is)
-    (error_passed p.rules p.definitions p.blocks p.line_offset p.has_text p.has_directive p.dead_for_good p.contents p.lexer c.first_token.new.lexer
+    (error_passed p.rules p.text p.definitions p.blocks p.line_offset p.has_text p.has_directive p.dead_for_good p.contents p.lexer c.first_token.new.lexer
     c.take_error_place.new.self c.args.hash c.in-Err-Fault.fault e.reads.is e.one e.reads.errors c.take_error_place.ensures.others c.if-self.true)

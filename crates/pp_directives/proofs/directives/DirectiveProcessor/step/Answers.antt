@@ -21,6 +21,6 @@ returns-then-matches-clause-reads c =
       | in_default-matches w ↦ let bad : true ≡ false = sym c.if-matches.true ∙ w.matches-is in cc
     ] in
     rw (← c.self.view_is)
-    (step_directive p.rules p.definitions p.blocks p.line_offset p.has_text p.has_directive p.dead_for_good p.contents p.lexer c.pass_word.new.self (token_of word)
+    (step_directive p.rules p.text p.definitions p.blocks p.line_offset p.has_text p.has_directive p.dead_for_good p.contents p.lexer c.pass_word.new.self (token_of word)
     (sym c.is_spent.ensures ∙ c.if-is_spent.false) h.is h.takes c.step_directive.result c.step_directive.new.self
     (hash_value word.form word.spelling.now is_hash) c.if-not-word.false h.left c.step_directive.ensures.reads)

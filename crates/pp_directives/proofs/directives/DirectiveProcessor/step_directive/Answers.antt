@@ -1,17 +1,28 @@
+use Rattle.std.proofs.Common.{◌∙◌, ap, sym, Err}
 use Rattle.pp_macros.specs.Halting.{exit_of, placed_halt_of}
-use Rattle.pp_directives.proofs.SourceActsLemmas.{err_result}
-use Rattle.pp_directives.proofs.SkippingLemmas.{refused_directive, rest_passed}
+use Rattle.pp_macros.specs.declared.halt.PlacedHalt.{PlacedHalt}
+use Rattle.pp_directives.proofs.SkippingLemmas.{refused_directive, rest_passed, directive_met}
 use Rattle.pp_directives.proofs.directives.DirectiveProcessor.step_directive.Goals as goal
 use Rattle.pp_model.specs.Places.{unplaced}
 
-pub returns-in_err-skip_faulty_line-in-Err-Fault-clause-reads : goal.returns-in_err-skip_faulty_line-in-Err-Fault-clause-reads
-returns-in_err-skip_faulty_line-in-Err-Fault-clause-reads c =
-    refused_directive c.args.hash c.args.self.now _ c.in_err-skip_faulty_line-in-Err-Fault.field-0.0 _
-    c.in_err-skip_faulty_line-in-Err-Fault.ensures.only
-    (err_result c.from_residual.result (exit_of (placed_halt_of c.in_err-skip_faulty_line-in-Err-Fault.field-0.0)) c.from_residual.ensures.1)
+pub returns-in-Err-skip_faulty_line-clause-reads : goal.returns-in-Err-skip_faulty_line-clause-reads
+returns-in-Err-skip_faulty_line-clause-reads c =
+    refused_directive c.args.hash c.args.self.now _ c.in-Err-skip_faulty_line.refused _ (c.in-Err-skip_faulty_line.ensures {u = tt}).only
+    (ap Err (c.from-in-Err-skip_faulty_line.ensures ∙ ap exit_of (c.in_text.ensures ∙ ap (λ text. placed_halt_of text c.in-Err-skip_faulty_line.refused) c.text-text.ensures)))
 
-pub returns-in_ok-skip_faulty_line-in-Err-Fault-clause-errors : goal.returns-in_ok-skip_faulty_line-in-Err-Fault-clause-errors
-returns-in_ok-skip_faulty_line-in-Err-Fault-clause-errors c = λ reported.
-    let read = rw c.in-Err-Fault.field-0-is at c.in-Err-Fault.ensures in
-    rest_passed (unplaced c.in-Err-Fault.fault) c.args.self.now c.read_directive.new.self c.skip_faulty_line.new.self read.acts.1.rules read.errors
-    c.in_ok-skip_faulty_line-in-Err-Fault.ensures.skips
+pub returns-in_default-clause-reads : goal.returns-in_default-clause-reads
+returns-in_default-clause-reads c =
+    let found = sym c.in-Fault.is ∙ rw c.text-text.ensures at c.placed_at.ensures in
+    record {
+      given = Err c.in-Err.halt;
+      mid = c.read_directive.new.self;
+      gives = rw c.in-Err.is at c.read_directive.ensures;
+      skips = rw (← found) (c.in_default.ensures {u = tt}).skips;
+      is = ap (λ (h : PlacedHalt). Err (exit_of h)) found;
+    }
+
+pub returns-in_default-clause-errors : goal.returns-in_default-clause-errors
+returns-in_default-clause-errors c = λ reported.
+    let found = sym c.in-Fault.is ∙ rw c.text-text.ensures at c.placed_at.ensures in
+    let met = directive_met c.args.hash c.args.self.now c.read_directive.new.self c.in-Err.halt c.in-Fault.fault found (rw c.in-Err.is at c.read_directive.ensures) in
+    rest_passed (unplaced c.in-Fault.fault) c.args.self.now c.read_directive.new.self c.skip_faulty_line.new.self met.0 met.1 (c.in_default.ensures {u = tt}).skips

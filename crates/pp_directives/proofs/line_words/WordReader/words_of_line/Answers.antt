@@ -1,6 +1,6 @@
 use Rattle.std.proofs.Common.{◌∙◌, sym, subst}
 use Rattle.std.proofs.lemmas.List.Elements.{All-map}
-use Rattle.pp_model.specs.Painting.{unpainted}
+use Rattle.pp_model.specs.Painting.{read_in}
 use Rattle.pp_model.specs.declared.read.Read.{Read}
 use Rattle.pp_macros.specs.Held.{HoldsOrdinary}
 use Rattle.pp_macros.specs.inner.Reading.{AllReadOrdinary}
@@ -8,4 +8,4 @@ use Rattle.pp_directives.proofs.line_words.WordReader.words_of_line.Goals as goa
 
 pub line-lexer-requires : goal.line-lexer-requires
 line-lexer-requires c = subst AllReadOrdinary (sym (c.deref_mut.ensures.value ∙ c.into_reads-reads.ensures))
-    (All-map (λ (read : Read). HoldsOrdinary read.token.value) unpainted c.args.tokens c.requires)
+    (All-map (λ (read : Read). HoldsOrdinary read.token.value) (read_in c.args.tokens.text) c.args.tokens.tokens c.requires.ordinary)

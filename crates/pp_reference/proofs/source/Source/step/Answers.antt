@@ -5,6 +5,7 @@ use Rattle.pp_reference.specs.inner.Acting.{arrived}
 use Rattle.pp_reference.specs.inner.ReaderState.{reader_of}
 use Rattle.pp_model.specs.declared.step.Step.{Step}
 use Rattle.pp_model.specs.declared.step.Step.TheVariants as step
+use Rattle.pp_model.specs.Painting.{taken_of}
 use Rattle.pp_model.proofs.ReadsLemmas.{act_does}
 use Rattle.pp_reference.proofs.SourceStepLemmas.{comes, step_defines, step_decides, step_renumbers, ok_more}
 use Rattle.pp_reference.proofs.source.Source.step.Goals as goal
@@ -20,7 +21,7 @@ returns-in-Given-clause-steps c =
     let after = reader_of c.act.new.self in
     act_does (answers_at expansion_limit) (step.Given c.in-Given.outcome) after (reader_of c.args.self.now.reader) _ after
     ((c.in_ok-act.ensures {u = tt}).acts ∙ ap (λ (s : Step). comes s (arrived s after)) c.in-Given.is)
-    (ap Some c.unpainted.ensures, refl)
+    (ap Some (c.of_text.ensures ∙ ap (λ text. taken_of text c.in-Given.outcome) c.text-text.ensures), refl)
 
 pub returns-in-Defines-clause-steps : goal.returns-in-Defines-clause-steps
 returns-in-Defines-clause-steps c =
@@ -28,7 +29,7 @@ returns-in-Defines-clause-steps c =
     ok_more _ _ c.define.result
     (λ o by. step_defines (answers_at expansion_limit) (reader_of c.args.self.now.reader) after c.in-Defines.named o _
     ((c.in_ok-act.ensures {u = tt}).acts ∙ ap (λ (s : Step). comes s (arrived s after)) c.in-Defines.is) by)
-    c.define.ensures
+    (rw c.text-text.ensures at c.define.ensures)
 
 pub returns-in-Condition-clause-steps : goal.returns-in-Condition-clause-steps
 returns-in-Condition-clause-steps c =

@@ -18,7 +18,7 @@ returns-in_err-token-clause-turns c =
 
 pub returns-then-gives_itself-clause-turns : goal.returns-then-gives_itself-clause-turns
 returns-then-gives_itself-clause-turns c =
-    rw c.unpainted.ensures (
+    rw (c.of_text.ensures, c.text-text.ensures) (
     let idle = is_idle-idle _ (sym c.is_idle.ensures ∙ c.if-is_idle.true) in
     idle_token expansion_limit c.args.source.now c.step.new.self c.args.expander.now.here c.in_ok-token.token idle
     ((c.in_ok-token.ensures {u = tt}).reads, (c.in_ok-token.ensures {u = tt}).errors) (rw c.definitions.ensures at (sym c.gives_itself.ensures ∙ c.if-gives_itself.true)))
@@ -29,7 +29,7 @@ returns-in_err-hold_word-clause-turns c =
     let idle = is_idle-idle _ (sym c.is_idle.ensures ∙ c.if-is_idle.true) in
     idle_fault expansion_limit c.args.source.now c.step.new.self c.args.expander.now.here c.hold_word.new.expander.here c.in_ok-token.token
     c.in_err-hold_word.field-0.0 _ idle ((c.in_ok-token.ensures {u = tt}).reads, (c.in_ok-token.ensures {u = tt}).errors)
-    c.in_err-hold_word.ensures.holds (e.1 ∙ ap Err e.2)
+    (rw c.text-text.ensures at c.in_err-hold_word.ensures.holds) (e.1 ∙ ap Err e.2)
 
 pub returns-clause-turns : goal.returns-clause-turns
 returns-clause-turns c = elim c.if-is_idle.branch [
@@ -37,7 +37,7 @@ returns-clause-turns c = elim c.if-is_idle.branch [
       let idle = is_idle-idle _ (sym c.is_idle.ensures ∙ w.if-is_idle.true) in
       idle_word expansion_limit c.args.source.now w.step.new.self c.args.expander.now.here w.hold_word.new.expander.here c.turn_expander.new.expander.here
       c.turn_expander.new.source w.in_ok-token.token c.turn_expander.result idle
-      ((w.in_ok-token.ensures {u = tt}).reads, (w.in_ok-token.ensures {u = tt}).errors) w.in_ok-hold_word.ensures.holds
+      ((w.in_ok-token.ensures {u = tt}).reads, (w.in_ok-token.ensures {u = tt}).errors) (rw w.text-text.ensures at w.in_ok-hold_word.ensures.holds)
       (rw (w.expander-is, w.source-is) at c.turn_expander.ensures.turns)
   | else-is_idle w ↦ rw (w.expander-is, w.source-is) at c.turn_expander.ensures.turns
 ]

@@ -31,7 +31,7 @@ words-preserved g c =
       rules = word.next.rules ∙ before.rules;
       giving = λ start first p.
           giving_word _ start _ first _ (before.giving start first p) before.reads.unspent c.in-Some.word _ c.of_word.result _ word
-          c.of_word.ensures.token c.of_word.ensures.origin (c.in_ok-take.ensures {u = tt});
+          c.of_word.ensures.token (rw c.source_text.ensures at c.of_word.ensures.origin) (c.in_ok-take.ensures {u = tt});
     }
 
 pub words-smaller : goal.words-smaller

@@ -3,7 +3,7 @@ use Rattle.std.specs.Prelude.{not}
 use Rattle.pp_model.specs.declared.splice.Origin.{Origin}
 use Rattle.pp_macros.specs.inner.Idle.{is_idle}
 use Rattle.pp_directives.specs.WordTokens.{word_token}
-use Rattle.pp_model.specs.Painting.{unpainted}
+use Rattle.pp_model.specs.Painting.{read_in}
 use Rattle.pp_directives.specs.inner.PlainText.{IsInText}
 use Rattle.pp_rs.specs.Kept.{Preprocessing, is_spent, rules_of}
 use Rattle.pp_rs.proofs.runs.CallPlaceLemmas.{call_outside, text_kept}
@@ -58,7 +58,7 @@ pub invariant_of-self : goal.invariant_of-self
 invariant_of-self c = (
   λ e.
       let takes = rw c.in-Some-default-None.field-0-1-is at c.in-Some-default-None.ensures.gives in
-      token_fits _ _ _ _ _ _ c.words.invariant.reached (unpainted (word_token c.in-Some-default-None.word))
+      token_fits _ _ _ _ _ _ c.words.invariant.reached (read_in _ (word_token c.in-Some-default-None.word))
       (word_over _ _ _ (word_token c.in-Some-default-None.word) c.words.invariant.idle takes.step takes.does),
   c.words.invariant.alone,
   λ _. record { idle = c.words.invariant.idle; text = c.next_word.ensures.stays; unspent = c.words.invariant.unspent },
@@ -67,12 +67,13 @@ invariant_of-self c = (
 pub returns-in-Some-default-None-clause-gives : goal.returns-in-Some-default-None-clause-gives
 returns-in-Some-default-None-clause-gives c =
     let takes = rw c.in-Some-default-None.field-0-1-is at c.in-Some-default-None.ensures.gives in
+    let set = rw (c.text.ensures, c.next_word.ensures.text) at c.set_text.ensures in
     record {
-      next = next_token _ _ _ _ _ _ c.words.invariant.reached c.args.self.now c.requires.unspent refl refl c.words.invariant.ruled (unpainted (word_token c.in-Some-default-None.word))
-          c.words.self-inside.spent c.words.self-inside.place c.set_text.new.self c.words.self-inside.name_call c.words.invariant.unspent c.words.invariant.placed c.set_text.ensures
+      next = next_token _ _ _ _ _ _ c.words.invariant.reached c.args.self.now c.requires.unspent refl refl c.words.invariant.ruled (read_in _ (word_token c.in-Some-default-None.word))
+          c.words.self-inside.spent c.words.self-inside.place c.set_text.new.self c.words.self-inside.name_call c.words.invariant.unspent c.words.invariant.placed set
           (idle_call c.words.self-inside.expander.here _ _ c.words.invariant.idle)
           (word_over _ _ _ (word_token c.in-Some-default-None.word) c.words.invariant.idle takes.step takes.does) takes.holds;
-      text = text_kept _ ∙ ap (λ (o : Origin). o.text) c.set_text.ensures;
+      text = text_kept _ ∙ ap (λ (o : Origin). o.text) c.set_text.ensures ∙ c.text.ensures;
       call = call_outside _ c.words.invariant.idle (ap (λ (o : Origin). o.call) c.set_text.ensures);
       plain = record { no_hash = takes.no_hash; ascii = takes.ascii };
       reads = record { idle = c.words.invariant.idle; text = c.next_word.ensures.stays; unspent = c.words.invariant.unspent };
@@ -88,7 +89,7 @@ pub invariant_of-self-in-Ok : goal.invariant_of-self-in-Ok
 invariant_of-self-in-Ok c = (
   λ e.
       let takes = rw c.in-Some-default-Some.field-0-1-is at c.in-Some-default-Some.ensures.gives in
-      let opens = rw c.definitions-definitions.ensures at c.in-Ok.ensures.opens in
+      let opens = rw (c.definitions-definitions.ensures, c.text-text.ensures, c.next_word.ensures.text) at c.in-Ok.ensures.opens in
       let on = reached_more _ _ _ _ _ _ c.words.invariant.reached (bare_over _ _ _ _ _ c.words.invariant.idle takes _ opens) in
       (on.fit, on.reported),
   c.open_numbered.ensures.below ∙ c.words.invariant.alone,
@@ -98,7 +99,7 @@ invariant_of-self-in-Ok c = (
 pub returns-in-Ok-clause-gives : goal.returns-in-Ok-clause-gives
 returns-in-Ok-clause-gives c =
     let takes = rw c.in-Some-default-Some.field-0-1-is at c.in-Some-default-Some.ensures.gives in
-    let opens = rw c.definitions-definitions.ensures at c.in-Ok.ensures.opens in
+    let opens = rw (c.definitions-definitions.ensures, c.text-text.ensures, c.next_word.ensures.text) at c.in-Ok.ensures.opens in
     let turns = bare_over _ _ _ _ _ c.words.invariant.idle takes _ opens in
     record {
       passed = passed_pauses c.args.self.now _ _ _ _ _ _ _ (reached_more _ _ _ _ _ _ c.words.invariant.reached turns) c.requires.unspent
