@@ -140,8 +140,8 @@ fn open_numbered(
     line: u32,
 ) -> Result<(), AllocError>
     requires { (known : Name) × IsBare definitions.now id known }
-    ensures opens { OnOk result (OpensNumbered definitions.now text id (record { start = start; end = end; line = line })
-        expander.old.here expander.new.here) }
+    ensures opens { OnOk result (OpensNumbered definitions.now text id
+        (record { start = start; end = end; line = line }) expander.old.here expander.new.here) }
     ensures below { expander.new.below ≡ expander.old.below }
 {
     let Some(found) = definitions.get_define(id) else {
