@@ -1,16 +1,6 @@
-"""Lines that are too wide: of specs/, of comments of src/, and of code in the docs."""
-import re
+"""Lines that are too wide: of specs/, of src/, and of code in the docs."""
 
 WIDEST = 120
-COMMENT = re.compile(r'\s*//')
-
-
-def of_specs(text):
-    return numbered(text)
-
-
-def of_comments(text):
-    return [(number, line) for number, line in numbered(text) if COMMENT.match(line)]
 
 
 def of_code(text):
@@ -30,9 +20,9 @@ def numbered(text):
 
 def read_lines(root):
     """The files of a repository that are checked, each with its lines that are."""
-    for folder, lines_of in (('specs/**/*.antt', of_specs), ('src/**/*.rt', of_comments)):
-        for path in sorted(root.glob(f'crates/*/{folder}')):
-            yield path, lines_of(path.read_text())
+    for files in ('specs/**/*.antt', 'src/**/*.rt'):
+        for path in sorted(root.glob(f'crates/*/{files}')):
+            yield path, numbered(path.read_text())
     for path in [root / 'README.md', *sorted((root / 'docs').glob('*.md'))]:
         yield path, of_code(path.read_text())
 
