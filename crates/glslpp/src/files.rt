@@ -8,7 +8,7 @@ use std::os::unix::fs::MetadataExt;
 use std::{fs, io};
 
 /// Returns the failure for a command line that can't be read, which names the first word that isn't UTF-8.
-pub fn unread_words(rt: &HostRuntime, error: io::Error) -> Failure {
+pub(crate) fn unread_words(rt: &HostRuntime, error: io::Error) -> Failure {
     let Ok(line) = fs::read(rt, COMMAND_LINE) else {
         return failure_of(rt.alloc(), "the command line", error);
     };
@@ -27,7 +27,7 @@ pub fn unread_words(rt: &HostRuntime, error: io::Error) -> Failure {
 const COMMAND_LINE: &str = "/proc/self/cmdline";
 
 /// Reads a file, or the standard input.
-pub fn read(rt: &HostRuntime, file: &str) -> io::Result<Vec<u8>> {
+pub(crate) fn read(rt: &HostRuntime, file: &str) -> io::Result<Vec<u8>> {
     if file != STANDARD_INPUT {
         return fs::read(rt, file);
     }
@@ -37,7 +37,7 @@ pub fn read(rt: &HostRuntime, file: &str) -> io::Result<Vec<u8>> {
 }
 
 /// Returns whether two names are those of one file.
-pub fn is_same(rt: &HostRuntime, first: &str, second: &str) -> bool {
+pub(crate) fn is_same(rt: &HostRuntime, first: &str, second: &str) -> bool {
     match (fs::metadata(rt, first), fs::metadata(rt, second)) {
         (Ok(first), Ok(second)) => first.dev() == second.dev() && first.ino() == second.ino(),
         _ => false,
@@ -45,7 +45,7 @@ pub fn is_same(rt: &HostRuntime, first: &str, second: &str) -> bool {
 }
 
 /// Returns whether a name is that of a folder.
-pub fn is_folder(rt: &HostRuntime, name: &str) -> bool {
+pub(crate) fn is_folder(rt: &HostRuntime, name: &str) -> bool {
     match fs::metadata(rt, name) {
         Ok(found) => found.is_dir(),
         Err(_) => false,
@@ -53,7 +53,7 @@ pub fn is_folder(rt: &HostRuntime, name: &str) -> bool {
 }
 
 /// Prints the output. A reader that closes it early is no failure.
-pub fn print(rt: &HostRuntime, output: &str) -> io::Result<()> {
+pub(crate) fn print(rt: &HostRuntime, output: &str) -> io::Result<()> {
     match rt.stdout().write_all(output.as_bytes()) {
         Err(error) if error.kind() == ErrorKind::BrokenPipe => Ok(()),
         end => end,
@@ -62,7 +62,7 @@ pub fn print(rt: &HostRuntime, output: &str) -> io::Result<()> {
 
 /// Writes a file whole or not at all: into a temporary file beside it, which is then renamed. What isn't a regular
 /// file, such as a device, is written as it is.
-pub fn write(rt: &HostRuntime, file: &str, output: &str) -> io::Result<()> {
+pub(crate) fn write(rt: &HostRuntime, file: &str, output: &str) -> io::Result<()> {
     let old = match fs::metadata(rt, file) {
         Ok(found) if !found.is_file() => return fs::write(rt, file, output),
         Ok(found) => Some(found),

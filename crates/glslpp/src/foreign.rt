@@ -36,7 +36,7 @@ const REFUSALS: [(&str, &str); 18] = [
 ];
 
 /// Returns why a word of the command line is refused, if it is an option of another preprocessor.
-pub fn refusal_of(word: &str) -> Option<&'static str> {
+pub(crate) fn refusal_of(word: &str) -> Option<&'static str> {
     for (start, refusal) in REFUSALS {
         if word.starts_with(start) {
             return Some(refusal);

@@ -1,6 +1,6 @@
 //! From errors to messages: the library's sentences, and what the source adds to them.
 
-ghost use Rattle.std.specs.Prelude.{◌-◌, ◌^◌, ◌<◌, IfOk, IfSome, length};
+ghost use Rattle.std.specs.Prelude.{◌≡◌, ◌-◌, ◌^◌, ◌<◌, IfOk, IfSome, None, length};
 ghost use Rattle.pp_rs.specs.Sentences.{sentence_of};
 ghost use Rattle.glslpp_parts.specs.Reports.{IsErrorMessage};
 
@@ -50,6 +50,11 @@ impl<'a> Explainer<'a> {
         rules: Rules,
     ) -> Explainer<'a>
         requires { length source.now < 2 ^ 32 - 1 }
+        ensures source { result.source.now ≡ source.now }
+        ensures texts { result.texts.now ≡ texts.now }
+        ensures replaced { result.replaced.now ≡ replaced.now }
+        ensures rules { result.rules ≡ rules }
+        ensures outline { result.outline ≡ None }
     {
         Explainer {
             alloc,

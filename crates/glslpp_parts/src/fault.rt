@@ -1,7 +1,7 @@
 //! Errors that the library lets pass: comments that aren't closed, and `#version` and `#extension` lines that aren't
 //! GLSL's.
 
-ghost use Rattle.std.specs.Prelude.{◌≡◌, IfOk, IfSome};
+ghost use Rattle.std.specs.Prelude.{◌≡◌, IfOk, IfSome, None};
 ghost use Rattle.glslpp_parts.specs.Faults.{name_of, IsError};
 
 use crate::diagnostic::{Diagnostic, Note, Severity, Site};
@@ -66,7 +66,10 @@ pub struct FaultFinder<'a> {
 
 impl<'a> FaultFinder<'a> {
     /// A finder that has seen no directive yet.
-    pub fn new(alloc: Global, texts: &'a Texts<'a>) -> FaultFinder<'a> {
+    pub fn new(alloc: Global, texts: &'a Texts<'a>) -> FaultFinder<'a>
+        ensures texts { result.texts.now ≡ texts.now }
+        ensures version { result.version ≡ None }
+    {
         FaultFinder {
             alloc,
             texts,
