@@ -39,25 +39,23 @@ impl Model for IfParser {
 impl IfParser {
     /// Reads the words of a line of this kind.
     ///
-    /// `directive` is the place of the directive's word, and `tokens` are those after it. The only error is that an
-    /// allocation failed.
+    /// `tokens` are those after the directive's word, with its place. The only error is that an allocation failed.
     pub fn new(
         alloc: Global,
         kind: LineKind,
-        directive: Place,
         tokens: LineReads,
         scope: &Scope<'_>,
         counts: &mut SpareCounts,
     ) -> Result<IfParser, AllocError>
-        requires ordinary { AllHoldOrdinary tokens.tokens }
-        requires text { tokens.text ≡ directive.text }
-        ensures { IfOk result (IsAtFront kind directive tokens.tokens scope.now.numbering scope.now.definitions.now) }
+        requires { AllHoldOrdinary tokens.tokens }
+        ensures { IfOk result (IsAtFront kind tokens.directive tokens.tokens scope.now.numbering
+            scope.now.definitions.now) }
     {
         let levels = expansion_limit();
         Ok(IfParser {
             alloc,
-            directive,
-            words: line_words(alloc, kind, directive, tokens, scope, levels, counts)?,
+            directive: tokens.directive(),
+            words: line_words(alloc, kind, tokens, scope, levels, counts)?,
         })
     }
 

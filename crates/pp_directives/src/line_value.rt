@@ -1,6 +1,5 @@
 //! The value of an `#if`, `#elif` or `#line` line.
 
-ghost use Rattle.std.specs.Prelude.{◌≡◌};
 ghost use Rattle.pp_model.specs.Emitting.{answers_at, expansion_limit};
 ghost use Rattle.pp_model.specs.LineValues.{IsCondition, IsLineNumber};
 ghost use Rattle.pp_macros.specs.inner.Defined.{meaning_of};
@@ -15,27 +14,24 @@ use pp_macros::halt::PlacedHalt;
 use pp_macros::list_lexer::Scope;
 use pp_macros::macro_processor::SpareCounts;
 use pp_model::numbering::as_line_number;
-use pp_model::place::Place;
 use pp_model::word::LineKind;
 use std::alloc::{AllocError, Global};
 
 /// Whether the condition of an `#if` or `#elif` line holds, or its first fault.
 ///
-/// `directive` is the place of the directive's word, and `tokens` are those after it. The error is
-/// the fault, or `OutOfMemory` if an allocation failed.
+/// `tokens` are those after the directive's word, with its place. The error is the fault, or
+/// `OutOfMemory` if an allocation failed.
 pub fn condition(
     alloc: Global,
-    directive: Place,
     tokens: LineReads,
     scope: &Scope<'_>,
     counts: &mut SpareCounts,
 ) -> Result<bool, PlacedHalt>
-    requires ordinary { AllHoldOrdinary tokens.tokens }
-    requires text { tokens.text ≡ directive.text }
-    ensures { Satisfies result (IsCondition (answers_at expansion_limit) directive tokens.tokens
+    requires { AllHoldOrdinary tokens.tokens }
+    ensures { Satisfies result (IsCondition (answers_at expansion_limit) tokens.directive tokens.tokens
         scope.now.numbering (meaning_of scope.now.definitions.now)) }
 {
-    let mut parser = IfParser::new(alloc, LineKind::Condition, directive, tokens, scope, counts)?;
+    let mut parser = IfParser::new(alloc, LineKind::Condition, tokens, scope, counts)?;
     let value = parser.evaluate_line()?;
     Ok(value != 0)
 }
@@ -75,28 +71,20 @@ impl From<PlacedHalt> for LineHalt {
 
 /// The line number of a `#line`, or its first fault with any number that comes before it.
 ///
-/// `directive` is the place of the directive's word, and `tokens` are those after it. The error is
-/// the fault, or `OutOfMemory` if an allocation failed.
+/// `tokens` are those after the directive's word, with its place. The error is the fault, or
+/// `OutOfMemory` if an allocation failed.
 pub fn line_number(
     alloc: Global,
-    directive: Place,
     tokens: LineReads,
     scope: &Scope<'_>,
     counts: &mut SpareCounts,
 ) -> Result<u32, LineHalt>
-    requires ordinary { AllHoldOrdinary tokens.tokens }
-    requires text { tokens.text ≡ directive.text }
-    ensures { Satisfies (without_number result) (IsLineNumber (answers_at expansion_limit) directive tokens.tokens
-        scope.now.numbering (meaning_of scope.now.definitions.now)) }
+    requires { AllHoldOrdinary tokens.tokens }
+    ensures { Satisfies (without_number result) (IsLineNumber (answers_at expansion_limit) tokens.directive
+        tokens.tokens scope.now.numbering (meaning_of scope.now.definitions.now)) }
 {
-    let mut parser = IfParser::new(
-        alloc,
-        LineKind::LineNumber,
-        directive,
-        tokens,
-        scope,
-        counts,
-    )?;
+    let directive = tokens.directive();
+    let mut parser = IfParser::new(alloc, LineKind::LineNumber, tokens, scope, counts)?;
     let value = parser.evaluate_expression()?;
     let Some(number) = as_line_number(value) else {
         return Err(LineHalt::from(PlacedHalt::Fault((PreprocessorError::LineOverflow, directive))));

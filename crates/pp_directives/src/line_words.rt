@@ -251,49 +251,33 @@ impl<'a> WordReader<'a> {
             }
         }
     }
-
-    // The words of a line.
-    fn words_of_line(
-        &self,
-        tokens: LineReads,
-        counts: &mut SpareCounts,
-    ) -> Result<Words, AllocError>
-        requires ordinary { AllHoldOrdinary tokens.tokens }
-        requires text { tokens.text ≡ self.now.directive.text }
-        ensures { IfOk result (AreWordsOfLine self.now.kind self.now.directive self.now.levels tokens.tokens
-            self.now.scope.numbering self.now.scope.definitions.now) }
-    {
-        let expander = MacroProcessor::with_counts(self.alloc, counts.take(self.alloc));
-        let mut reads = tokens.into_reads();
-        let lexer = ListLexer::line(&mut reads, self.scope);
-        let mut line = LineExpander { expander, lexer };
-        let words = self.read_words(&mut line);
-        *counts = close_line(line);
-        words
-    }
 }
 
 /// The words of a line, and the fault that ends their reading, if there is one.
 pub fn line_words(
     alloc: Global,
     kind: LineKind,
-    directive: Place,
     tokens: LineReads,
     scope: &Scope<'_>,
     levels: u32,
     counts: &mut SpareCounts,
 ) -> Result<Words, AllocError>
-    requires ordinary { AllHoldOrdinary tokens.tokens }
-    requires text { tokens.text ≡ directive.text }
-    ensures { IfOk result (AreWordsOfLine kind directive levels tokens.tokens scope.now.numbering
+    requires { AllHoldOrdinary tokens.tokens }
+    ensures { IfOk result (AreWordsOfLine kind tokens.directive levels tokens.tokens scope.now.numbering
         scope.now.definitions.now) }
 {
     let reader = WordReader {
         alloc,
         kind,
-        directive,
+        directive: tokens.directive(),
         scope: *scope,
         levels,
     };
-    reader.words_of_line(tokens, counts)
+    let expander = MacroProcessor::with_counts(alloc, counts.take(alloc));
+    let mut reads = tokens.into_reads();
+    let lexer = ListLexer::line(&mut reads, *scope);
+    let mut line = LineExpander { expander, lexer };
+    let words = reader.read_words(&mut line);
+    *counts = close_line(line);
+    words
 }

@@ -26,7 +26,7 @@ use pp_macros::define::Define;
 use pp_macros::halt::Halt;
 use pp_model::conversion::{convert_lexer_token, refused_token};
 use pp_model::names::is_own_name;
-use pp_model::place::SOURCE_TEXT;
+use pp_model::place::{Place, SOURCE_TEXT};
 use std::alloc::Global;
 
 /// The next token. The end of the source is an error at the directive's word.
@@ -265,7 +265,7 @@ fn read_line<T: TokenList>(
     requires left { IfSome first (λ t. lexer.old.rest ≢ []) }
     requires empty { T.tokens tokens.old ≡ [] }
     ensures reads { ReadsTokens (λ _. T.tokens tokens.new) first lexer.old result lexer.new }
-    ensures text { OnOk result (T.text tokens.new ≡ T.text tokens.old) }
+    ensures directive { OnOk result (T.directive tokens.new ≡ T.directive tokens.old) }
 {
     let mut next = first;
     while let Some(token) = next {
@@ -304,15 +304,19 @@ pub fn rest_of_line(alloc: Global, lexer: &mut SourceLexer<'_>) -> Result<Vec<To
     line_tokens_from(alloc, first, lexer)
 }
 
-/// The tokens of the rest of the line, which is of this text, for an expander.
-pub fn line_reads(alloc: Global, text: u32, lexer: &mut SourceLexer<'_>) -> Result<LineReads, Halt>
+/// The tokens of the rest of the line, for an expander. `directive` is the place of the word before them.
+pub fn line_reads(
+    alloc: Global,
+    directive: Place,
+    lexer: &mut SourceLexer<'_>,
+) -> Result<LineReads, Halt>
     requires { lexer.old.spent ≡ false }
     ensures reads { ReadsLine (λ line. line.tokens) line_tokens lexer.old result lexer.new }
-    ensures text { IfOk result (λ line. line.text ≡ text) }
+    ensures directive { IfOk result (λ line. line.directive ≡ directive) }
     ensures ordinary { IfOk result (λ line. AreOrdinary line.tokens) }
 {
     let first = next_line_token(alloc, lexer)?;
-    let mut tokens = LineReads::new(alloc, text)?;
+    let mut tokens = LineReads::new(alloc, directive)?;
     read_line(alloc, first, lexer, &mut tokens)?;
     Ok(tokens)
 }

@@ -1,10 +1,12 @@
 //! Lists into which the tokens of a line are read.
 
-ghost use Rattle.std.specs.Prelude.{◌≡◌, ◌∷◌, ◌++◌, List, [], ℕ, Option, Some, None, OnOk, IfOk, map};
+ghost use Rattle.std.specs.Prelude.{◌≡◌, ◌∷◌, ◌++◌, List, [], Option, Some, None, OnOk, IfOk, map};
 ghost use Rattle.pp_lexer.specs.declared.token.Token.{Token};
+ghost use Rattle.pp_model.specs.declared.place.Place.{Place};
 ghost use Rattle.pp_model.specs.Painting.{read_in};
 
 use pp_lexer::token::Token;
+use pp_model::place::Place;
 use pp_model::read::Read;
 use std::alloc::{AllocError, Global};
 use std::marker::Model;
@@ -14,19 +16,19 @@ pub trait TokenList {
     // The tokens.
     ghost tokens: { Self → List Token };
 
-    // The number of their text, if it is kept with them.
-    ghost text: { Self → Option ℕ };
+    // The place of the word of their directive, if it is kept with them.
+    ghost directive: { Self → Option Place };
 
     /// Puts the token after the others.
     fn put(&mut self, token: Token) -> Result<(), AllocError>
         ensures tokens { OnOk result (tokens self.new ≡ tokens self.old ++ token ∷ []) }
-        ensures text { OnOk result (text self.new ≡ text self.old) };
+        ensures directive { OnOk result (directive self.new ≡ directive self.old) };
 }
 
 impl TokenList for Vec<Token> {
     ghost tokens = { λ list. list.items };
 
-    ghost text = { λ list. None };
+    ghost directive = { λ list. None };
 
     #[inline(always)]
     fn put(&mut self, token: Token) -> Result<(), AllocError> {
@@ -35,11 +37,11 @@ impl TokenList for Vec<Token> {
     }
 }
 
-/// The tokens of a line that is expanded, as an expander reads them: none is painted. Contracts see the number of the
-/// line's text, and the tokens.
+/// The line of an `#if`, `#elif` or `#line`: the place of that word, and the tokens after it as an expander reads them,
+/// none of them painted. They are of the text in which the place is. Contracts see the place and the tokens.
 #[derive(Drop)]
 pub struct LineReads {
-    text: u32,
+    directive: Place,
     reads: Vec<Read>,
 }
 
@@ -50,23 +52,30 @@ impl Model for LineReads {
 
     ghost Value = { LineTokens };
 
-    ghost view = { λ line. record { text = line.text; tokens = tokens_of line.reads.items } };
+    ghost view = { λ line. record { directive = line.directive; tokens = tokens_of line.reads.items } };
 
-    ghost invariant = { λ line. line.reads.items ≡ map (read_in line.text) (tokens_of line.reads.items) };
+    ghost invariant = { λ line. line.reads.items ≡ map (read_in line.directive.text) (tokens_of line.reads.items) };
 }
 
 impl LineReads {
-    /// No tokens of this text, with room for those of a short line.
-    pub fn new(alloc: Global, text: u32) -> Result<LineReads, AllocError>
-        ensures { IfOk result (λ line. line ≡ record { text = text; tokens = [] }) }
+    /// No tokens after the word at this place, with room for those of a short line.
+    pub fn new(alloc: Global, directive: Place) -> Result<LineReads, AllocError>
+        ensures { IfOk result (λ line. line ≡ record { directive = directive; tokens = [] }) }
     {
         let reads = Vec::with_capacity(alloc, 16)?;
-        Ok(LineReads { text, reads })
+        Ok(LineReads { directive, reads })
+    }
+
+    /// The place of the word.
+    pub fn directive(&self) -> Place
+        ensures { result ≡ self.now.directive }
+    {
+        self.directive
     }
 
     /// The tokens as an expander reads them.
     pub fn into_reads(self) -> Vec<Read>
-        ensures { result.items ≡ map (read_in self.text) self.tokens }
+        ensures { result.items ≡ map (read_in self.directive.text) self.tokens }
     {
         self.reads
     }
@@ -75,11 +84,11 @@ impl LineReads {
 impl TokenList for LineReads {
     ghost tokens = { λ list. list.tokens };
 
-    ghost text = { λ list. Some list.text };
+    ghost directive = { λ list. Some list.directive };
 
     #[inline(always)]
     fn put(&mut self, token: Token) -> Result<(), AllocError> {
-        self.reads.push(Read::of_text(token, self.text))?;
+        self.reads.push(Read::of_text(token, self.directive.text))?;
         Ok(())
     }
 }

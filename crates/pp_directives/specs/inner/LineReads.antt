@@ -1,11 +1,12 @@
 -- The tokens of a line that is expanded, as an expander reads them.
-use Rattle.std.specs.Prelude.{ℕ, List, map}
+use Rattle.std.specs.Prelude.{List, map}
 use Rattle.pp_lexer.specs.declared.token.Token.{Token}
+use Rattle.pp_model.specs.declared.place.Place.{Place}
 use Rattle.pp_model.specs.declared.read.Read.{Read}
 
--- the number of the line's text, and the tokens of the line
+-- the place of the directive's word, and the tokens after it
 pub record LineTokens : Type 0 where
-  pub text : ℕ
+  pub directive : Place
   pub tokens : List Token
 
 -- the tokens without their paint

@@ -107,13 +107,13 @@ impl<'a> DirectiveProcessor<'a> {
         ensures { Acts unchanged (moves.line_move (line_tokens self.old.rest)
             (moves.renumbers word) self.old.rest) self.old result self.new }
     {
-        let tokens = line_reads(self.alloc, self.text, &mut self.lexer)?;
+        let place = Place::in_text(self.text, word);
+        let tokens = line_reads(self.alloc, place, &mut self.lexer)?;
         let scope = Scope {
             numbering: self.list_numbering(),
             definitions: &self.definitions,
         };
-        let place = Place::in_text(self.text, word);
-        match line_number(self.alloc, place, tokens, &scope, &mut self.counts) {
+        match line_number(self.alloc, tokens, &scope, &mut self.counts) {
             Ok(number) => {
                 self.count_from(word.line, number);
                 Ok(())

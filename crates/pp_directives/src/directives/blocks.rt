@@ -39,13 +39,13 @@ impl<'a> DirectiveProcessor<'a> {
             (moves.line_move (line_tokens self.old.rest) (moves.decides word) self.old.rest)
             self.old result self.new }
     {
-        let tokens = line_reads(self.alloc, self.text, &mut self.lexer)?;
+        let place = Place::in_text(self.text, word);
+        let tokens = line_reads(self.alloc, place, &mut self.lexer)?;
         let scope = Scope {
             numbering: self.list_numbering(),
             definitions: &self.definitions,
         };
-        let place = Place::in_text(self.text, word);
-        let holds = condition(self.alloc, place, tokens, &scope, &mut self.counts)?;
+        let holds = condition(self.alloc, tokens, &scope, &mut self.counts)?;
         self.blocks.push(OpenBlock::opened(word, holds))?;
         Ok(())
     }
@@ -81,13 +81,13 @@ impl<'a> DirectiveProcessor<'a> {
             self.old result self.new }
     {
         self.blocks.replace_last(block.skipped());
-        let tokens = line_reads(self.alloc, self.text, &mut self.lexer)?;
+        let place = Place::in_text(self.text, word);
+        let tokens = line_reads(self.alloc, place, &mut self.lexer)?;
         let scope = Scope {
             numbering: self.list_numbering(),
             definitions: &self.definitions,
         };
-        let place = Place::in_text(self.text, word);
-        let holds = condition(self.alloc, place, tokens, &scope, &mut self.counts)?;
+        let holds = condition(self.alloc, tokens, &scope, &mut self.counts)?;
         self.blocks.replace_last(block.decided(holds));
         Ok(())
     }

@@ -48,7 +48,7 @@ returns-then-is_none c =
     let fits : FitsSigned w64 c.in_ok-value.value = search rules in
     let some = rw (to_z-of_z w64 c.in_ok-value.value fits) at (sym c.as_line_number.ensures ∙ c.in-Some.is) in
     let last = ap is_none (sym c.peek.ensures) ∙ none_copied c.peek.result ∙ ap not c.is_none.ensures ∙ ap (λ (b : Bool). not (not b)) c.if-is_none.true in
-    alone c.args.directive c.args.tokens.tokens c.args.scope.now.numbering c.args.scope.now.definitions.now c.in_ok-parser.parser _ c.in_ok-parser.ensures c.in_ok-value.value c.in-Some.number
+    alone c.args.tokens.directive c.args.tokens.tokens c.args.scope.now.numbering c.args.scope.now.definitions.now c.in_ok-parser.parser _ c.in_ok-parser.ensures c.in_ok-value.value c.in-Some.number
     c.in_ok-value.ensures.takes some last
 
 pub returns : goal.returns
@@ -57,5 +57,5 @@ returns c =
     let some = rw (to_z-of_z w64 c.in_ok-value.value fits) at (sym c.as_line_number.ensures ∙ c.in-Some.is) in
     let more = ap is_none (sym c.peek.ensures) ∙ none_copied c.peek.result ∙ ap not c.is_none.ensures ∙ ap (λ (b : Bool). not (not b)) c.if-is_none.false in
     satisfies_exit _ c.in-Err.halt _ refl (λ fault same.
-    followed c.args.directive c.args.tokens.tokens c.args.scope.now.numbering c.args.scope.now.definitions.now c.in_ok-parser.parser _ c.in_ok-parser.ensures c.in_ok-value.value c.in-Some.number
+    followed c.args.tokens.directive c.args.tokens.tokens c.args.scope.now.numbering c.args.scope.now.definitions.now c.in_ok-parser.parser _ c.in_ok-parser.ensures c.in_ok-value.value c.in-Some.number
     c.in_ok-value.ensures.takes some fault more (fault_of c.in-Err.halt fault _ same c.in-Err.ensures))

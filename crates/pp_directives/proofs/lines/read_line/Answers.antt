@@ -21,7 +21,7 @@ loop-next-preserved g c =
       next_ordinary = c.in_ok-next.ensures.ordinary;
       comments = comments_more _ _ _ _ _ (rw c.in-Some.is at before.left) n.is n.takes.rest c.in_ok-next.ensures.comments ∙ (rw c.in-Some.is at before.comments);
       left = c.in_ok-next.ensures.left;
-      text = c.in_ok-put.ensures.text ∙ before.text;
+      directive = c.in_ok-put.ensures.directive ∙ before.directive;
     }
 
 pub returns-clause-reads : goal.returns-clause-reads

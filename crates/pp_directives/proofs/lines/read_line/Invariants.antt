@@ -18,7 +18,7 @@ invariant-loop-next g l = record {
   comments : spec.comments_after l.next l.lexer.rest l.lexer.had_comments ≡ spec.comments_after l.initial.next l.initial.lexer.rest
       l.initial.lexer.had_comments;
   left : IfSome l.next (λ t. l.lexer.rest ≢ []);
-  text : g.T.TokenList.text l.tokens ≡ g.T.TokenList.text l.initial.tokens;
+  directive : g.T.TokenList.directive l.tokens ≡ g.T.TokenList.directive l.initial.tokens;
 }
 
 abbrev pub decreases-loop-next : goal.decreases-loop-next

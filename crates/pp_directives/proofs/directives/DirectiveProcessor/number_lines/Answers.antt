@@ -10,7 +10,7 @@ use Rattle.pp_directives.proofs.directives.DirectiveProcessor.number_lines.Goals
 pub returns-in-Ok : goal.returns-in-Ok
 returns-in-Ok c =
     let p = c.self.inside in
-    let number = rw (c.in-Ok.is, c.list_numbering.ensures, c.in_text-place.ensures) at c.line_number.ensures in
+    let number = rw (c.in-Ok.is, c.list_numbering.ensures, c.in_ok-tokens.ensures.directive, c.in_text-place.ensures) at c.line_number.ensures in
     rw (← c.self.view_is, c.count_from.ensures)
     (line_numbers p.rules p.text p.definitions p.blocks p.line_offset p.has_text p.has_directive p.dead_for_good p.contents p.lexer c.line_reads.new.lexer c.args.word
     c.in_ok-tokens.tokens c.in_ok-tokens.ensures.reads c.in-Ok.number _ number refl)
@@ -26,7 +26,7 @@ returns-in_err-tokens c =
 pub returns-in-Some : goal.returns-in-Some
 returns-in-Some c =
     let p = c.self.inside in
-    let number = rw (c.in-Err.is, c.list_numbering.ensures, c.in_text-place.ensures) at c.line_number.ensures in
+    let number = rw (c.in-Err.is, c.list_numbering.ensures, c.in_ok-tokens.ensures.directive, c.in_text-place.ensures) at c.line_number.ensures in
     rw c.from.ensures (numbering_failed c.args.word (of_expansion c.in-Err.unnumbered.halt) _ _ _ _ c.self.view_is (sym c.count_from-in-Some.ensures)
     (number_failed p.rules p.text p.definitions p.blocks p.line_offset p.has_text p.has_directive p.dead_for_good p.contents p.lexer
     c.line_reads.new.lexer c.args.word c.in_ok-tokens.tokens c.in_ok-tokens.ensures.reads _
@@ -35,7 +35,7 @@ returns-in-Some c =
 pub returns-in-None : goal.returns-in-None
 returns-in-None c =
     let p = c.self.inside in
-    let number = rw (c.in-Err.is, c.list_numbering.ensures, c.in_text-place.ensures) at c.line_number.ensures in
+    let number = rw (c.in-Err.is, c.list_numbering.ensures, c.in_ok-tokens.ensures.directive, c.in_text-place.ensures) at c.line_number.ensures in
     rw c.from-in-None.ensures (numbering_failed c.args.word (of_expansion c.in-Err.unnumbered.halt) _ _ _ _ c.self.view_is refl
     (number_failed p.rules p.text p.definitions p.blocks p.line_offset p.has_text p.has_directive p.dead_for_good p.contents p.lexer
     c.line_reads.new.lexer c.args.word c.in_ok-tokens.tokens c.in_ok-tokens.ensures.reads p.line_offset

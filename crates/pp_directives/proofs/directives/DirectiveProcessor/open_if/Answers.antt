@@ -15,7 +15,7 @@ returns c =
     rw (← c.self.view_is)
     (if_opens p.rules p.text p.definitions p.blocks p.line_offset p.has_text p.has_directive p.dead_for_good p.contents p.lexer c.line_reads.new.lexer c.args.word
     c.in_ok-tokens.tokens c.in_ok-tokens.ensures.reads c.in_ok-holds.holds c.push.new.self
-    (rw (c.list_numbering.ensures, c.in_text-place.ensures) at c.in_ok-holds.ensures) (c.in_ok-push.ensures ∙ ap (λ (b : OpenBlock). p.blocks ++ b ∷ []) c.opened.ensures))
+    (rw (c.list_numbering.ensures, c.in_ok-tokens.ensures.directive, c.in_text-place.ensures) at c.in_ok-holds.ensures) (c.in_ok-push.ensures ∙ ap (λ (b : OpenBlock). p.blocks ++ b ∷ []) c.opened.ensures))
 
 pub returns-in_err-tokens : goal.returns-in_err-tokens
 returns-in_err-tokens c =
@@ -31,4 +31,4 @@ returns-in_err-holds c =
     rw (← c.self.view_is, err_result c.from_residual-in_err-holds.result (of_expansion c.in_err-holds.field-0.0) c.from_residual-in_err-holds.ensures.1)
     (condition_failed p.rules p.text p.definitions p.blocks p.line_offset p.has_text p.has_directive p.dead_for_good p.contents p.lexer
     c.line_reads.new.lexer c.args.word c.in_ok-tokens.tokens c.in_ok-tokens.ensures.reads
-    (block_change (Some part.Opens) c.args.word) p.blocks (omega arith) c.in_err-holds.field-0.0 (rw (c.list_numbering.ensures, c.in_text-place.ensures) at c.in_err-holds.ensures))
+    (block_change (Some part.Opens) c.args.word) p.blocks (omega arith) c.in_err-holds.field-0.0 (rw (c.list_numbering.ensures, c.in_ok-tokens.ensures.directive, c.in_text-place.ensures) at c.in_err-holds.ensures))

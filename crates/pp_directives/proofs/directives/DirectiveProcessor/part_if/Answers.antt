@@ -17,7 +17,7 @@ returns c =
     rw (← c.self.view_is)
     (elif_parts p.rules p.text p.definitions p.blocks p.line_offset p.has_text p.has_directive p.dead_for_good p.contents p.lexer c.line_reads.new.lexer c.args.word
     c.in_ok-tokens.tokens c.in_ok-tokens.ensures.reads c.args.block holds c.replace_last-2.new.self
-    (rw (c.list_numbering.ensures, c.in_text-place.ensures) at c.in_ok-holds.ensures) (rw (← c.self.view_is) at c.requires.innermost) (after ∙ ap (λ (b : OpenBlock). outer_blocks p.blocks ++ b ∷ []) c.decided.ensures))
+    (rw (c.list_numbering.ensures, c.in_ok-tokens.ensures.directive, c.in_text-place.ensures) at c.in_ok-holds.ensures) (rw (← c.self.view_is) at c.requires.innermost) (after ∙ ap (λ (b : OpenBlock). outer_blocks p.blocks ++ b ∷ []) c.decided.ensures))
 
 pub returns-in_err-tokens : goal.returns-in_err-tokens
 returns-in_err-tokens c =
@@ -33,4 +33,4 @@ returns-in_err-holds c =
     rw (← c.self.view_is, err_result c.from_residual-in_err-holds.result (of_expansion c.in_err-holds.field-0.0) c.from_residual-in_err-holds.ensures.1)
     (condition_failed p.rules p.text p.definitions p.blocks p.line_offset p.has_text p.has_directive p.dead_for_good p.contents p.lexer
     c.line_reads.new.lexer c.args.word c.in_ok-tokens.tokens c.in_ok-tokens.ensures.reads elif_change
-    c.replace_last.new.self (omega (arith, c.replace_last.ensures.count)) c.in_err-holds.field-0.0 (rw (c.list_numbering.ensures, c.in_text-place.ensures) at c.in_err-holds.ensures))
+    c.replace_last.new.self (omega (arith, c.replace_last.ensures.count)) c.in_err-holds.field-0.0 (rw (c.list_numbering.ensures, c.in_ok-tokens.ensures.directive, c.in_text-place.ensures) at c.in_err-holds.ensures))

@@ -4,8 +4,8 @@ use Rattle.pp_model.specs.Painting.{read_in}
 use Rattle.pp_model.specs.declared.read.Read.{Read}
 use Rattle.pp_macros.specs.Held.{HoldsOrdinary}
 use Rattle.pp_macros.specs.inner.Reading.{AllReadOrdinary}
-use Rattle.pp_directives.proofs.line_words.WordReader.words_of_line.Goals as goal
+use Rattle.pp_directives.proofs.line_words.line_words.Goals as goal
 
 pub line-lexer-requires : goal.line-lexer-requires
 line-lexer-requires c = subst AllReadOrdinary (sym (c.deref_mut.ensures.value ∙ c.into_reads-reads.ensures))
-    (All-map (λ (read : Read). HoldsOrdinary read.token.value) (read_in c.args.tokens.text) c.args.tokens.tokens c.requires.ordinary)
+    (All-map (λ (read : Read). HoldsOrdinary read.token.value) (read_in c.args.tokens.directive.text) c.args.tokens.tokens c.requires)
