@@ -10,7 +10,10 @@ const MOST_FILES: usize = 200;
 /// Returns the words with those of its file in place of each word `@FILE` after the first. Such a word in a file is
 /// replaced too, and one whose file can't be read stays as it is, as with gcc. It fails at a file that isn't UTF-8, and
 /// at the 201st file.
-pub(crate) fn expand_words(rt: &HostRuntime, mut words: Vec<String>) -> Result<Vec<String>, Failure> {
+pub(crate) fn expand_words(
+    rt: &HostRuntime,
+    mut words: Vec<String>,
+) -> Result<Vec<String>, Failure> {
     for _ in 0..MOST_FILES {
         let (expanded, is_found) = expand_first(rt, words)?;
         if !is_found {
