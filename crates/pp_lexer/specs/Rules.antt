@@ -12,6 +12,7 @@ pp_rs = record {
   keeps_own_names = false;
   numbers_next_line = false;
   numbers_as_int = false;
+  asks_includes = false;
 }
 
 -- The first version by which the line after a `#line n` has the number n (GLSL 3.30 and GLSL ES 3.00, section 3.3 and
@@ -30,4 +31,11 @@ glsl version profile = record {
   keeps_own_names = true;
   numbers_next_line = nat_le (numbered_from profile) version;
   numbers_as_int = true;
+  asks_includes = false;
 }
+
+-- the same rules, by which an `#include` line is asked for its text. A name between `"` is no token, so a bad character
+-- takes itself alone, and errors of the lexer in dead text and on lines that are skipped are passed.
+abbrev pub with_includes : Rules → Rules
+with_includes rules =
+    record rules { takes_one_bad_character = true; passes_dead_errors = true; asks_includes = true }

@@ -1,7 +1,7 @@
 //! Which rules a source is read by: pp-rs's or GLSL's.
 
 ghost use Rattle.std.specs.Prelude.{◌≡◌};
-ghost use Rattle.pp_lexer.specs.Rules.{numbered_from, glsl};
+ghost use Rattle.pp_lexer.specs.Rules.{numbered_from, glsl, with_includes};
 
 /// The profile of a version (GLSL 4.60, section 3.3). [`Profile::Es`] is GLSL ES.
 #[derive(Clone, Copy, Debug, PartialEq, Eq)]
@@ -33,6 +33,8 @@ pub struct Rules {
     /// Whether `__LINE__` is an `int` that follows `#line` wherever it stands. Otherwise it is a `uint`, and follows
     /// `#line` outside of arguments and of directives' lines.
     pub numbers_as_int: bool,
+    /// Whether an `#include` line is asked for its text. Otherwise it is an unknown directive.
+    pub asks_includes: bool,
 }
 
 // The first version by which the line after a `#line n` has the number n.
@@ -54,6 +56,7 @@ impl Rules {
         keeps_own_names: false,
         numbers_next_line: false,
         numbers_as_int: false,
+        asks_includes: false,
     };
 
     /// Returns GLSL's rules for a version, by its number in `#version`: 450, or 310 with [`Profile::Es`].
@@ -79,6 +82,22 @@ impl Rules {
             keeps_own_names: true,
             numbers_next_line: numbered_from(profile) <= version,
             numbers_as_int: true,
+            asks_includes: false,
+        }
+    }
+
+    /// Returns the same rules, by which an `#include` line is asked for its text.
+    ///
+    /// A name between `"` is no token, so by these rules a bad character takes itself alone, and errors of the lexer in
+    /// dead text and on lines that are skipped, this one too, are passed, as by GLSL's rules.
+    pub fn with_includes(self) -> Rules
+        ensures { result ≡ with_includes self }
+    {
+        Rules {
+            takes_one_bad_character: true,
+            passes_dead_errors: true,
+            asks_includes: true,
+            ..self
         }
     }
 }
