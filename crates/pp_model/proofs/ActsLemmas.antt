@@ -1,5 +1,5 @@
 -- What a token or a directive does: what holds of each kind of step holds of all items of a source.
-use Rattle.std.proofs.Common.{if◌then◌else◌, ◌≡◌, ◌∙◌, Bool, true, false, ℕ, ◌≤◌, List, refl, Option, None, arith, ◌⊎◌, inl, inr}
+use Rattle.std.proofs.Common.{if◌then◌else◌, ap, ◌≡◌, ◌∙◌, Bool, true, false, ℕ, ◌≤◌, List, refl, Option, None, arith, ◌⊎◌, inl, inr}
 use Rattle.std.specs.Prelude.{Ok}
 use Rattle.pp_lexer.specs.TokenValue.{is_ordinary}
 use Rattle.pp_lexer.specs.declared.token.Location.{Location}
@@ -12,10 +12,13 @@ use Rattle.pp_model.specs.Sights.{sight_of}
 use Rattle.pp_model.specs.Blocks.{is_live}
 use Rattle.pp_model.specs.SourceReader.{SourceReader}
 use Rattle.pp_model.specs.Moves.{BlockFacts, failing, passing, move_at, directive_move, error_length}
-use Rattle.pp_model.specs.Acts.{Acted, pause_at, advanced_by, defined_in, end_at, perform, facts_here, act}
+use Rattle.pp_model.specs.Acts.{Acted, pause_at, outcome_at, advanced_by, defined_in, end_at, perform, facts_here, act}
 use Rattle.pp_model.specs.inner.Acts.{perform_line, fault_at, item_at, items_left, after_word, after_line, after_condition}
 use Rattle.pp_model.specs.declared.definition.Named.{Named}
 use Rattle.pp_model.specs.declared.directive.Directive.{Directive}
+use Rattle.pp_model.specs.declared.directive.Directive.TheVariants as d
+use Rattle.pp_model.specs.declared.outcome.Outcome.TheVariants as outcome
+use Rattle.pp_model.specs.Lines.{include_line}
 use Rattle.pp_model.specs.declared.sight.Sight.{Sight}
 use Rattle.pp_model.specs.declared.sight.Sight.TheVariants as sight
 use Rattle.pp_model.specs.declared.step.Step.TheVariants as step
@@ -39,6 +42,8 @@ pub record HoldsOfActs (P : Acted → Type 0) (r : SourceReader) : Type 0 where
   pub nothing : (count : ℕ) → 1 ≤ count → P (pause_at (advanced_by count r))
   pub wanted : (word : Location) (tokens : List Token) → P (record { step = step.Condition word tokens; after = after_line r })
   pub numbered : IsLiveHere r → (word : Location) (tokens : List Token) → P (record { step = step.LineNumber word tokens; after = after_line r })
+  pub asked : IsLiveHere r → (word : Location) → sight_of (items_left r) ≡ sight.Directive d.Include word
+      → P (outcome_at (outcome.Include (include_line word (after_word r))) (after_line r))
   pub defined : IsLiveHere r → (word : Location) (named : Named) → defined_on r.rules word (after_word r) ≡ Ok named
       → P (record { step = step.Defines (defined_in r.text named); after = after_line r })
   pub changed : IsLiveHere r → (name : Name) → P (pause_at (record (after_line r) { definitions = with_change r.definitions name None }))
@@ -55,6 +60,7 @@ module _ (P : Acted → Type 0) (r : SourceReader) (all : HoldsOfActs P r) where
         unknown = λ dead its. all.nothing 2 (omega arith);
         passing = λ why. all.nothing _ (omega arith);
         items = λ its plain value is. all.token (here ∙ its) _ (inr (directive, there, is _ _)) _ (omega arith);
+        asking = λ its is. all.asked (here ∙ its) word (there ∙ ap (λ x. sight.Directive x word) is);
         defining = λ its plain named is. all.defined (here ∙ its) word named is;
         undefining = λ its plain name. all.changed (here ∙ its) name;
         numbering = λ its plain tokens. all.numbered (here ∙ its) word tokens;

@@ -3,7 +3,7 @@ use Rattle.std.proofs.Common.{◌≡◌, ◌∙◌, ℕ, List, [], refl, sym, Op
 use Rattle.std.specs.Prelude.{Result, Ok, Err}
 use Rattle.pp_lexer.specs.declared.token.PreprocessorError.TheVariants.{IntegerOverflow, UnexpectedEndOfInput}
 use Rattle.pp_model.specs.declared.place.Place.{Place}
-use Rattle.pp_model.specs.Places.{PlacedFault, place_of}
+use Rattle.pp_model.specs.Places.{PlacedFault, place_of, unasked}
 use Rattle.pp_model.specs.Definitions.{Definition}
 use Rattle.pp_model.specs.declared.read.Read.{Read}
 use Rattle.pp_model.specs.Reading.{Reading, Expander}
@@ -23,7 +23,7 @@ module _ {R : Type 0} (I : Reading R) (one : OneReads I) where
 
   abbrev ByTaken : ℕ → Place → Taken → Expander R → Result Gathered PlacedFault → Expander R → Type 0
   ByTaken n last (taken.Token t) f x g = ByNesting (nesting n t.token.value) t f x g
-  ByTaken n last (taken.Fault fault) f x g = (x ≡ Err fault) × (g ≡ f)
+  ByTaken n last (taken.Fault fault) f x g = (x ≡ Err (unasked fault)) × (g ≡ f)
   ByTaken n last taken.End f x g = (x ≡ Err (UnexpectedEndOfInput, last)) × (g ≡ f)
 
   first_taken : (n : ℕ) (last : Place) (x : Result Gathered PlacedFault) (e g : Expander R) → Gathers I n last e x g

@@ -42,3 +42,5 @@ pub mod RunChainLemmas
 pub mod WordLemmas
 pub mod LineExpressionLemmas
 pub mod PartsLemmas
+pub mod AskingLemmas
+pub mod QuietLemmas

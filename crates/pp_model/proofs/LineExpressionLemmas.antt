@@ -71,21 +71,22 @@ alone_at_fault {A} {B} directive words first second fault alone = at alone.evalu
   at (Err found) evaluated by =
       record { evaluation = Err found; evaluated = evaluated; is = let e : fault ≡ placed_fault directive words found.kind found.left = cc in ap Err e }
 
--- it has none of them, whatever is reported of its value
-pub alone_at_value : {A B : Type 0} (directive : Place) (words : Words) (first : ℤ → A) (x : A) (y : B)
-    → IsAlone directive words first (Ok x) → IsAlone directive words (λ value. y) (Ok y)
-alone_at_value {A} {B} directive words first x y alone = at alone.evaluation alone.evaluated alone.is where
+-- it has none of them, whatever `further` makes of what is reported of its value
+pub alone_at_value : {A B : Type 0} (directive : Place) (words : Words) (first : ℤ → A) (further : A → B) (x : A)
+    → IsAlone directive words first (Ok x) → IsAlone directive words (λ value. further (first value)) (Ok (further x))
+alone_at_value {A} {B} directive words first further x alone = at alone.evaluation alone.evaluated alone.is where
   by_word : (value : ℤ) (found : Option Word)
       → (let r : Result A PlacedFault = Ok x in r ≡ option_map_or (λ word. Err (unwanted_word word)) found (Ok (first value)))
-      → (let r : Result B PlacedFault = Ok y in r ≡ option_map_or (λ word. Err (unwanted_word word)) found (Ok y))
-  by_word value None is = refl
+      → (let r : Result B PlacedFault = Ok (further x) in
+      r ≡ option_map_or (λ word. Err (unwanted_word word)) found (Ok (further (first value))))
+  by_word value None is = let e : x ≡ first value = cc in ap (λ (y : A). Ok (further y)) e
   by_word value (Some word) is = absurd cc
 
   at : (e : Result Value Found) → Evaluates (line_of words) e
       → (let r : Result A PlacedFault = Ok x in MatchResult e
       (λ v. r ≡ option_map_or (λ word. Err (unwanted_word word)) (word_from_end v.left words) (Ok (first v.value)))
       (λ found. r ≡ Err (placed_fault directive words found.kind found.left)))
-      → IsAlone directive words (λ value. y) (Ok y)
+      → IsAlone directive words (λ value. further (first value)) (Ok (further x))
   at (Ok v) evaluated by = record { evaluation = Ok v; evaluated = evaluated; is = by_word v.value (word_from_end v.left words) by }
   at (Err found) evaluated by = absurd cc
 

@@ -69,13 +69,13 @@ module _ {R : Type 0} (I : Reading R) (Wider : R → Taken → R → Type 0) (wi
 module _ (A : Answers) (r : SourceReader) (nothing : GivesNothing r (act r)) (o : Option Taken) (t : SourceReader) (s : Steps A r o t) where
   -- the definitions and what is added to a line are the same
   abbrev IsSame : SourceReader → Type 0
-  IsSame reader = (reader.definitions ≡ r.definitions) × (reader.line_offset ≡ r.line_offset)
+  IsSame reader = (reader.definitions ≡ r.definitions) × (reader.around ≡ r.around → reader.line_offset ≡ r.line_offset)
 
   same_after : (did : Step) → (act r).step ≡ did → HoldsAfter IsSame r did (act r).after
   same_after step.Passed e = (nothing.same_definitions, nothing.same_lines)
   same_after (step.Given x) e = (nothing.same_definitions, nothing.same_lines)
   same_after (step.Defines named) e = absurd (nothing.no_define named e)
-  same_after (step.Condition word tokens) e = ((refl, refl), λ holds. (nothing.same_definitions, nothing.same_lines))
+  same_after (step.Condition word tokens) e = ((refl, λ _. refl), λ holds. (nothing.same_definitions, nothing.same_lines))
   same_after (step.LineNumber word tokens) e = absurd (nothing.no_line_number word tokens e)
 
   otherwise : (given : Read) → o ≡ Some (taken.Token given) → GivenBy r.text step.Passed o → ⊥
@@ -86,6 +86,7 @@ module _ (A : Answers) (r : SourceReader) (nothing : GivesNothing r (act r)) (o 
   token_of : (x : Outcome) (given : Read) → taken_of r.text x ≡ taken.Token given → x ≡ outcome.Token given.token
   token_of (outcome.Token token) given e = ap (λ o. outcome.Token o) (let z = e in cc)
   token_of (outcome.Fault fault) given e = cc
+  token_of (outcome.Include line) given e = cc
   token_of outcome.End given e = cc
 
   no_token : (given : Read) → o ≡ Some (taken.Token given) → (did : Step) → (act r).step ≡ did → GivenBy r.text did o → ⊥
@@ -125,6 +126,10 @@ run_of C D comes rules e asked replies (run.added name content tokens e1 later r
     run.added name content tokens e1 later rest r t (run_of C D comes rules _ later rest more) n
 run_of C D comes rules e asked replies (run.refused name content fault e1 later rest r t more n) =
     run.refused name content fault e1 later rest r t (run_of C D comes rules e1 later rest more) n
+run_of C D comes rules e asked replies (run.included text e1 later rest r f more n) =
+    run.included text e1 later rest r f (run_of C D comes rules _ later rest more) n
+run_of C D comes rules e asked replies (run.too_deep text e1 later rest r f more n) =
+    run.too_deep text e1 later rest r f (run_of C D comes rules e1 later rest more) n
 run_of C D comes rules e asked replies (run.given o e1 f later rest r c n more s) =
     run.given o e1 f later rest r (comes e1 o f c) n (run_of C D comes rules f later rest more) s
 run_of C D comes rules e asked replies (run.failed fault e1 f later r c n) = run.failed fault e1 f later r (comes e1 (outcome.Fault fault) f c) n

@@ -6,18 +6,18 @@ use Rattle.pp_lexer.specs.Lexed.{Seen}
 use Rattle.pp_lexer.specs.Preorder.{preorder}
 use Rattle.pp_lexer.specs.TokenValue.{is_ordinary}
 use Rattle.pp_lexer.specs.declared.token.Location.{Location}
-use Rattle.pp_lexer.specs.declared.token.PreprocessorError.TheVariants.{ElifAfterElse, MoreThanOneElse}
+use Rattle.pp_lexer.specs.declared.token.PreprocessorError.TheVariants.{ElifAfterElse, MoreThanOneElse, UnknownDirective}
 use Rattle.pp_lexer.specs.declared.token.Token.{Token}
 use Rattle.pp_lexer.specs.declared.token.TokenValue.{TokenValue}
 use Rattle.pp_lexer.specs.declared.rules.Rules.{Rules}
 use Rattle.pp_model.specs.Places.{Fault}
 use Rattle.pp_model.specs.Names.{Name}
-use Rattle.pp_model.specs.Lines.{line_length, line_fault, line_tokens, comments_before_end, ended_line, only_name}
+use Rattle.pp_model.specs.Lines.{include_line, line_length, line_fault, line_tokens, comments_before_end, ended_line, only_name}
 use Rattle.pp_model.specs.DefineLines.{defined_on, undefined_on}
 use Rattle.pp_model.specs.Sights.{is_directive_hash}
 use Rattle.pp_model.specs.Blocks.{part_of}
-use Rattle.pp_model.specs.Moves.{BlockFacts, Effect, gives_item, fails, passes, defines, undefines, tests, decides, renumbers, Move, failing, passing, line_move, skip_move, item_move, version_item, extension_item, pragma_item, elif_move, else_effect, else_move, endif_move, directive_move, error_length}
-use Rattle.pp_model.specs.inner.Moves.{skip_by}
+use Rattle.pp_model.specs.Moves.{BlockFacts, Effect, gives_item, asks, fails, passes, defines, undefines, tests, decides, renumbers, Move, failing, passing, line_move, unread_move, skip_move, item_move, version_item, extension_item, pragma_item, elif_move, else_effect, else_move, endif_move, directive_move, error_length}
+use Rattle.std.specs.Option.{option_map_or}
 use Rattle.pp_model.specs.declared.block.Part.TheVariants as part
 use Rattle.pp_model.specs.declared.definition.Named.{Named}
 use Rattle.pp_model.specs.declared.directive.Directive.{Directive}
@@ -60,6 +60,7 @@ pub record HoldsOfLine (P : Move → Type 0) (rules : Rules) (live : Bool) (bloc
   pub passing : Passes live block directive → P (over_line passes after)
   pub items : live ≡ true → part_of directive ≡ None → (value : Bool → Bool → TokenValue) → IsDirectiveItem value
       → P (over_line (gives_item value word) after)
+  pub asking : live ≡ true → directive ≡ d.Include → P (over_line (asks (include_line word after)) after)
   pub defining : live ≡ true → part_of directive ≡ None → (named : Named) → defined_on rules word after ≡ Ok named → P (over_line (defines named) after)
   pub undefining : live ≡ true → part_of directive ≡ None → (name : Name) → P (over_line (undefines name) after)
   pub numbering : live ≡ true → part_of directive ≡ None → (tokens : List Token) → P (over_line (renumbers word tokens) after)
@@ -82,16 +83,19 @@ module _ (P : Move → Type 0) (word : Location) (after : List Seen) (none : (fa
   line_holds (Ok value) effect h = h value refl
   line_holds (Err fault) effect h = none fault
 
-  skip_holds : (rules : Rules) → P (over_line passes after) → P (skip_move rules after)
-  skip_holds rules h = of rules.passes_dead_errors
+  unread_holds : (rules : Rules) (effect : Effect) → P (over_line effect after) → P (unread_move rules effect after)
+  unread_holds rules effect h = of rules.passes_dead_errors
     where
-      go : (found : Option Fault) → P (skip_by found (line_length after))
+      go : (found : Option Fault) → P (option_map_or failing found (over_line effect after))
       go (Some fault) = none fault
       go None = h
 
-      of : (passed : Bool) → P (if passed then passing (line_length after) else skip_by (line_fault after) (line_length after))
+      of : (passed : Bool) → P (if passed then over_line effect after else option_map_or failing (line_fault after) (over_line effect after))
       of true = h
       of false = go (line_fault after)
+
+  skip_holds : (rules : Rules) → P (over_line passes after) → P (skip_move rules after)
+  skip_holds rules h = unread_holds rules passes h
 
   item_holds : (value : List Entry → Bool → Bool → TokenValue) → ((tokens : List Entry) → P (over_line (gives_item (value tokens) word) after))
       → P (item_move value word after)
@@ -142,6 +146,11 @@ module _ (P : Move → Type 0) (rules : Rules) (block : Option BlockFacts) (word
   live_holds d.Else all = else_holds P rules true d.Else word after block all refl
   live_holds d.Endif all = endif_holds P rules true d.Endif word after block all refl
   live_holds d.Error all = all.failing _
+  live_holds d.Include all = go rules.asks_includes
+    where
+      go : (b : Bool) → P (if b then unread_move rules (asks (include_line word after)) after else failing (UnknownDirective, word))
+      go true = unread_holds P word after all.failing rules (asks (include_line word after)) (all.asking refl refl)
+      go false = all.failing _
   live_holds d.Line all = line_holds P word after all.failing (line_tokens after) (renumbers word) (λ tokens is. all.numbering refl refl tokens)
   live_holds d.Version all = item_holds P word after all.failing (version_item (comments_before_end after)) (λ tokens. all.items refl refl _ (λ a b. refl))
   live_holds d.Extension all = item_holds P word after all.failing extension_item (λ tokens. all.items refl refl _ (λ a b. refl))
@@ -156,6 +165,11 @@ module _ (P : Move → Type 0) (rules : Rules) (block : Option BlockFacts) (word
   dead_holds d.Else all = else_holds P rules false d.Else word after block all refl
   dead_holds d.Endif all = endif_holds P rules false d.Endif word after block all refl
   dead_holds d.Unknown all = all.unknown refl refl
+  dead_holds d.Include all = go rules.asks_includes
+    where
+      go : (b : Bool) → P (if b then skip_move rules after else passing 0)
+      go true = skip_holds P word after all.failing rules (all.passing (plain refl))
+      go false = all.unknown refl refl
   dead_holds _ all = skip_holds P word after all.failing rules (all.passing (plain refl))
 
   -- so it holds of each directive

@@ -1,5 +1,5 @@
 -- No macro is open twice, here or around: what leaves the list closes names, and what opens is open neither here nor around.
-use Rattle.std.proofs.Common.{◌≡◌, ◌∙◌, ℕ, false, List, [], ◌∷◌, ◌++◌, refl, sym, ap, subst, Some}
+use Rattle.std.proofs.Common.{true, ◌≡◌, ◌∙◌, ℕ, false, List, [], ◌∷◌, ◌++◌, refl, sym, ap, subst, Some}
 use Rattle.pp_model.specs.Names.{Name, is_in}
 use Rattle.pp_model.specs.Definitions.{Definition}
 use Rattle.pp_model.specs.SpliceList.{open_names}
@@ -93,9 +93,10 @@ module _ {R : Type 0} (I : Reading R) where
       call x arguments line m e g g1 f t h k c (item_passes A o (with_macro m line arguments g1) f i)
 
 module _ (A : Answers) where
-  leading_once : (e f : Expander SourceReader) → LeadsTo A e f → IsOpenOnce e → IsOpenOnce f
+  leading_once : (e f : Expander SourceReader) → LeadsTo A true e f → IsOpenOnce e → IsOpenOnce f
   leading_once = each_state A IsOpenOnce (λ name tokens e once. once)
       (λ o e f item. passes_once (source_reading A) A e f (item_passes (source_reading A) A o e f item))
+      true (λ may text by e once. once)
 
   pub run_opens_once : RunOpensOnce A
   run_opens_once rules source e f reached passes = passes_once (source_reading A) A e f passes (leading_once (start_by rules source) e reached tt)

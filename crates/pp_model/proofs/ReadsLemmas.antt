@@ -105,7 +105,7 @@ module _ (A : Answers) (r : SourceReader) (o : Option Taken) (t : SourceReader) 
 
   line_gives : {V : Type 0} (v : Result V PlacedFault) (next : V → SourceReader) → Evaluated v next r o t → GivenBy r.text step.Passed o
   line_gives (Ok value) next d = inl d.0
-  line_gives (Err fault) next d = inr (fault, d.0)
+  line_gives (Err fault) next d = inr (_, d.0)
 
   pub given_by : (did : Step) (after : SourceReader) → Does A r did after o t → GivenBy r.text did o
   given_by step.Passed after d = inl d.0

@@ -1,5 +1,5 @@
 -- The tokens that a run gives can be spelled, and the text that spells them gives them again.
-use Rattle.std.proofs.Common.{◌≡◌, ◌⊎◌, inl, inr, ℕ, pos, ◌<◌, ◌^◌, ◌-◌, Bool, true, false, List, [], ◌∷◌, ◌++◌, length, map, refl, sym, subst, Some, arith}
+use Rattle.std.proofs.Common.{◌≡◌, ◌⊎◌, inl, inr, ℕ, pos, ◌<◌, ◌^◌, ◌-◌, Bool, true, false, List, [], ◌∷◌, ◌++◌, length, map, refl, sym, subst, Option, Some, None, arith}
 use Rattle.std.specs.Prelude.{IfOk, MatchBool, Result, Ok, Err, All, ◌+◌}
 use Rattle.std.specs.List.{AllByRecursion as Each, cons_option}
 use Rattle.std.specs.Str.{encode_utf8_all, chars}
@@ -11,6 +11,7 @@ use Rattle.pp_lexer.specs.Respelling.{IsSpellableBy, IsSpelled, lexer_value, ite
 use Rattle.pp_lexer.specs.Spelling.{spelled_text, values_of}
 use Rattle.pp_lexer.specs.Spots.{spots_of}
 use Rattle.pp_lexer.specs.TokenValue.{is_ordinary}
+use Rattle.pp_lexer.specs.declared.token.Location.{Location}
 use Rattle.pp_lexer.specs.declared.lexer.item.Token.{Token as LexerToken}
 use Rattle.pp_lexer.specs.declared.lexer.item.TokenValue.{TokenValue as LexerTokenValue}
 use Rattle.pp_lexer.specs.declared.lexer.item.TokenValue.TheVariants.{Hash, NewLine, Punct as LexerPunct}
@@ -22,7 +23,7 @@ use Rattle.pp_lexer.proofs.spelling.RespellingLemmas.{read_back}
 use Rattle.pp_lexer.proofs.spelling.SpelledValuesLemmas.{values_spelled}
 use Rattle.pp_lexer.proofs.items.TokenLinesLemmas.{tokens_have_lines}
 use Rattle.pp_lexer.specs.declared.rules.Rules.{Rules}
-use Rattle.pp_model.specs.Places.{Fault}
+use Rattle.pp_model.specs.Places.{PlacedFault, Fault}
 use Rattle.pp_model.specs.Names.{is_identifier, line_name}
 use Rattle.pp_model.specs.Conversions.{is_hash}
 use Rattle.pp_model.specs.Definitions.{object_like}
@@ -31,7 +32,7 @@ use Rattle.pp_model.proofs.NumberingLemmas.{IsLineLiteral, short as short_litera
 use Rattle.pp_model.specs.Reading.{Expander}
 use Rattle.pp_model.specs.Reads.{source_reading}
 use Rattle.pp_model.specs.RespellLaws.{IsText, HasText, token_of, given_token, given_tokens, IsReadAfresh, RunsAreReadAfresh, calls_for, replies_with}
-use Rattle.pp_model.specs.Run.{by_rules, Call, add_define, next, items_by, content_tokens, start_by, with_added, Runs, done, added, refused, given, failed}
+use Rattle.pp_model.specs.Run.{by_rules, Call, add_define, include, next, items_by, content_tokens, start_by, with_added, without_end, with_included, Runs, done, added, refused, included, too_deep, given, failed}
 use Rattle.pp_model.specs.RunStates.{gives_line_name}
 use Rattle.pp_model.specs.SourceReader.{SourceReader}
 use Rattle.pp_model.specs.declared.call.Reply.{Reply}
@@ -40,8 +41,8 @@ use Rattle.pp_model.specs.declared.outcome.Outcome.{Outcome}
 use Rattle.pp_model.specs.declared.outcome.Outcome.TheVariants as outcome
 use Rattle.pp_model.specs.declared.read.Taken.{Taken}
 use Rattle.pp_model.specs.declared.read.Taken.TheVariants as taken
-use Rattle.pp_model.specs.Painting.{item_of}
-use Rattle.pp_model.proofs.HoldingLemmas.{AreClosed, HoldsOfTaken}
+use Rattle.pp_model.specs.Painting.{fault_item, item_of}
+use Rattle.pp_model.proofs.HoldingLemmas.{AreClosed, HoldsOfTaken, HoldsOfHeld}
 use Rattle.pp_model.proofs.KeptTokensLemmas.{ReaderKeeps, HoldsOf, item_keeps, answers_keep}
 use Rattle.pp_model.proofs.LineHoldsLemmas.{HoldsOfLexeme, HoldInItems, content_holds}
 use Rattle.pp_model.proofs.RunStatesLemmas.{run_shows_no_line_name}
@@ -97,9 +98,14 @@ module _ (rules : Rules) where
     good_items rest (All-tail (IsSpelled rules) (item_value s.item) (map (λ t. item_value t.item) rest) all) lines.1,
   )
 
+  fault_good : (fault : PlacedFault) (asks : Option Location) → HoldsOfOutcome (IsGood rules) (fault_item fault asks)
+  fault_good fault (Some rest) = tt
+  fault_good fault None = tt
+
   item_good : (x : Taken) → HoldsOfTaken (IsGood rules) x → HoldsOfOutcome (IsGood rules) (item_of x)
   item_good (taken.Token token) q = q
-  item_good _ q = tt
+  item_good (taken.Fault fault) q = fault_good fault fault.1.asks
+  item_good taken.End q = tt
 
   given_good : (o : Outcome) (later : List Token) → HoldsOfOutcome (IsGood rules) o → Each (IsGood rules) later
       → Each (IsGood rules) (cons_option (token_of o) later)
@@ -135,6 +141,12 @@ module _ (level : ℕ) (rules : Rules) where
   added_good content tokens t e =
       subst (λ (r : Result (List Token) Fault). IfOk r (Each (IsGood rules))) e (content_holds (IsGood rules) (items_by rules content) (text_good content t))
 
+  still_held : (held : Option Taken) → HoldsOfHeld (IsGood rules) held → HoldsOfHeld (IsGood rules) (without_end held)
+  still_held (Some (taken.Token read)) h = h
+  still_held (Some (taken.Fault fault)) h = h
+  still_held (Some taken.End) h = tt
+  still_held None h = h
+
   -- each token that a run gives is good
   given_are_good : (e : Expander SourceReader) (calls : List Call) (replies : List Reply) → Runs (by_rules (answers_at level)) rules e calls replies
       → All HasText calls → HoldsOf (IsGood rules) IsLine K e → Each (IsGood rules) (given_tokens replies)
@@ -148,11 +160,21 @@ module _ (level : ℕ) (rules : Rules) where
         reader = (
           h.reader.0,
           changed_holds (IsGood rules) IsLine (good_closed rules) e.reader.definitions (chars name) (Some (object_like (e.reader.contents + 1) tokens)) h.reader.1 body,
+          h.reader.2,
         );
       } in
       rw p (given_are_good (with_added (chars name) tokens e) more rest runs (All-tail HasText (add_define name content) more texts) after)
   given_are_good e calls replies (refused name content fault e1 more rest r1 is runs p) texts h =
       rw p (given_are_good e more rest runs (All-tail HasText (add_define name content) more texts) h)
+  given_are_good e calls replies (included text e1 more rest r1 is runs p) texts h =
+      let after : HoldsOf (IsGood rules) IsLine K (with_included (items_by rules text) e) = record {
+        held = still_held e.held h.held;
+        list = h.list;
+        reader = (text_good text (All-head HasText (include text) more texts), h.reader.1, (h.reader.0, h.reader.2));
+      } in
+      rw p (given_are_good (with_included (items_by rules text) e) more rest runs (All-tail HasText (include text) more texts) after)
+  given_are_good e calls replies (too_deep text e1 more rest r1 is runs p) texts h =
+      rw p (given_are_good e more rest runs (All-tail HasText (include text) more texts) h)
   given_are_good e calls replies (given o e1 f more rest r1 item is runs p) texts h =
       let after = item_keeps (IsGood rules) IsLine (good_closed rules) (source_reading (answers_at level)) K keeps (answers_at level)
       (answers_keep (IsGood rules) IsLine (good_closed rules) level) item.taken e f item.emits h in
@@ -165,7 +187,7 @@ module _ (level : ℕ) (rules : Rules) where
       → Runs (by_rules (answers_at level)) rules (start_by rules (items_by rules text)) calls replies → Each (IsGood rules) (given_tokens replies)
   run_is_good text calls replies t texts runs =
       given_are_good (start_by rules (items_by rules text)) calls replies runs texts
-      (record { held = tt; list = tt; reader = (text_good text t, λ name definition defined. cc) })
+      (record { held = tt; list = tt; reader = (text_good text t, λ name definition defined. cc, tt) })
 
   -- no `__LINE__` is among the tokens that are given
   abbrev IsNoLine : Token → Type 0

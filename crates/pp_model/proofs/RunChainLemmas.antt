@@ -1,12 +1,13 @@
 -- Calls that follow one another are a run.
-use Rattle.std.proofs.Common.{List, [], ◌∷◌, ◌++◌, refl, append-nil, append_assoc}
+use Rattle.std.proofs.Common.{ap, sym, List, [], ◌∷◌, ◌++◌, refl, append-nil, append_assoc}
 use Rattle.pp_lexer.specs.declared.rules.Rules.{Rules}
 use Rattle.pp_model.specs.Places.{Fault, unplaced}
 use Rattle.pp_model.specs.Reading.{Expander}
 use Rattle.pp_model.specs.Calls.{Answers}
+use Rattle.pp_model.specs.Painting.{fault_item}
 use Rattle.pp_model.specs.SourceReader.{SourceReader}
-use Rattle.pp_model.specs.Run.{Comings, by_rules, start_by, Call, next, Runs, done, added, refused, given, failed}
-use Rattle.pp_model.specs.RunChains.{AnswersIn, adds, refuses, gives, Chain, none, one_more, ChainsAreRuns}
+use Rattle.pp_model.specs.Run.{Comings, by_rules, start_by, Call, next, Runs, done, added, refused, included, too_deep, given, failed}
+use Rattle.pp_model.specs.RunChains.{AnswersIn, adds, refuses, includes, refuses_text, gives, Chain, none, one_more, ChainsAreRuns}
 use Rattle.pp_model.specs.declared.call.Reply.{Reply}
 use Rattle.pp_model.specs.declared.call.Reply.TheVariants as reply
 use Rattle.pp_model.specs.declared.outcome.Outcome.TheVariants as outcome
@@ -20,6 +21,10 @@ module _ (C : Comings) (rules : Rules) where
       rw (c, a) (added name content tokens e later rest (reply.Added ∷ rest) is (rw p at run) refl)
   call_before e f call answer later rest (refuses name content fault c1 a1 e1 f1 is c a p) run =
       rw (c, a) (refused name content fault e later rest (reply.Refused fault ∷ rest) is (rw p at run) refl)
+  call_before e f call answer later rest (includes text c1 a1 e1 f1 is c a p) run =
+      rw (c, a) (included text e later rest (reply.Included ∷ rest) is (rw p at run) refl)
+  call_before e f call answer later rest (refuses_text text c1 a1 e1 f1 is c a p) run =
+      rw (c, a) (too_deep text e later rest (reply.TooDeep ∷ rest) is (rw p at run) refl)
   call_before e f call answer later rest (gives o c1 a1 e1 f1 item plain c a) run =
       rw (c, a) (given o e f later rest (reply.Given o ∷ rest) item plain run refl)
 
@@ -48,7 +53,7 @@ module _ (C : Comings) (rules : Rules) where
 pub chains_are_runs : (A : Answers) → ChainsAreRuns A
 chains_are_runs A = record {
   whole = λ rules source calls replies f chain. chain_runs (by_rules A) rules (start_by rules source) f calls replies chain;
-  to_error = λ rules source calls replies f g fault chain item.
+  to_error = λ rules source calls replies f g fault chain item plain.
       chain_runs_to_error (by_rules A) rules (start_by rules source) f g calls [] replies (unplaced fault) chain
-      (record { taken = taken.Fault fault; emits = item; is = refl });
+      (record { taken = taken.Fault fault; emits = item; is = sym (ap (fault_item fault) plain) });
 }

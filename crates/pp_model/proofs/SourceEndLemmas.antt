@@ -1,12 +1,12 @@
 -- Once reading a source gave the end, it gives nothing else.
-use Rattle.std.proofs.Common.{ℕ, ◌≡◌, ◌∙◌, take, drop, length, refl, sym, ap, subst, Option, Some, None, ◌⊎◌, inl, inr}
+use Rattle.std.proofs.Common.{ℕ, ◌≡◌, ◌∙◌, List, [], ◌∷◌, take, drop, length, refl, sym, ap, subst, Option, Some, None, ◌⊎◌, inl, inr}
 use Rattle.pp_model.specs.Places.{PlacedFault}
 use Rattle.pp_model.specs.Calls.{Answers}
 use Rattle.pp_model.specs.Sights.{sight_of}
 use Rattle.pp_model.specs.Blocks.{Block, blocks_at, innermost, is_live}
-use Rattle.pp_model.specs.SourceReader.{SourceReader}
+use Rattle.pp_model.specs.SourceReader.{Suspended, SourceReader}
 use Rattle.pp_model.specs.Moves.{move_at}
-use Rattle.pp_model.specs.Acts.{Acted, end_by, perform, facts_here, act}
+use Rattle.pp_model.specs.Acts.{Acted, leave, end_by, perform, facts_here, act}
 use Rattle.pp_model.specs.inner.Acts.{items_left}
 use Rattle.pp_model.specs.Reads.{Steps, Reads, here, later}
 use Rattle.pp_model.specs.Painting.{taken_of}
@@ -28,6 +28,7 @@ reported_next r = innermost (take r.unfinished (blocks_at r.items (length r.item
 pub record IsAtEnd (r : SourceReader) : Type 0 where
   pub nothing_left : sight_of (drop r.position r.items) ≡ sight.End
   pub all_reported : reported_next r ≡ None
+  pub outermost : r.around ≡ []
 
 abbrev at_end : SourceReader → Acted
 at_end r = record { step = step.Given outcome.End; after = r }
@@ -40,28 +41,38 @@ reported_none : (block : Option Block) (r : SourceReader) → (end_by block r).s
 reported_none (Some block) r h = cc
 reported_none None r h = refl
 
+-- and in the source itself
+none_around : (block : Option Block) (r : SourceReader) → (end_by block r).step ≡ step.Given outcome.End → r.around ≡ []
+none_around (Some block) r h = cc
+none_around None r h = go r.around h
+  where
+    go : (around : List Suspended) → (leave around r).step ≡ step.Given outcome.End → around ≡ []
+    go [] h = refl
+    go (outer ∷ around) h = cc
+
 only_at_end : (r : SourceReader) → EndsThere r (act r)
 only_at_end r = act_holds (EndsThere r) r (record {
-  end = λ there h. record { nothing_left = there; all_reported = reported_none (reported_next r) r h };
+  end = λ there h. record { nothing_left = there; all_reported = reported_none (reported_next r) r h; outermost = none_around (reported_next r) r h };
   fault = λ found h. cc;
   nothing = λ count least h. cc;
   wanted = λ word tokens h. cc;
   numbered = λ its word tokens h. cc;
+  asked = λ its word is h. cc;
   defined = λ its word named is h. cc;
   changed = λ its name h. cc;
   decision = λ its holds h. cc;
   token = λ its shown stands count least h. cc;
 })
 
-reported_end : (block : Option Block) (r : SourceReader) → block ≡ None → end_by block r ≡ at_end r
-reported_end (Some block) r h = cc
-reported_end None r h = refl
+reported_end : (block : Option Block) (r : SourceReader) → block ≡ None → r.around ≡ [] → end_by block r ≡ at_end r
+reported_end (Some block) r h outermost = cc
+reported_end None r h outermost = ap (λ around. leave around r) outermost
 
 -- and there nothing else is
 end_acts : (r : SourceReader) → IsAtEnd r → act r ≡ at_end r
 end_acts r end =
     subst (λ z. perform (move_at r.rules (is_live r.items r.truths r.position) (facts_here r) z (items_left r)) r ≡ at_end r) (sym end.nothing_left)
-    (reported_end (reported_next r) r end.all_reported)
+    (reported_end (reported_next r) r end.all_reported end.outermost)
 
 -- only the end is the end
 given_end : (text : ℕ) (o : Outcome) → taken_of text o ≡ taken.End → o ≡ outcome.End

@@ -21,8 +21,8 @@ use Rattle.pp_model.proofs.NumberingLemmas.{text_number_is_short}
 use Rattle.pp_model.specs.Sights.{sight_of, token_sight, named_directive}
 use Rattle.pp_model.specs.inner.Sights.{item_sight, directive_sight}
 use Rattle.pp_model.specs.Blocks.{Block}
-use Rattle.pp_model.specs.SourceReader.{SourceReader}
-use Rattle.pp_model.specs.Acts.{Acted, end_by, act}
+use Rattle.pp_model.specs.SourceReader.{Suspended, SourceReader}
+use Rattle.pp_model.specs.Acts.{Acted, leave, end_by, act}
 use Rattle.pp_model.specs.inner.Acts.{items_left, after_word}
 use Rattle.pp_model.specs.Reads.{Steps, Reads, here, later, source_reading}
 use Rattle.pp_model.specs.declared.definition.Named.{Named}
@@ -94,9 +94,14 @@ module _ (Q : Token → Type 0) (L : ℕ → Type 0) (closed : AreClosed Q L) wh
       go true e = subst (λ (x : Option Definition). IfSome x (λ d. Each Q d.body)) e q
       go false e = all other definition e
 
-  -- it holds of a source's items and of the bodies of what is defined
+  -- it holds of the items of the texts around
+  abbrev pub HoldAround : List Suspended → Type 0
+  HoldAround [] = ⊤
+  HoldAround (outer ∷ around) = HoldInItems Q outer.items × HoldAround around
+
+  -- it holds of a text's items, of the bodies of what is defined, and of the texts around
   abbrev pub HoldsOfReader : SourceReader → Type 0
-  HoldsOfReader r = HoldInItems Q r.items × HoldInBodies Q r.definitions
+  HoldsOfReader r = HoldInItems Q r.items × HoldInBodies Q r.definitions × HoldAround r.around
 
   -- it holds of what is given, and of a body that is defined
   abbrev HoldsOfStep : Step → Type 0
@@ -128,9 +133,13 @@ module _ (Q : Token → Type 0) (L : ℕ → Type 0) (closed : AreClosed Q L) wh
     shown_holds token (inl there) = subst HoldsOfSight there (sight_holds (items_left r) left_hold)
     shown_holds token (inr (directive, there, plain)) = items_hold token plain (subst HoldsOfSight there (sight_holds (items_left r) left_hold))
 
+    leave_holds : (around : List Suspended) → HoldAround around → HoldsOfAct (leave around r)
+    leave_holds [] all = (tt, h)
+    leave_holds (outer ∷ around) all = (tt, (all.0, h.1, all.1))
+
     end : (block : Option Block) → HoldsOfAct (end_by block r)
     end (Some block) = (tt, h)
-    end None = (tt, h)
+    end None = leave_holds r.around h.2
 
     acted : HoldsOfAct (act r)
     acted = act_holds HoldsOfAct r (record {
@@ -140,7 +149,8 @@ module _ (Q : Token → Type 0) (L : ℕ → Type 0) (closed : AreClosed Q L) wh
       wanted = λ word tokens. (tt, h);
       numbered = λ its word tokens. (tt, h);
       defined = λ its word named is. (line_defines word named is, h);
-      changed = λ its name. (tt, (h.0, changed_holds r.definitions name None h.1 tt));
+      changed = λ its name. (tt, (h.0, changed_holds r.definitions name None h.1 tt, h.2));
+      asked = λ its word is. (tt, h);
       decision = λ its holds. (tt, h);
       token = λ its shown stands count least. (shown_holds shown stands, h);
     })
@@ -154,7 +164,7 @@ module _ (Q : Token → Type 0) (L : ℕ → Type 0) (closed : AreClosed Q L) wh
     outcome_given _ o k g = unless_given r.text o g
 
     reader_after : (did : Step) (after : SourceReader) → HoldsOfStep did → HoldsOfReader after → HoldsAfter HoldsOfReader r did after
-    reader_after (step.Defines named) after body k = (k, (k.0, changed_holds after.definitions named.name (Some named.definition) k.1 body))
+    reader_after (step.Defines named) after body k = (k, (k.0, changed_holds after.definitions named.name (Some named.definition) k.1 body, k.2))
     reader_after (step.Condition word tokens) after body k = (h, λ holds. k)
     reader_after (step.LineNumber word tokens) after body k = (h, λ n. k)
     reader_after _ after body k = k

@@ -81,7 +81,7 @@ no_blocks items position all = ap open_blocks (no_block_lines 0 (take position i
 
 -- the reader of such a text, and the expander over it
 abbrev reader_at : Rules → List Seen → ℕ → SourceReader
-reader_at rules items position = record { rules = rules; text = source_text; items = items; position = position; definitions = nothing_defined; contents = 0; line_offset = pos 0; truths = []; unfinished = 0 }
+reader_at rules items position = record { rules = rules; text = source_text; items = items; position = position; definitions = nothing_defined; contents = 0; line_offset = pos 0; truths = []; unfinished = 0; around = []; earlier = record { text = false; directive = false } }
 
 abbrev state_at : Rules → List Seen → ℕ → Expander SourceReader
 state_at rules items position = record { held = None; list = []; reader = reader_at rules items position; hidden = [] }

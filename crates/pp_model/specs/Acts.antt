@@ -1,14 +1,15 @@
 -- What a token or a directive's line of a source does: the reader is changed as the table of Moves says (GLSL ES 3.20,
 -- section 3.4, and docs/RULES.md, Directives 1 to 14).
-use Rattle.std.specs.Prelude.{ℕ, ◌+◌, ◌-◌, Bool, ◌∷◌, take, drop, length, Option, Some, None, option_map, is_some}
+use Rattle.std.specs.Prelude.{ℕ, ◌+◌, ◌-◌, Bool, List, [], ◌∷◌, take, drop, length, Option, Some, None, option_map}
+use Rattle.std.specs.Prelude.{is_some}
 use Rattle.pp_lexer.specs.declared.token.PreprocessorError.TheVariants.{UnfinishedBlock}
 use Rattle.pp_model.specs.Definitions.{with_change}
 use Rattle.pp_model.specs.Sights.{sight_of}
 use Rattle.pp_model.specs.Blocks.{Block, blocks_at, innermost, is_live, are_surroundings_live, has_taken_branch}
 use Rattle.pp_model.specs.Blocks.{has_else}
-use Rattle.pp_model.specs.SourceReader.{SourceReader, has_live_text_before, is_first_directive}
-use Rattle.pp_model.specs.Moves.{BlockFacts, Effect, gives, gives_item, fails, ends, passes, defines, undefines, tests}
-use Rattle.pp_model.specs.Moves.{decides, renumbers, Move, move_at}
+use Rattle.pp_model.specs.SourceReader.{Suspended, SourceReader, had_text, is_first_directive, resumed}
+use Rattle.pp_model.specs.Moves.{BlockFacts, Effect, gives, gives_item, asks, fails, ends, passes, defines, undefines}
+use Rattle.pp_model.specs.Moves.{tests, decides, renumbers, Move, move_at}
 use Rattle.pp_model.specs.declared.definition.Named.{Named}
 use Rattle.pp_model.specs.declared.outcome.Outcome.{Outcome}
 use Rattle.pp_model.specs.declared.outcome.Outcome.TheVariants as outcome
@@ -34,12 +35,17 @@ advanced_by count reader = record reader { position = reader.position + count }
 abbrev pub decided : ℕ → Bool → SourceReader → SourceReader
 decided position holds r = record r { truths = record { position = position; holds = holds } ∷ r.truths }
 
+-- behind the end of an included text reading goes on in the text around it
+abbrev pub leave : List Suspended → SourceReader → Acted
+leave [] reader = outcome_at outcome.End reader
+leave (outer ∷ around) reader = pause_at (resumed outer around reader)
+
 -- at the end each block that is still to be reported gives its fault, the innermost first
 abbrev pub end_by : Option Block → SourceReader → Acted
 end_by (Some block) reader =
     let after = record reader { unfinished = reader.unfinished - 1 } in
     outcome_at (outcome.Fault (UnfinishedBlock, block.first.word)) after
-end_by None reader = outcome_at outcome.End reader
+end_by None reader = leave reader.around reader
 
 abbrev pub end_at : SourceReader → Acted
 end_at reader = end_by (innermost (take reader.unfinished (blocks_at reader.items (length reader.items)))) reader
@@ -52,9 +58,8 @@ defined_in text named = record named { definition = record named.definition { te
 abbrev pub effect_on : Effect → SourceReader → SourceReader → Acted
 effect_on (gives token) r after = outcome_at (outcome.Token token) after
 effect_on (gives_item value word) r after =
-    let has_text = has_live_text_before r.items r.truths r.position in
-    let is_first = is_first_directive r.items r.truths r.position in
-    outcome_at (outcome.Token (record { value = value has_text is_first; location = word })) after
+    outcome_at (outcome.Token (record { value = value (had_text r) (is_first_directive r); location = word })) after
+effect_on (asks line) r after = outcome_at (outcome.Include line) after
 effect_on (fails fault) r after = outcome_at (outcome.Fault fault) r
 effect_on ends r after = end_at r
 effect_on passes r after = pause_at after

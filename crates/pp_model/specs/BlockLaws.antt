@@ -7,6 +7,7 @@ use Rattle.pp_model.specs.SourceReader.{SourceReader}
 use Rattle.pp_model.specs.Acts.{Acted, act}
 use Rattle.pp_model.specs.declared.block.BlockLine.{BlockLine}
 use Rattle.pp_model.specs.declared.definition.Named.{Named}
+use Rattle.pp_model.specs.declared.outcome.IncludeLine.{IncludeLine}
 use Rattle.pp_model.specs.declared.outcome.Outcome.TheVariants as outcome
 use Rattle.pp_model.specs.declared.step.Step.TheVariants as step
 
@@ -36,13 +37,15 @@ NoneAfterTaken =
     → has_taken_branch truths block ≡ true
     → is_last_chosen truths block.first (block.partings ++ (mark ∷ [])) ≡ false
 
--- The act gives no token, defines nothing and numbers no line, and leaves the definitions and what is added to a line.
+-- The act gives no token, asks for no text, defines nothing and numbers no line, and leaves the definitions and, in the
+-- same text, what is added to a line.
 pub record GivesNothing (r : SourceReader) (a : Acted) : Type 0 where
   pub no_token : (token : Token) → a.step ≡ step.Given (outcome.Token token) → ⊥
+  pub no_include : (line : IncludeLine) → a.step ≡ step.Given (outcome.Include line) → ⊥
   pub no_define : (named : Named) → a.step ≡ step.Defines named → ⊥
   pub no_line_number : (word : Location) (tokens : List Token) → a.step ≡ step.LineNumber word tokens → ⊥
   pub same_definitions : a.after.definitions ≡ r.definitions
-  pub same_lines : a.after.line_offset ≡ r.line_offset
+  pub same_lines : a.after.around ≡ r.around → a.after.line_offset ≡ r.line_offset
 
 -- What is in dead text gives nothing, except for errors and the end.
 abbrev pub DeadTextGivesNothing : Type 0

@@ -10,7 +10,7 @@ use Rattle.pp_lexer.specs.declared.token.TokenValue.{TokenValue}
 use Rattle.pp_lexer.specs.declared.token.TokenValue.TheVariants.{Punct}
 use Rattle.pp_expression.specs.Answers.{◌>>=◌}
 use Rattle.pp_model.specs.declared.place.Place.{Place}
-use Rattle.pp_model.specs.Places.{PlacedFault, place_of}
+use Rattle.pp_model.specs.Places.{PlacedFault, place_of, unasked}
 use Rattle.pp_model.specs.Names.{Name}
 use Rattle.pp_model.specs.Definitions.{Definition, Definitions}
 use Rattle.pp_model.specs.Reading.{Reading, Expander, masked_names}
@@ -57,7 +57,7 @@ abbrev pub before : Read → Result Gathered PlacedFault → Result Gathered Pla
 before read rest = rest >>= λ gathered. Ok (record gathered { tokens = read ∷ gathered.tokens })
 
 -- The tokens that are taken up to the matching `)`, or the fault that is met before it, while `n` inner parentheses are
--- open. `last` is the place of the token taken last.
+-- open. Within a call no `#include` line asks for its text. `last` is the place of the token taken last.
 pub data Gathers {R : Type 0} (I : Reading R)
     : ℕ → Place → Expander R → Result Gathered PlacedFault → Expander R → Type 0 where
   closed : (n : ℕ) (last : Place) (read : Read) (e f : Expander R) (g : Result Gathered PlacedFault)
@@ -79,7 +79,7 @@ pub data Gathers {R : Type 0} (I : Reading R)
       → Gathers I n last e g f
   failed : (n : ℕ) (last : Place) (fault : PlacedFault) (e f : Expander R) (g : Result Gathered PlacedFault)
       → Takes I e (taken.Fault fault) f
-      → g ≡ Err fault
+      → g ≡ Err (unasked fault)
       → Gathers I n last e g f
 
 -- tokens cut at the commas outside of inner parentheses: the first piece, and the others

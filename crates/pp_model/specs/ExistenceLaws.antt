@@ -28,8 +28,7 @@ use Rattle.pp_model.specs.declared.numbering.Numbering.{Numbering}
 
 abbrev pub is_given_token : Outcome → Bool
 is_given_token (outcome.Token token) = true
-is_given_token (outcome.Fault fault) = false
-is_given_token outcome.End = false
+is_given_token _ = false
 
 -- Finitely many names are defined: each of them is among these.
 pub record IsFinite (definitions : Definitions) : Type 0 where
@@ -109,7 +108,8 @@ RunDefinesFinitelyMany A =
     → IsReached A rules source e
     → IsFinite e.reader.definitions
 
--- From this state these tokens are given, one after another, and then this outcome, which is an error or the end.
+-- From this state these tokens are given, one after another, and then this outcome, which is an error, an `#include`
+-- line or the end.
 pub data Ends (A : Answers) : Expander SourceReader → List Token → Outcome → Type 0 where
   last : (o : Outcome) (tokens : List Token) (e f : Expander SourceReader)
       → Gives A e o f
@@ -122,7 +122,7 @@ pub data Ends (A : Answers) : Expander SourceReader → List Token → Outcome �
       → tokens ≡ token ∷ rest
       → Ends A e tokens o
 
--- A source gives finitely many tokens, and then an error or the end.
+-- A source gives finitely many tokens, and then an error, an `#include` line or the end.
 abbrev pub AnEnd : Answers → Type 0
 AnEnd A = (e : Expander SourceReader) → IsFinite e.reader.definitions
     → (tokens : List Token) × (last : Outcome) × Ends A e tokens last

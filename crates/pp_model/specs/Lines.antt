@@ -1,8 +1,8 @@
 -- The rest of a directive's line: the items after its word, up to the line's NewLine (docs/RULES.md, Directives 3 to 7,
 -- 9, 10, 13 and 14). The items of a text always have that NewLine. If a list ends without it, the line ends there too;
 -- a token that is expected there is `UnexpectedEndOfInput` at the word.
-use Rattle.std.specs.Prelude.{ℕ, ◌+◌, Bool, false, if◌then◌else◌, List, [], ◌∷◌, drop, Option, None, ok_or, Result, Ok}
-use Rattle.std.specs.Prelude.{Err}
+use Rattle.std.specs.Prelude.{ℕ, ◌+◌, Bool, false, if◌then◌else◌, List, [], ◌∷◌, drop, Option, Some, None, ok_or}
+use Rattle.std.specs.Prelude.{Result, Ok, Err, unwrap_or}
 use Rattle.std.specs.Option.{option_or}
 use Rattle.std.specs.Result.{result_err}
 use Rattle.pp_lexer.specs.Lexed.{Seen}
@@ -16,6 +16,7 @@ use Rattle.pp_model.specs.Places.{Fault}
 use Rattle.pp_model.specs.Names.{Name}
 use Rattle.pp_model.specs.Emitting.{first_before}
 use Rattle.pp_model.specs.declared.definition.Placed.{Placed}
+use Rattle.pp_model.specs.declared.outcome.IncludeLine.{IncludeLine}
 use Rattle.pp_model.specs.Conversions.{is_newline, conversion, refused_token, identifier_of}
 
 abbrev pub ends_line : Lexeme → Bool
@@ -26,6 +27,22 @@ ends_line (Err fault) = false
 abbrev pub line_length : List Seen → ℕ
 line_length [] = 0
 line_length (s ∷ rest) = if ends_line s.item then 1 else 1 + line_length rest
+
+-- where the line's NewLine begins
+abbrev pub newline_start : Lexeme → Option ℕ
+newline_start (Ok token) = if is_newline token.value then Some token.location.start else None
+newline_start (Err fault) = None
+
+-- the same of the line of these items, or `from` if it has none
+abbrev pub line_end : ℕ → List Seen → ℕ
+line_end from [] = from
+line_end from (s ∷ rest) = unwrap_or (newline_start s.item) (line_end from rest)
+
+-- an `#include` line with this place of its word, if these items come after it
+abbrev pub include_line : Location → List Seen → IncludeLine
+include_line word after =
+    let rest : Location = record { start = word.end; end = line_end word.end after; line = word.line } in
+    record { word = word; rest = rest }
 
 -- the first error of the lexer on the line
 abbrev pub line_fault : List Seen → Option Fault

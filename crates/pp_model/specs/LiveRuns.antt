@@ -15,11 +15,11 @@ use Rattle.pp_model.specs.declared.outcome.Outcome.{Outcome}
 use Rattle.pp_model.specs.declared.read.Taken.TheVariants as taken
 use Rattle.pp_model.specs.declared.read.Taken.{Taken}
 
--- a step that gives no token, and leaves the definitions and what is added to a line as they are
+-- a step that gives no token, and leaves the definitions and, in the same text, what is added to a line as they are
 pub record IsWithoutEffect (r : SourceReader) (o : Option Taken) (t : SourceReader) : Type 0 where
   pub no_token : (read : Read) → o ≡ Some (taken.Token read) → ⊥
   pub same_definitions : t.definitions ≡ r.definitions
-  pub same_lines : t.line_offset ≡ r.line_offset
+  pub same_lines : t.around ≡ r.around → t.line_offset ≡ r.line_offset
 
 -- one token or line of the source, which is without effect if it is in dead text
 pub record LiveSteps (A : Answers) (r : SourceReader) (o : Option Taken) (t : SourceReader) : Type 0 where

@@ -18,11 +18,13 @@ use Rattle.pp_lexer.specs.declared.token.TokenValue.{TokenValue}
 use Rattle.pp_lexer.specs.declared.token.TokenValue.TheVariants.{Version, Extension, Pragma}
 use Rattle.pp_model.specs.Places.{Fault}
 use Rattle.pp_model.specs.Names.{Name}
-use Rattle.pp_model.specs.Lines.{line_length, line_fault, line_tokens, comments_before_end, ended_line, only_name}
+use Rattle.pp_model.specs.Lines.{include_line, line_length, line_fault, line_tokens, comments_before_end, ended_line}
+use Rattle.pp_model.specs.Lines.{only_name}
 use Rattle.pp_model.specs.DefineLines.{defined_on, undefined_on}
 use Rattle.pp_model.specs.Sights.{is_directive_hash}
 use Rattle.pp_model.specs.declared.definition.Named.{Named}
 use Rattle.pp_model.specs.declared.directive.Directive.{Directive}
+use Rattle.pp_model.specs.declared.outcome.IncludeLine.{IncludeLine}
 use Rattle.pp_model.specs.declared.directive.Directive.TheVariants as d
 use Rattle.pp_model.specs.declared.sight.Sight.{Sight}
 use Rattle.pp_model.specs.declared.sight.Sight.TheVariants as sight
@@ -38,6 +40,8 @@ pub data Effect : Type 0 where
   gives : Token → Effect
   -- gives an item, whose value depends on whether live text comes before it, and on whether it is the first directive
   gives_item : (Bool → Bool → TokenValue) → Location → Effect
+  -- asks for the text of an `#include` line
+  asks : IncludeLine → Effect
   -- gives a fault; or at the end of the source the fault of each block that is open, and then the end
   fails : Fault → Effect
   ends : Effect
@@ -70,15 +74,29 @@ abbrev pub line_move : {A : Type 0} → Result A Fault → (A → Effect) → Li
 line_move (Ok value) effect after = record { effect = effect value; taken = line_length after }
 line_move (Err fault) effect after = failing fault
 
--- a line that is skipped, except for the lexer's errors; by GLSL's rules these are skipped too
+-- a line with this effect that isn't read, except for the lexer's errors; by GLSL's rules these are skipped too
+abbrev pub unread_move : Rules → Effect → List Seen → Move
+unread_move rules effect line =
+    let move : Move = record { effect = effect; taken = line_length line } in
+    if rules.passes_dead_errors then move else option_map_or failing (line_fault line) move
+
+-- a line that is skipped
 abbrev pub skip_move : Rules → List Seen → Move
-skip_move rules line =
-    if rules.passes_dead_errors then passing (line_length line)
-    else option_map_or failing (line_fault line) (passing (line_length line))
+skip_move rules line = unread_move rules passes line
 
 -- an item that holds the tokens of its line
 abbrev pub item_move : (List Entry → Bool → Bool → TokenValue) → Location → List Seen → Move
 item_move value word after = line_move (line_tokens after) (λ tokens. gives_item (value (preorder tokens)) word) after
+
+-- an `#include` line asks for its text, if the rules say so; otherwise it is an unknown directive
+abbrev pub include_move : Rules → Location → List Seen → Move
+include_move rules word after =
+    if rules.asks_includes then unread_move rules (asks (include_line word after)) after
+    else failing (UnknownDirective, word)
+
+-- in dead text it is skipped, or it is dead text after an unknown word
+abbrev pub dead_include_move : Rules → List Seen → Move
+dead_include_move rules after = if rules.asks_includes then skip_move rules after else passing 0
 
 abbrev pub version_item : Bool → List Entry → Bool → Bool → TokenValue
 version_item has_comments tokens has_text is_first =
@@ -126,6 +144,7 @@ directive_move rules true block d.If word after = line_move (line_tokens after) 
 directive_move rules true block d.Ifdef word after = line_move (only_name word after) (tests (λ is. is)) after
 directive_move rules true block d.Ifndef word after = line_move (only_name word after) (tests not) after
 directive_move rules true block d.Error word after = failing (ErrorDirective, word)
+directive_move rules true block d.Include word after = include_move rules word after
 directive_move rules true block d.Line word after = line_move (line_tokens after) (renumbers word) after
 directive_move rules true block d.Version word after = item_move (version_item (comments_before_end after)) word after
 directive_move rules true block d.Extension word after = item_move extension_item word after
@@ -133,6 +152,7 @@ directive_move rules true block d.Pragma word after = item_move pragma_item word
 directive_move rules true block d.Unknown word after = failing (UnknownDirective, word)
 -- In dead text each other line is skipped, also one that opens a block; after an unknown word it is dead text.
 directive_move rules false block d.Unknown word after = passing 0
+directive_move rules false block d.Include word after = dead_include_move rules after
 directive_move rules false block _ word after = skip_move rules after
 
 -- the items of an error in front, with the `#` of a directive before it

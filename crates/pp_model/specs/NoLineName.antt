@@ -16,8 +16,7 @@ use Rattle.pp_model.specs.declared.numbering.Numbering.{Numbering}
 -- whether the identifier `__LINE__` was taken
 abbrev pub is_line_name : Taken → Bool
 is_line_name (taken.Token read) = is_identifier line_name read.token.value
-is_line_name (taken.Fault fault) = false
-is_line_name taken.End = false
+is_line_name _ = false
 
 -- what is held, if anything, is no `__LINE__`
 abbrev pub HoldsNoLineName : {R : Type 0} → Expander R → Type 0

@@ -2,6 +2,7 @@
 use Rattle.std.specs.Prelude.{ℕ, Option, Some, None}
 use Rattle.pp_lexer.specs.declared.token.Location.{Location}
 use Rattle.pp_lexer.specs.declared.token.PreprocessorError.{PreprocessorError}
+use Rattle.pp_model.specs.declared.outcome.IncludeLine.{IncludeLine}
 use Rattle.pp_model.specs.declared.place.Place.{Place}
 use Rattle.pp_model.specs.declared.read.Read.{Read}
 use Rattle.pp_model.specs.declared.splice.CallPlace.{CallPlace}
@@ -12,7 +13,11 @@ source_text = 0
 
 -- a place of the text with this number
 abbrev pub in_text : ℕ → Location → Place
-in_text text location = record { location = location; text = text; call = None }
+in_text text location = record { location = location; text = text; call = None; asks = None }
+
+-- the place of the word of an `#include` line of this text that asks for its text
+abbrev pub asking : ℕ → IncludeLine → Place
+asking text line = record (in_text text line.word) { asks = Some line.rest }
 
 -- the place of a token that is read
 abbrev pub place_of : Read → Place
@@ -38,6 +43,10 @@ fault_in call fault = (fault.0, place_in call fault.1)
 -- an error of this text
 abbrev pub placed : ℕ → Fault → PlacedFault
 placed text fault = (fault.0, in_text text fault.1)
+
+-- the error, which can't be answered: it asks for no text
+abbrev pub unasked : PlacedFault → PlacedFault
+unasked fault = (fault.0, record fault.1 { asks = None })
 
 -- the error without the text and the call
 abbrev pub unplaced : PlacedFault → Fault

@@ -4,7 +4,7 @@ use Rattle.std.specs.Prelude.{◌≡◌, ◌⊎◌, ℕ, ◌+◌, pos, ◌-ℤ�
 use Rattle.std.specs.Prelude.{Result, Ok, Err}
 use Rattle.pp_lexer.specs.declared.rules.Rules.{Rules}
 use Rattle.pp_lexer.specs.declared.token.PreprocessorError.TheVariants.{DefineRedefined}
-use Rattle.pp_model.specs.Places.{PlacedFault, in_text, placed}
+use Rattle.pp_model.specs.Places.{PlacedFault, in_text, placed, unasked}
 use Rattle.pp_model.specs.Definitions.{Definition, with_change, IsSameDefinition}
 use Rattle.pp_model.specs.Painting.{taken_of}
 use Rattle.pp_model.specs.Reading.{Reading}
@@ -34,12 +34,12 @@ Defines text named (Some old) after o t =
     ⊎ ((IsSameDefinition old named.definition → ⊥)
     × (o ≡ Some (taken.Fault (placed text (DefineRedefined, named.location))))))
 
--- A line of this value gives nothing, and `next` says which reader comes after it. A fault is given, and the reader `r`
--- stays as it is.
+-- A line of this value gives nothing, and `next` says which reader comes after it. A fault is given, asks for nothing,
+-- and the reader `r` stays as it is.
 abbrev pub Evaluated : {A : Type 0} → Result A PlacedFault → (next : A → SourceReader) → SourceReader → Option Taken
     → SourceReader → Type 0
 Evaluated (Ok value) next r o t = (o ≡ None) × (t ≡ next value)
-Evaluated (Err fault) next r o t = (o ≡ Some (taken.Fault fault)) × (t ≡ r)
+Evaluated (Err fault) next r o t = (o ≡ Some (taken.Fault (unasked fault))) × (t ≡ r)
 
 -- What a step of the reader `r` gives, and the reader `t` after it, if `after` is the reader after the items that it
 -- takes. `A` says what calls in `#if`, `#elif` and `#line` lines give.

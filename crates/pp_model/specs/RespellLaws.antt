@@ -8,7 +8,7 @@ use Rattle.pp_lexer.specs.declared.token.Token.{Token}
 use Rattle.pp_lexer.specs.declared.token.TokenValue.{TokenValue}
 use Rattle.pp_lexer.specs.declared.rules.Rules.{Rules}
 use Rattle.pp_model.specs.Calls.{Answers}
-use Rattle.pp_model.specs.Run.{by_rules, Call, add_define, next, items_by, start_by, Runs}
+use Rattle.pp_model.specs.Run.{by_rules, Call, add_define, include, next, items_by, start_by, Runs}
 use Rattle.pp_model.specs.declared.call.Reply.{Reply}
 use Rattle.pp_model.specs.declared.call.Reply.TheVariants as reply
 use Rattle.pp_model.specs.declared.outcome.Outcome.{Outcome}
@@ -18,20 +18,19 @@ use Rattle.pp_model.specs.declared.outcome.Outcome.TheVariants as outcome
 abbrev pub IsText : List ℕ → Type 0
 IsText bytes = IsUtf8 bytes × (length bytes < 2 ^ 32 - 1)
 
--- the content that a call adds, if it adds one, is such a text
+-- the content that a call adds, or the text that it includes, is such a text
 abbrev pub HasText : Call → Type 0
 HasText (add_define name content) = IsText content
+HasText (include text) = IsText text
 HasText next = ⊤
 
 abbrev pub token_of : Outcome → Option Token
 token_of (outcome.Token token) = Some token
-token_of (outcome.Fault fault) = None
-token_of outcome.End = None
+token_of _ = None
 
 abbrev pub given_token : Reply → Option Token
 given_token (reply.Given o) = token_of o
-given_token (reply.Refused fault) = None
-given_token reply.Added = None
+given_token _ = None
 
 -- the tokens that the replies give
 abbrev pub given_tokens : List Reply → List Token

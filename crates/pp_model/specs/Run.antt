@@ -1,6 +1,6 @@
--- Runs: lists of calls of `add_define` and `next`, with the replies to them (docs/RULES.md, "Runs").
-use Rattle.std.specs.Prelude.{◌≡◌, ℕ, Bool, true, false, if◌then◌else◌, List, [], map, ◌∷◌, Some, None, Result, Ok, Err}
-use Rattle.std.specs.Prelude.{◌+◌, ◌<◌, ◌^◌, ◌-◌, length, ⊤}
+-- Runs: lists of calls of `add_define`, `include` and `next`, with the replies to them (docs/RULES.md, "Runs").
+use Rattle.std.specs.Prelude.{◌≡◌, ℕ, Bool, true, false, if◌then◌else◌, List, [], map, ◌∷◌, Option, Some, None, Result}
+use Rattle.std.specs.Prelude.{Ok, Err, ◌+◌, ◌<◌, ◌^◌, ◌-◌, length, ⊤}
 use Rattle.std.specs.Str.{chars}
 use Rattle.pp_lexer.specs.Items as lexer
 use Rattle.pp_lexer.specs.Lexed.{Seen, seen}
@@ -18,7 +18,7 @@ use Rattle.pp_model.specs.Emitting.{first_before, Emits, answers_at, expansion_l
 use Rattle.pp_model.specs.Lines.{ends_line}
 use Rattle.pp_model.specs.Conversions.{conversion}
 use Rattle.pp_expression.specs.Answers.{◌>>=◌}
-use Rattle.pp_model.specs.SourceReader.{SourceReader, reader_at_start}
+use Rattle.pp_model.specs.SourceReader.{SourceReader, reader_at_start, with_text, is_full}
 use Rattle.pp_model.specs.Reads.{source_reading}
 use Rattle.pp_model.specs.declared.call.Call.{Call as Called}
 use Rattle.pp_model.specs.declared.call.Call.TheVariants as called
@@ -26,21 +26,25 @@ use Rattle.pp_model.specs.declared.call.Reply.{Reply}
 use Rattle.pp_model.specs.declared.call.Reply.TheVariants as reply
 use Rattle.pp_model.specs.declared.outcome.Outcome.{Outcome}
 use Rattle.pp_model.specs.declared.read.Taken.{Taken}
+use Rattle.pp_model.specs.declared.read.Taken.TheVariants as taken
 use Rattle.pp_model.specs.declared.outcome.Outcome.TheVariants as outcome
 
--- a call: `add_define` of a name with a content, both as UTF-8, or `next`
+-- a call: `add_define` of a name with a content, `include` of a text, all as UTF-8, or `next`
 pub data Call : Type 0 where
   add_define : List ℕ → List ℕ → Call
+  include : List ℕ → Call
   next : Call
 
 -- the call of the definitions that a call of the program is
 abbrev pub call_of : Called → Call
 call_of (called.AddDefine name content) = add_define name.now content.now
+call_of (called.Include text) = include text.now
 call_of called.Next = next
 
--- the content of an added definition is short enough for the lexer
+-- the content of an added definition, or an included text, is short enough for the lexer
 abbrev pub HasRoom : Called → Type 0
 HasRoom (called.AddDefine name content) = length content.now < 2 ^ 32 - 1
+HasRoom (called.Include text) = length text.now < 2 ^ 32 - 1
 HasRoom called.Next = ⊤
 
 -- the items of a text by these rules
@@ -76,6 +80,15 @@ with_added name tokens e =
         contents = text;
       };
     }
+
+-- what is held, unless it is the end
+abbrev pub without_end : Option Taken → Option Taken
+without_end (Some taken.End) = None
+without_end held = held
+
+-- the included text with these items is read next; an end that was found is none
+abbrev pub with_included : List Seen → Expander SourceReader → Expander SourceReader
+with_included items e = record e { held = without_end e.held; reader = with_text items e.reader }
 
 abbrev pub is_fault : Outcome → Bool
 is_fault (outcome.Fault fault) = true
@@ -116,6 +129,16 @@ pub data Runs (C : Comings) (rules : Rules) : Expander SourceReader → List Cal
       → Runs C rules e calls rest
       → replies ≡ reply.Refused fault ∷ rest
       → Runs C rules e (add_define name content ∷ calls) replies
+  included : (text : List ℕ) (e : Expander SourceReader) (calls : List Call) (rest replies : List Reply)
+      → is_full e.reader ≡ false
+      → Runs C rules (with_included (items_by rules text) e) calls rest
+      → replies ≡ reply.Included ∷ rest
+      → Runs C rules e (include text ∷ calls) replies
+  too_deep : (text : List ℕ) (e : Expander SourceReader) (calls : List Call) (rest replies : List Reply)
+      → is_full e.reader ≡ true
+      → Runs C rules e calls rest
+      → replies ≡ reply.TooDeep ∷ rest
+      → Runs C rules e (include text ∷ calls) replies
   given : (o : Outcome) (e f : Expander SourceReader) (calls : List Call) (rest replies : List Reply)
       → C e o f
       → is_fault o ≡ false

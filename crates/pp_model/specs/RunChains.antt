@@ -1,5 +1,5 @@
 -- Calls one after another, each in the state after the one before: together they are a run.
-use Rattle.std.specs.Prelude.{◌≡◌, ℕ, false, List, [], ◌∷◌, ◌++◌, Ok, Err}
+use Rattle.std.specs.Prelude.{◌≡◌, ℕ, true, false, List, [], ◌∷◌, ◌++◌, None, Ok, Err}
 use Rattle.std.specs.Str.{chars}
 use Rattle.pp_lexer.specs.Lexed.{Seen}
 use Rattle.pp_lexer.specs.declared.token.Token.{Token}
@@ -8,10 +8,10 @@ use Rattle.pp_model.specs.Places.{Fault, PlacedFault, unplaced}
 use Rattle.pp_model.specs.Reading.{Expander}
 use Rattle.pp_model.specs.Calls.{Answers}
 use Rattle.pp_model.specs.Emitting.{Emits}
-use Rattle.pp_model.specs.SourceReader.{SourceReader}
+use Rattle.pp_model.specs.SourceReader.{SourceReader, is_full}
 use Rattle.pp_model.specs.Reads.{source_reading}
-use Rattle.pp_model.specs.Run.{Comings, by_rules, Call, add_define, next, items_by, content_tokens, with_added}
-use Rattle.pp_model.specs.Run.{is_fault, start_by, Runs}
+use Rattle.pp_model.specs.Run.{Comings, by_rules, Call, add_define, include, next, with_included, items_by}
+use Rattle.pp_model.specs.Run.{content_tokens, with_added, is_fault, start_by, Runs}
 use Rattle.pp_model.specs.declared.call.Reply.{Reply}
 use Rattle.pp_model.specs.declared.call.Reply.TheVariants as reply
 use Rattle.pp_model.specs.declared.outcome.Outcome.{Outcome}
@@ -31,6 +31,18 @@ pub data AnswersIn (C : Comings) (rules : Rules)
       → content_tokens (items_by rules content) ≡ Err fault
       → call ≡ add_define name content
       → answer ≡ reply.Refused fault
+      → f ≡ e
+      → AnswersIn C rules e call answer f
+  includes : (text : List ℕ) (call : Call) (answer : Reply) (e f : Expander SourceReader)
+      → is_full e.reader ≡ false
+      → call ≡ include text
+      → answer ≡ reply.Included
+      → f ≡ with_included (items_by rules text) e
+      → AnswersIn C rules e call answer f
+  refuses_text : (text : List ℕ) (call : Call) (answer : Reply) (e f : Expander SourceReader)
+      → is_full e.reader ≡ true
+      → call ≡ include text
+      → answer ≡ reply.TooDeep
       → f ≡ e
       → AnswersIn C rules e call answer f
   gives : (o : Outcome) (call : Call) (answer : Reply) (e f : Expander SourceReader)
@@ -67,5 +79,6 @@ pub record ChainsAreRuns (A : Answers) : Type 0 where
       (f g : Expander SourceReader) (fault : PlacedFault)
       → Chain (by_rules A) rules (start_by rules source) calls replies f
       → Emits (source_reading A) A f (taken.Fault fault) g
+      → fault.1.asks ≡ None
       → Runs (by_rules A) rules (start_by rules source) (calls ++ next ∷ [])
       (replies ++ reply.Given (outcome.Fault (unplaced fault)) ∷ [])

@@ -20,7 +20,7 @@ abbrev pub directives : List (List ℕ × Directive)
 directives =
     (codes "define", d.Define) ∷ (codes "undef", d.Undef) ∷ (codes "if", d.If) ∷ (codes "ifdef", d.Ifdef) ∷
     (codes "ifndef", d.Ifndef) ∷ (codes "elif", d.Elif) ∷ (codes "else", d.Else) ∷ (codes "endif", d.Endif) ∷
-    (codes "error", d.Error) ∷ (codes "line", d.Line) ∷
+    (codes "error", d.Error) ∷ (codes "include", d.Include) ∷ (codes "line", d.Line) ∷
     (codes "version", d.Version) ∷ (codes "extension", d.Extension) ∷ (codes "pragma", d.Pragma) ∷ []
 
 -- the directive of a word, or an unknown one

@@ -7,6 +7,8 @@ use crate::outcome::{Fault, Outcome};
 pub enum Call<'a> {
     /// `add_define` of this name with this content.
     AddDefine(&'a str, &'a str),
+    /// `include` of this text.
+    Include(&'a str),
     /// `next`.
     Next,
 }
@@ -18,6 +20,10 @@ pub enum Reply {
     Added,
     /// The definition has an error, and changes nothing.
     Refused(Fault),
+    /// The text comes next.
+    Included,
+    /// The text would be inside too many others, and nothing changes.
+    TooDeep,
     /// `next` returned the next item, or the end.
     Given(Outcome),
 }

@@ -28,6 +28,8 @@ pub enum Directive {
     Endif,
     /// `error`
     Error,
+    /// `include`
+    Include,
     /// `line`
     Line,
     /// `version`
@@ -71,6 +73,8 @@ pub fn directive_of(name: &Text) -> Directive
         Directive::Endif
     } else if is_word(name, "error") {
         Directive::Error
+    } else if is_word(name, "include") {
+        Directive::Include
     } else if is_word(name, "line") {
         Directive::Line
     } else if is_word(name, "version") {

@@ -1,9 +1,9 @@
 //! Places in texts, and errors with their places.
 
 ghost use Rattle.std.specs.Prelude.{◌≡◌};
-ghost use Rattle.pp_model.specs.Places.{fault_in, in_text, place_in, placed, unplaced};
+ghost use Rattle.pp_model.specs.Places.{asking, fault_in, in_text, place_in, placed, unasked, unplaced};
 
-use crate::outcome::Fault;
+use crate::outcome::{Fault, IncludeLine};
 use crate::splice::CallPlace;
 use pp_lexer::token::{Location, PreprocessorError};
 
@@ -20,6 +20,8 @@ pub struct Place {
     /// Where the outermost macro was called that was open when an error or a word of a line was found there, if one
     /// was.
     pub call: Option<CallPlace>,
+    /// The rest of the line, if an `#include` line asks for its text there.
+    pub asks: Option<Location>,
 }
 
 impl Place {
@@ -31,6 +33,19 @@ impl Place {
             location,
             text,
             call: None,
+            asks: None,
+        }
+    }
+
+    /// Returns the place of the word of an `#include` line of this text that asks for its text.
+    pub fn asking(text: u32, line: IncludeLine) -> Place
+        ensures { result ≡ asking text line }
+    {
+        Place {
+            location: line.word,
+            text,
+            call: None,
+            asks: Some(line.rest),
         }
     }
 
@@ -42,6 +57,7 @@ impl Place {
             location: self.location,
             text: self.text,
             call: call.or(self.call),
+            asks: self.asks,
         }
     }
 }
@@ -61,6 +77,15 @@ pub fn fault_in(call: Option<CallPlace>, fault: PlacedFault) -> PlacedFault
     ensures { result ≡ fault_in call fault }
 {
     (fault.0, fault.1.in_call(call))
+}
+
+/// Returns an error that can't be answered: it asks for no text.
+pub fn unasked(fault: PlacedFault) -> PlacedFault
+    ensures { result ≡ unasked fault }
+{
+    let mut place = fault.1;
+    place.asks = None;
+    (fault.0, place)
 }
 
 /// Returns an error without its text and its call.

@@ -4,9 +4,9 @@ ghost use Rattle.std.specs.Prelude.{◌≡◌};
 ghost use Rattle.pp_model.specs.Painting.{read_in, taken_of, item_of};
 ghost use Rattle.pp_model.specs.Places.{place_of};
 
-use crate::outcome::Outcome;
+use crate::outcome::{IncludeLine, Outcome};
 use crate::place::{Place, PlacedFault, placed, unplaced};
-use pp_lexer::token::Token;
+use pp_lexer::token::{PreprocessorError, Token};
 
 /// A token that is read, the text that it is in, and whether it is painted. An identifier is painted if its name is
 /// open, here or around, when it is taken. From then on it opens no macro.
@@ -59,6 +59,10 @@ impl Taken {
         match outcome {
             Outcome::Token(token) => Taken::Token(Read::of_text(token, text)),
             Outcome::Fault(fault) => Taken::Fault(placed(text, fault)),
+            Outcome::Include(line) => Taken::Fault((
+                PreprocessorError::UnknownDirective,
+                Place::asking(text, line),
+            )),
             Outcome::End => Taken::End,
         }
     }
@@ -69,7 +73,13 @@ impl Taken {
     {
         match self {
             Taken::Token(read) => Outcome::Token(read.token),
-            Taken::Fault(fault) => Outcome::Fault(unplaced(fault)),
+            Taken::Fault(fault) => match fault.1.asks {
+                Some(rest) => Outcome::Include(IncludeLine {
+                    word: fault.1.location,
+                    rest,
+                }),
+                None => Outcome::Fault(unplaced(fault)),
+            },
             Taken::End => Outcome::End,
         }
     }

@@ -1,5 +1,5 @@
 -- Every source has an item in each state of a run, and a run of each list of calls.
-use Rattle.std.proofs.Common.{◌≡◌, ℕ, false, List, [], ◌∷◌, refl}
+use Rattle.std.proofs.Common.{◌≡◌, ℕ, Bool, true, false, List, [], ◌∷◌, refl}
 use Rattle.std.specs.Prelude.{Result, Ok, Err, ◌+◌}
 use Rattle.std.specs.Str.{chars}
 use Rattle.pp_lexer.specs.Lexed.{Seen}
@@ -11,9 +11,9 @@ use Rattle.pp_model.specs.Reading.{Expander}
 use Rattle.pp_model.specs.Calls.{Answers}
 use Rattle.pp_model.specs.Definitions.{object_like}
 use Rattle.pp_model.specs.Emitting.{answers_at, expansion_limit}
-use Rattle.pp_model.specs.SourceReader.{SourceReader}
+use Rattle.pp_model.specs.SourceReader.{SourceReader, is_full}
 use Rattle.pp_model.specs.Reads.{source_reading}
-use Rattle.pp_model.specs.Run.{Call, add_define, next, items_by, content_tokens, start_by, with_added, is_fault, Gives, by_rules, Runs, done, added, refused, given, failed}
+use Rattle.pp_model.specs.Run.{Call, add_define, include, next, items_by, content_tokens, start_by, with_added, with_included, is_fault, Gives, by_rules, Runs, done, added, refused, included, too_deep, given, failed}
 use Rattle.pp_model.specs.ExistenceLaws.{AnAnswer, AnItem, RunDefinesFinitelyMany, ARun}
 use Rattle.pp_model.specs.RunStates.{LeadsTo}
 use Rattle.pp_model.specs.declared.call.Reply.{Reply}
@@ -48,11 +48,17 @@ module _ (A : Answers) (answered : AnAnswer A) (rules : Rules) where
       let replies = reply.Refused fault ∷ same.0 in
       (replies, refused name content fault e calls same.0 replies p same.1 refl)
 
+  includes : (text : List ℕ) (e : Expander SourceReader) (calls : List Call) → (full : Bool) → is_full e.reader ≡ full
+      → Running (with_included (items_by rules text) e) calls → Running e calls → Running e (include text ∷ calls)
+  includes text e calls false p more same = (reply.Included ∷ more.0, included text e calls more.0 (reply.Included ∷ more.0) p more.1 refl)
+  includes text e calls true p more same = (reply.TooDeep ∷ same.0, too_deep text e calls same.0 (reply.TooDeep ∷ same.0) p same.1 refl)
+
   goes_on : (e f : Expander SourceReader) (calls : List Call) (o : Outcome) → Gives A e o f → is_fault o ≡ false → Running f calls → Running e (next ∷ calls)
   goes_on e f calls o g on rest = (reply.Given o ∷ rest.0, given o e f calls rest.0 (reply.Given o ∷ rest.0) g on rest.1 refl)
 
   gives_next : (e f : Expander SourceReader) (calls : List Call) (o : Outcome) → Gives A e o f → Running f calls → Running e (next ∷ calls)
   gives_next e f calls (outcome.Token token) g rest = goes_on e f calls (outcome.Token token) g refl rest
+  gives_next e f calls (outcome.Include line) g rest = goes_on e f calls (outcome.Include line) g refl rest
   gives_next e f calls outcome.End g rest = goes_on e f calls outcome.End g refl rest
   gives_next e f calls (outcome.Fault fault) g rest =
       let replies = reply.Given (outcome.Fault fault) ∷ [] in
@@ -64,6 +70,8 @@ module _ (A : Answers) (answered : AnAnswer A) (rules : Rules) where
       adds name content e calls (content_tokens (items_by rules content)) refl
       (λ tokens. replies_to calls (with_added (chars name) tokens e) (with_one e.reader.definitions (chars name) finite (object_like (e.reader.contents + 1) tokens)))
       (replies_to calls e finite)
+  replies_to (include text ∷ calls) e finite =
+      includes text e calls (is_full e.reader) refl (replies_to calls (with_included (items_by rules text) e) finite) (replies_to calls e finite)
   replies_to (next ∷ calls) e finite =
       let i = next_item e (every_source A answered e finite) in
       gives_next e i.after calls (item_of i.item) (record { taken = i.item; emits = i.emits; is = refl }) (replies_to calls i.after i.fine)
@@ -75,7 +83,7 @@ pub start_finite : (rules : Rules) (source : List Seen) → HasFinite (start_by 
 start_finite rules source = record { names = []; among = λ name definition h. cc }
 
 module _ (level : ℕ) where
-  leads_to_finite : (e f : Expander SourceReader) → LeadsTo (answers_at level) e f → HasFinite e.reader → HasFinite f.reader
+  leads_to_finite : (e f : Expander SourceReader) → LeadsTo (answers_at level) true e f → HasFinite e.reader → HasFinite f.reader
   leads_to_finite = each_state (answers_at level) (λ e. HasFinite e.reader)
       (λ name tokens e finite. with_one e.reader.definitions name finite (object_like (e.reader.contents + 1) tokens))
       (λ x e f item finite.
@@ -83,6 +91,7 @@ module _ (level : ℕ) where
       let one = one_item_at (source_reading (answers_at level)) (source_reads_one (answers_at level) (one_answer level)) level in
       let same : f ≡ i.after = (one x i.item e f i.after item i.emits).1 in
       rw same i.fine)
+      true (λ may text rules e finite. finite)
 
   -- In each state of a run finitely many names are defined.
   pub run_defines_finitely_many : RunDefinesFinitelyMany (answers_at level)

@@ -3,7 +3,7 @@ use Rattle.std.proofs.Common.{◌≡◌, ℕ, zero, suc, ◌<◌, true, List, []
 use Rattle.std.specs.Prelude.{Result, Ok, Err, is_ok}
 use Rattle.pp_lexer.specs.declared.token.PreprocessorError.TheVariants.{IntegerOverflow, UnexpectedEndOfInput}
 use Rattle.pp_model.specs.declared.place.Place.{Place}
-use Rattle.pp_model.specs.Places.{PlacedFault, place_of}
+use Rattle.pp_model.specs.Places.{PlacedFault, place_of, unasked}
 use Rattle.pp_model.specs.Definitions.{Definition}
 use Rattle.pp_model.specs.Reading.{Reading, Expander}
 use Rattle.pp_model.specs.Taking.{Takes}
@@ -74,7 +74,7 @@ module _ {R : Type 0} (I : Reading R) (Fine : R → Type 0) (To : Expander R →
             let out : Result Gathered PlacedFault = Err (IntegerOverflow, place_of read) in
             record { result = out; after = f; gathers = overfull n last read e f out t q refl; fine = fine; comes = λ k. cc }
     gathering n last e (taking (taken.Fault fault) e1 f t fine to more) =
-        record { result = Err fault; after = f; gathers = failed n last fault e f (Err fault) t refl; fine = fine; comes = λ k. cc }
+        record { result = Err (unasked fault); after = f; gathers = failed n last fault e f (Err (unasked fault)) t refl; fine = fine; comes = λ k. cc }
     gathering n last e (taking taken.End e1 f t fine to more) =
         let out : Result Gathered PlacedFault = Err (UnexpectedEndOfInput, last) in
         record { result = out; after = f; gathers = ended n last e f out t refl; fine = fine; comes = λ k. cc }

@@ -6,7 +6,7 @@ use Rattle.pp_lexer.specs.declared.token.PreprocessorError.TheVariants.{DefineRe
 use Rattle.pp_lexer.specs.declared.token.Token.{Token}
 use Rattle.pp_model.specs.declared.read.Taken.{Taken}
 use Rattle.pp_model.specs.declared.read.Taken.TheVariants as taken
-use Rattle.pp_model.specs.Places.{PlacedFault, in_text, placed}
+use Rattle.pp_model.specs.Places.{PlacedFault, in_text, placed, unasked}
 use Rattle.pp_model.specs.Definitions.{Definition, IsSameDefinition}
 use Rattle.pp_model.specs.Painting.{taken_of}
 use Rattle.pp_model.specs.Reading.{Expander}
@@ -84,14 +84,14 @@ module _ (A : Answers) (answered : AnAnswer A) where
         → (x : Result Bool PlacedFault) → IsCondition A (in_text r.text word) tokens (list_numbering r.rules r.line_offset) r.definitions x → Stepped r
     decided_by word tokens p (Ok holds) c =
         passed (step.Condition word tokens) (decided r.position holds (act r).after) p refl ((moves r).finite f) refl (Ok holds, c, (refl, refl))
-    decided_by word tokens p (Err fault) c = faulty (step.Condition word tokens) fault r p f (Err fault, c, (refl, refl))
+    decided_by word tokens p (Err fault) c = faulty (step.Condition word tokens) (unasked fault) r p f (Err fault, c, (refl, refl))
 
     numbered_by : (word : Location) (tokens : List Token) → (act r).step ≡ step.LineNumber word tokens
         → (x : Result ℕ PlacedFault) → IsLineNumber A (in_text r.text word) tokens (list_numbering r.rules r.line_offset) r.definitions x → Stepped r
     numbered_by word tokens p (Ok n) c =
         let t : SourceReader = record (act r).after { line_offset = pos n -ℤ pos (numbered_line r.rules word.line) } in
         passed (step.LineNumber word tokens) t p refl ((moves r).finite f) refl (Ok n, c, (refl, refl))
-    numbered_by word tokens p (Err fault) c = faulty (step.LineNumber word tokens) fault r p f (Err fault, c, (refl, refl))
+    numbered_by word tokens p (Err fault) c = faulty (step.LineNumber word tokens) (unasked fault) r p f (Err fault, c, (refl, refl))
 
     step_by : (s : Step) → (act r).step ≡ s → Stepped r
     step_by step.Passed p = passed step.Passed (act r).after p refl ((moves r).finite f) refl (refl, refl)

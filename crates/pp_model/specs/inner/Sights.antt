@@ -30,6 +30,7 @@ directive_by_words name =
     else if is_word name (codes "else") then d.Else
     else if is_word name (codes "endif") then d.Endif
     else if is_word name (codes "error") then d.Error
+    else if is_word name (codes "include") then d.Include
     else if is_word name (codes "line") then d.Line
     else if is_word name (codes "version") then d.Version
     else if is_word name (codes "extension") then d.Extension
