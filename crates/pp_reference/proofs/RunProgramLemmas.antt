@@ -1,14 +1,15 @@
 -- What the plain program's replies come to.
 use Rattle.std.proofs.Common.{All, arith, suc, length, ◌≡◌, ◌∙◌, refl, ap, sym, subst, true, false, ℕ, List, [], ◌∷◌, map, Result, Ok, Err}
 use Rattle.std.specs.Str.{chars}
+use Rattle.pp_lexer.specs.Lexed.{Seen}
 use Rattle.pp_lexer.specs.declared.token.Token.{Token}
 use Rattle.pp_lexer.specs.declared.rules.Rules.{Rules}
 use Rattle.pp_model.specs.Reading.{Expander}
 use Rattle.pp_model.specs.Calls.{Answers}
 use Rattle.pp_reference.specs.inner.Halting.{Meets}
-use Rattle.pp_model.specs.SourceReader.{SourceReader}
+use Rattle.pp_model.specs.SourceReader.{SourceReader, is_full}
 use Rattle.pp_model.specs.Run as run
-use Rattle.pp_model.specs.Run.{by_rules, Call, add_define, next, items_by, content_tokens, Runs, call_of, HasRoom, ends_run}
+use Rattle.pp_model.specs.Run.{by_rules, Call, add_define, include, next, items_by, content_tokens, Runs, call_of, HasRoom, ends_run}
 use Rattle.pp_reference.specs.inner.SeenSource as by
 use Rattle.pp_reference.specs.inner.SeenSource.{Replying, RefusedBy}
 use Rattle.pp_model.specs.declared.call.Call.{Call as Called}
@@ -30,6 +31,10 @@ pub added_reply : (A : Answers) (rules : Rules) (name content : List ℕ) (body 
 added_reply A rules name content body tokens e f meets is after =
     by.added name content tokens e f reply.Added (subst (λ b. Meets b (content_tokens (items_by rules content))) is meets) refl after
 
+pub included_reply : (A : Answers) (rules : Rules) (text : List ℕ) (items : List Seen) (e f : Expander SourceReader)
+    → is_full e.reader ≡ false → items ≡ items_by rules text → f ≡ run.with_included items e → Replying A rules e (include text) reply.Included f
+included_reply A rules text items e f room is after = by.included text e f reply.Included room refl (rw is at after)
+
 pub runs_none : (A : Answers) (rules : Rules) (e : Expander SourceReader) (calls : List Called) (replies : List Reply) → calls ≡ [] → replies ≡ []
     → Runs (by_rules A) rules e (map call_of calls) replies
 runs_none A rules e calls replies none is = rw none (run.done e replies is)
@@ -41,9 +46,15 @@ runs_more A rules e f call calls r rest (by.added name content tokens e1 f1 r1 c
     run.added name content tokens e calls rest (r ∷ rest) c (rw q at later) (ap (λ (x : Reply). x ∷ rest) p)
 runs_more A rules e f call calls r rest (by.refused name content fault e1 f1 r1 c p q) more later =
     run.refused name content fault e calls rest (r ∷ rest) c (rw q at later) (ap (λ (x : Reply). x ∷ rest) p)
+runs_more A rules e f call calls r rest (by.included text e1 f1 r1 c p q) more later =
+    run.included text e calls rest (r ∷ rest) c (rw q at later) (ap (λ (x : Reply). x ∷ rest) p)
+runs_more A rules e f call calls r rest (by.too_deep text e1 f1 r1 c p q) more later =
+    run.too_deep text e calls rest (r ∷ rest) c (rw q at later) (ap (λ (x : Reply). x ∷ rest) p)
 runs_more A rules e f call calls r rest (by.given (outcome.Fault fault) e1 f1 r1 emits p) more later = let bad : true ≡ false = sym (ap ends_run p) ∙ more in cc
 runs_more A rules e f call calls r rest (by.given (outcome.Token token) e1 f1 r1 emits p) more later =
     run.given (outcome.Token token) e f calls rest (r ∷ rest) emits refl later (ap (λ (x : Reply). x ∷ rest) p)
+runs_more A rules e f call calls r rest (by.given (outcome.Include line) e1 f1 r1 emits p) more later =
+    run.given (outcome.Include line) e f calls rest (r ∷ rest) emits refl later (ap (λ (x : Reply). x ∷ rest) p)
 runs_more A rules e f call calls r rest (by.given outcome.End e1 f1 r1 emits p) more later =
     run.given outcome.End e f calls rest (r ∷ rest) emits refl later (ap (λ (x : Reply). x ∷ rest) p)
 
@@ -52,8 +63,11 @@ pub runs_over : (A : Answers) (rules : Rules) (e f : Expander SourceReader) (cal
     → Runs (by_rules A) rules e (call ∷ calls) (r ∷ [])
 runs_over A rules e f call calls r (by.added name content tokens e1 f1 r1 c p q) over = let bad : false ≡ true = sym (ap ends_run p) ∙ over in cc
 runs_over A rules e f call calls r (by.refused name content fault e1 f1 r1 c p q) over = let bad : false ≡ true = sym (ap ends_run p) ∙ over in cc
+runs_over A rules e f call calls r (by.included text e1 f1 r1 c p q) over = let bad : false ≡ true = sym (ap ends_run p) ∙ over in cc
+runs_over A rules e f call calls r (by.too_deep text e1 f1 r1 c p q) over = let bad : false ≡ true = sym (ap ends_run p) ∙ over in cc
 runs_over A rules e f call calls r (by.given (outcome.Fault fault) e1 f1 r1 emits p) over = run.failed fault e f calls (r ∷ []) emits (ap (λ (x : Reply). x ∷ []) p)
 runs_over A rules e f call calls r (by.given (outcome.Token token) e1 f1 r1 emits p) over = let bad : false ≡ true = sym (ap ends_run p) ∙ over in cc
+runs_over A rules e f call calls r (by.given (outcome.Include line) e1 f1 r1 emits p) over = let bad : false ≡ true = sym (ap ends_run p) ∙ over in cc
 runs_over A rules e f call calls r (by.given outcome.End e1 f1 r1 emits p) over = let bad : false ≡ true = sym (ap ends_run p) ∙ over in cc
 
 pub all_after : (calls : List Called) (call : Called) (others : List Called) → calls ≡ call ∷ others → All HasRoom calls → All HasRoom others

@@ -22,7 +22,7 @@ use pp_model::copies::copy_token;
 use pp_model::definition::Definition;
 use pp_model::names::is_line_name;
 use pp_model::parentheses::{Nesting, nesting_of};
-use pp_model::place::{Place, PlacedFault};
+use pp_model::place::{Place, PlacedFault, unasked};
 use pp_model::read::{Read, Taken};
 use pp_model::splice::{CallPlace, Entry};
 use std::alloc::{AllocError, Global};
@@ -397,7 +397,7 @@ impl<R: Reader> Expander<R> {
             budget.spend()?;
             let read = match self.take(budget)? {
                 Taken::Token(read) => read,
-                Taken::Fault(fault) => return Ok(Err(fault)),
+                Taken::Fault(fault) => return Ok(Err(unasked(fault))),
                 Taken::End => return Ok(Err((PreprocessorError::UnexpectedEndOfInput, last))),
             };
             last = read.place();

@@ -13,7 +13,7 @@ use crate::stop::{Halt, Stop};
 use pp_lexer::lexer::{self, LexerItem};
 use pp_lexer::token::{Location, PreprocessorError, Text, Token};
 use pp_model::definition::{Placed, TokenList};
-use pp_model::outcome::Fault;
+use pp_model::outcome::{Fault, IncludeLine};
 use std::alloc::Global;
 
 pub fn ends_line(item: &LexerItem) -> bool
@@ -35,6 +35,41 @@ pub fn line_length(items: &[SourceItem]) -> usize
         Some((first, _)) if ends_line(&first.item) => 1,
         Some((_, rest)) => 1 + line_length(rest),
     }
+}
+
+// Where the item begins, if it is a NewLine.
+fn newline_start(item: &LexerItem) -> Option<u32>
+    ensures { result ≡ spec.newline_start item.now }
+{
+    match item {
+        Ok(token) if is_newline(&token.value) => Some(token.location.start),
+        _ => None,
+    }
+}
+
+// Where the line's NewLine begins, or `from` if it has none.
+fn line_end(from: u32, items: &[SourceItem]) -> u32
+    ensures { result ≡ spec.line_end from items.now }
+{
+    let Some((first, rest)) = items.split_first() else {
+        return from;
+    };
+    match newline_start(&first.item) {
+        Some(start) => start,
+        None => line_end(from, rest),
+    }
+}
+
+/// An `#include` line with this place of its word, if these items come after it.
+pub fn include_line(word: Location, items: &[SourceItem]) -> IncludeLine
+    ensures { result ≡ spec.include_line word items.now }
+{
+    let rest = Location {
+        start: word.end,
+        end: line_end(word.end, items),
+        line: word.line,
+    };
+    IncludeLine { word, rest }
 }
 
 /// The first error of the lexer on the line.

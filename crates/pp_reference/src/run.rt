@@ -18,7 +18,7 @@ use crate::expander::Expander;
 use crate::item::SourceItem;
 use crate::line::with_first;
 use crate::source::Source;
-use crate::source_reader::SourceReader;
+use crate::source_reader::{Earlier, SourceReader};
 use crate::stop::{Budget, Halt, Stop, stays_short};
 use pp_lexer::lexer::{Lexer, LexerItem};
 use pp_lexer::rules::Rules;
@@ -27,6 +27,7 @@ use pp_model::call::{Call, Reply};
 use pp_model::definition::TokenList;
 use pp_model::outcome::Outcome;
 use pp_model::place::SOURCE_TEXT;
+use pp_model::read::Taken;
 use std::alloc::{AllocError, Global};
 
 // Whether the item is the error `OutOfMemory`.
@@ -96,10 +97,10 @@ fn content_tokens(alloc: Global, items: &[SourceItem]) -> Result<TokenList, Halt
 }
 
 // An expander at the start of a source that is read by these rules.
-fn start(alloc: Global, rules: Rules, items: &[SourceItem]) -> Result<Expander<Source<'_>>, Stop>
-    ensures { IfOk result (λ expander. seen source_state expander ≡ spec.start_by rules items.now) }
+fn start(alloc: Global, rules: Rules, items: Vec<SourceItem>) -> Result<Expander<Source>, Stop>
+    ensures { IfOk result (λ expander. seen source_state expander ≡ spec.start_by rules items.items) }
 {
-    let unfinished = blocks_at(alloc, items, items.len())?.len();
+    let unfinished = blocks_at(alloc, &items, items.len())?.len();
     let reader = SourceReader {
         rules,
         text: SOURCE_TEXT,
@@ -110,6 +111,11 @@ fn start(alloc: Global, rules: Rules, items: &[SourceItem]) -> Result<Expander<S
         line_offset: 0,
         truths: Vec::new(alloc),
         unfinished,
+        around: Vec::new(alloc),
+        earlier: Earlier {
+            text: false,
+            directive: false,
+        },
     };
     let source = Source { alloc, reader };
     Ok(Expander::new(alloc, source, Vec::new(alloc)))
@@ -145,7 +151,7 @@ fn text_of(alloc: Global, name: &str) -> Result<Text, AllocError>
 fn add_define(
     alloc: Global,
     rules: Rules,
-    expander: &mut Expander<Source<'_>>,
+    expander: &mut Expander<Source>,
     name: &str,
     content: &str,
 ) -> Result<Reply, Stop>
@@ -164,11 +170,41 @@ fn add_define(
     }
 }
 
-// The reply to a call, if contents are read by these rules.
+// Drops the end, if it is held.
+fn drop_end(held: &mut Option<Taken>)
+    ensures { held.new ≡ spec.without_end held.old }
+{
+    if matches!(held, Some(Taken::End)) {
+        *held = None;
+    }
+}
+
+// The reply to an `include`, whose text is read by these rules.
+fn include(
+    alloc: Global,
+    rules: Rules,
+    expander: &mut Expander<Source>,
+    text: &str,
+) -> Result<Reply, Stop>
+    requires { length text.now < 2 ^ 32 - 1 }
+    ensures { IfOk result (λ reply. Replying (answers_at expansion_limit) rules
+        (seen source_state expander.old) (spec.include text.now) reply
+        (seen source_state expander.new)) }
+{
+    if expander.reader.reader.is_full() {
+        return Ok(Reply::TooDeep);
+    }
+    let items = items_by(alloc, text, rules)?;
+    expander.reader.reader.include(alloc, items)?;
+    drop_end(&mut expander.held);
+    Ok(Reply::Included)
+}
+
+// The reply to a call, if contents and texts are read by these rules.
 fn reply_to(
     alloc: Global,
     rules: Rules,
-    expander: &mut Expander<Source<'_>>,
+    expander: &mut Expander<Source>,
     call: &Call<'_>,
     budget: &mut Budget,
 ) -> Result<Reply, Stop>
@@ -179,6 +215,7 @@ fn reply_to(
 {
     match call {
         Call::AddDefine(name, content) => add_define(alloc, rules, expander, name, content),
+        Call::Include(text) => include(alloc, rules, expander, text),
         Call::Next => {
             let item = emit(expander, expansion_limit(), budget)?;
             Ok(Reply::Given(item.taken.into_item()))
@@ -216,7 +253,7 @@ fn with_reply(reply: Reply, others: Vec<Reply>) -> Result<Vec<Reply>, Stop>
 fn replies(
     alloc: Global,
     rules: Rules,
-    expander: &mut Expander<Source<'_>>,
+    expander: &mut Expander<Source>,
     calls: &[Call<'_>],
     budget: &mut Budget,
 ) -> Result<Vec<Reply>, Stop>
@@ -244,13 +281,13 @@ fn replies(
 fn replies_over(
     alloc: Global,
     rules: Rules,
-    items: &[SourceItem],
+    items: Vec<SourceItem>,
     calls: &[Call<'_>],
     budget: &mut Budget,
 ) -> Result<Vec<Reply>, Stop>
     requires { All HasRoom calls.now }
     ensures { IfOk result (λ replies. spec.Runs (spec.by_rules (answers_at expansion_limit)) rules
-        (spec.start_by rules items.now) (map call_of calls.now) replies.items) }
+        (spec.start_by rules items.items) (map call_of calls.now) replies.items) }
 {
     let mut expander = start(alloc, rules, items)?;
     let replies = replies(alloc, rules, &mut expander, calls, budget);
@@ -273,15 +310,15 @@ fn run_within(
 {
     stays_short(calls.len())?;
     let items = items_by(alloc, source, rules)?;
-    replies_over(alloc, rules, &items, calls, budget)
+    replies_over(alloc, rules, items, calls, budget)
 }
 
 /// Returns the replies of a source, read by these rules, to the calls, up to and with the first
-/// error item. Returns `None` if that takes more than this many steps, if the source or a content
-/// has more than 3,000 items or a condition more than 3,000 words, or if there are more than 3,000
-/// calls.
+/// error item. Returns `None` if that takes more than this many steps, if the source, a content or an
+/// included text has more than 3,000 items or a condition more than 3,000 words, or if there are more
+/// than 3,000 calls.
 ///
-/// The source and each added content must have fewer than 2^32 - 1 bytes. The only error is that an
+/// The source, each added content and each included text must have fewer than 2^32 - 1 bytes. The only error is that an
 /// allocation failed.
 pub fn run_by(
     alloc: Global,

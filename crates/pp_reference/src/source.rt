@@ -18,18 +18,18 @@ use crate::stop::{Budget, Stop};
 use pp_lexer::token::{Integer, Location, PreprocessorError, Text};
 use pp_model::definition::{Named, TokenList};
 use pp_model::numbering::Numbering;
-use pp_model::place::{Place, PlacedFault, placed};
+use pp_model::place::{Place, PlacedFault, placed, unasked};
 use pp_model::read::Taken;
 use pp_model::step::Step;
 use std::alloc::Global;
 
 /// A source, read from its start.
 #[derive(Drop)]
-pub struct Source<'a> {
+pub struct Source {
     /// The allocator.
     pub alloc: Global,
     /// The position up to which it was read, and the state there.
-    pub reader: SourceReader<'a>,
+    pub reader: SourceReader,
 }
 
 // A fault as what a step gives.
@@ -39,7 +39,7 @@ fn given_fault(fault: PlacedFault) -> Option<Taken>
     Some(Taken::Fault(fault))
 }
 
-impl<'a> Source<'a> {
+impl Source {
     // Defines the name as a line of this text says, unless it has another definition already.
     fn define(&mut self, text: u32, named: Named) -> Result<Option<Taken>, Stop>
         ensures { IfOk result (λ o. Defines text named
@@ -89,7 +89,7 @@ impl<'a> Source<'a> {
                 self.reader.decide(holds)?;
                 Ok(None)
             }
-            Err(fault) => Ok(given_fault(fault)),
+            Err(fault) => Ok(given_fault(unasked(fault))),
         }
     }
 
@@ -122,7 +122,7 @@ impl<'a> Source<'a> {
                 self.reader.renumber(word, number);
                 Ok(None)
             }
-            Err(fault) => Ok(given_fault(fault)),
+            Err(fault) => Ok(given_fault(unasked(fault))),
         }
     }
 
@@ -143,7 +143,7 @@ impl<'a> Source<'a> {
     }
 }
 
-impl Reader for Source<'_> {
+impl Reader for Source {
     ghost use Rattle.pp_model.specs.Emitting.{answers_at, expansion_limit};
     ghost use Rattle.pp_reference.specs.inner.ReaderState.{reader_of};
     ghost use Rattle.pp_model.specs.Reads.{source_reading};

@@ -1,6 +1,7 @@
 //! A reader of a source: what each token or line does.
 
-ghost use Rattle.std.specs.Prelude.{◌≡◌, ◌≤◌, ◌+◌, pos, Some, None, length, IfOk, OnOk, option_map, not, true, false};
+ghost use Rattle.std.specs.Prelude.{◌≡◌, ◌≤◌, ◌+◌, [], pos, Some, None, length, IfOk, OnOk, option_map};
+ghost use Rattle.std.specs.Prelude.{not, true, false};
 ghost use Rattle.pp_model.specs.Lines.{only_name, line_tokens, comments_before_end};
 ghost use Rattle.pp_model.specs.DefineLines.{defined_on, undefined_on};
 ghost use Rattle.std.specs.Option.{option_copied};
@@ -15,6 +16,7 @@ ghost use Rattle.pp_model.specs.Reads.{numbered_line};
 ghost use Rattle.pp_model.specs.inner.Reads.{after_line_number};
 ghost use Rattle.pp_model.specs.inner.Run.{after_addition};
 ghost use Rattle.pp_model.specs.Sights.{least_items};
+ghost use Rattle.pp_model.specs.SourceReader as readers;
 ghost use Rattle.pp_reference.specs.declared.stop.Halt.TheVariants as halt;
 
 use crate::block::{Block, blocks_at, has_else, has_taken_branch, is_live};
@@ -22,10 +24,11 @@ use crate::define_line::{defined_on, undefined_on};
 use crate::definitions::Definitions;
 use crate::item::SourceItem;
 use crate::line::{
-    comments_before_end, ended_line, line_fault, line_length, line_tokens, only_name,
+    comments_before_end, ended_line, include_line, line_fault, line_length, line_tokens, only_name,
 };
+use crate::list::take_first;
 use crate::sight::sight_of;
-use crate::source_text::{error_length, has_live_text_before, is_first_directive};
+use crate::source_text::{error_length, has_directive, has_live_text_before};
 use crate::stop::{Halt, Stop};
 use pp_lexer::rules::Rules;
 use pp_lexer::token::{
@@ -41,22 +44,20 @@ use pp_model::step::Step;
 use pp_model::truth::Truth;
 use std::alloc::Global;
 use std::marker::Model;
+use std::mem;
 
-/// A reader of a source.
+/// How many texts may be included inside each other.
+const INCLUDE_LIMIT: usize = 200;
+
+/// A text in which reading goes on once the text that it includes ends.
 #[derive(Drop)]
-pub struct SourceReader<'a> {
-    /// The rules by which it reads.
-    pub rules: Rules,
+pub struct Suspended {
     /// The number of the text.
     pub text: u32,
-    /// The items of the source.
-    pub items: &'a [SourceItem],
+    /// The items of the text.
+    pub items: Vec<SourceItem>,
     /// The position of the item that comes next.
     pub position: usize,
-    /// The definitions that hold now.
-    pub definitions: Definitions,
-    /// How many contents were added.
-    pub contents: u32,
     /// The number that is added to a line for `__LINE__`.
     pub line_offset: i64,
     /// The conditions that were read, the latest first.
@@ -65,7 +66,61 @@ pub struct SourceReader<'a> {
     pub unfinished: usize,
 }
 
-impl<'a> Model for SourceReader<'a> {
+impl Model for Suspended {
+    ghost use Rattle.std.specs.Prelude.{◌≤◌, length};
+    ghost use Rattle.pp_model.specs.SourceReader as spec;
+
+    ghost Value = { spec.Suspended };
+
+    ghost view = { λ s. record {
+      text = s.text;
+      items = s.items.items;
+      position = s.position;
+      line_offset = s.line_offset;
+      truths = s.truths.items;
+      unfinished = s.unfinished;
+    } };
+
+    ghost invariant = { λ s. s.position ≤ length s.items.items };
+}
+
+/// What was read in other texts before.
+#[derive(Clone, Copy)]
+pub struct Earlier {
+    /// Whether live text was read.
+    pub text: bool,
+    /// Whether a directive was read.
+    pub directive: bool,
+}
+
+/// A reader of a source.
+#[derive(Drop)]
+pub struct SourceReader {
+    /// The rules by which it reads.
+    pub rules: Rules,
+    /// The number of the text.
+    pub text: u32,
+    /// The items of the text.
+    pub items: Vec<SourceItem>,
+    /// The position of the item that comes next.
+    pub position: usize,
+    /// The definitions that hold now.
+    pub definitions: Definitions,
+    /// How many contents were added and texts were included.
+    pub contents: u32,
+    /// The number that is added to a line for `__LINE__`.
+    pub line_offset: i64,
+    /// The conditions that were read, the latest first.
+    pub truths: Vec<Truth>,
+    /// How many blocks that stay open at the end are not reported yet.
+    pub unfinished: usize,
+    /// The texts around, the innermost first.
+    pub around: Vec<Suspended>,
+    /// What was read in other texts before.
+    pub earlier: Earlier,
+}
+
+impl Model for SourceReader {
     ghost use Rattle.std.specs.Prelude.{◌≤◌, length};
     ghost use Rattle.pp_reference.specs.inner.ReaderState as spec;
 
@@ -74,16 +129,18 @@ impl<'a> Model for SourceReader<'a> {
     ghost view = { λ r. record {
       rules = r.rules;
       text = r.text;
-      items = r.items.now;
+      items = r.items.items;
       position = r.position;
       changes = r.definitions;
       contents = r.contents;
       line_offset = r.line_offset;
       truths = r.truths.items;
       unfinished = r.unfinished;
+      around = r.around.items;
+      earlier = record { text = r.earlier.text; directive = r.earlier.directive };
     } };
 
-    ghost invariant = { λ r. r.position ≤ length r.items.now };
+    ghost invariant = { λ r. r.position ≤ length r.items.items };
 }
 
 fn refuse(error: PreprocessorError, location: Location) -> Halt
@@ -103,13 +160,20 @@ fn numbered_line(rules: Rules, line: u32) -> i64
     }
 }
 
-impl<'a> SourceReader<'a> {
+impl SourceReader {
+    // The items that are left.
+    fn items_left(&self) -> &[SourceItem]
+        ensures { result.now ≡ parts.items_left (reader_of self.now) }
+    {
+        &self.items[self.position..]
+    }
+
     // The items after the directive's word.
-    fn after_word(&self) -> &'a [SourceItem]
+    fn after_word(&self) -> &[SourceItem]
         requires { self.now.position + 2 ≤ length self.now.items }
         ensures { result.now ≡ parts.after_word (reader_of self.now) }
     {
-        &self.items[self.position..][2..]
+        &self.items_left()[2..]
     }
 
     // Moves past the directive's line.
@@ -188,10 +252,7 @@ impl<'a> SourceReader<'a> {
     pub fn add(&mut self, alloc: Global, name: Text, body: TokenList) -> Result<(), Stop>
         ensures { OnOk result (reader_of self.new ≡ after_addition name body (reader_of self.old)) }
     {
-        if self.contents == u32::MAX {
-            return Err(Stop::OutOfMemory);
-        }
-        let text = self.contents + 1;
+        let text = self.next_number()?;
         let definition = Definition {
             function_like: false,
             parameters: Vec::new(alloc),
@@ -201,6 +262,141 @@ impl<'a> SourceReader<'a> {
         self.definitions.change(name, Some(definition))?;
         self.contents = text;
         Ok(())
+    }
+
+    // Whether live text comes before the position, or came in another text.
+    fn had_text(&self, alloc: Global) -> Result<bool, Stop>
+        ensures { IfOk result (λ had. had ≡ readers.had_text (reader_of self.now)) }
+    {
+        if self.earlier.text {
+            return Ok(true);
+        }
+        has_live_text_before(alloc, &self.items, &self.truths, self.position)
+    }
+
+    // Whether a directive comes before the position, or came in another text.
+    fn had_directive(&self, alloc: Global) -> Result<bool, Stop>
+        ensures { IfOk result (λ had. had ≡ readers.had_directive (reader_of self.now)) }
+    {
+        if self.earlier.directive {
+            return Ok(true);
+        }
+        has_directive(alloc, &self.items[..self.position])
+    }
+
+    // Whether neither a directive nor live text comes before the position, or came in another text.
+    fn is_first_directive(&self, alloc: Global) -> Result<bool, Stop>
+        ensures { IfOk result (λ first. first ≡ readers.is_first_directive (reader_of self.now)) }
+    {
+        if self.had_directive(alloc)? {
+            return Ok(false);
+        }
+        Ok(!self.had_text(alloc)?)
+    }
+
+    // What was read before, for another text.
+    fn read_so_far(&self, alloc: Global) -> Result<Earlier, Stop>
+        ensures { IfOk result (λ earlier. record { text = earlier.text; directive = earlier.directive }
+            ≡ readers.earlier_of (reader_of self.now)) }
+    {
+        let text = self.had_text(alloc)?;
+        let directive = self.had_directive(alloc)?;
+        Ok(Earlier { text, directive })
+    }
+
+    /// Whether no text may be included inside the text that is read.
+    pub fn is_full(&self) -> bool
+        ensures { result ≡ readers.is_full (reader_of self.now) }
+    {
+        INCLUDE_LIMIT <= self.around.len()
+    }
+
+    // The number of the next content or text. Stops if it can have none.
+    fn next_number(&self) -> Result<u32, Stop>
+        ensures { IfOk result (λ number. number ≡ self.now.contents + 1) }
+    {
+        if self.contents == u32::MAX {
+            return Err(Stop::OutOfMemory);
+        }
+        Ok(self.contents + 1)
+    }
+
+    // Begins the text with this number and these items, and returns the one that was read.
+    fn begin(
+        &mut self,
+        alloc: Global,
+        text: u32,
+        items: Vec<SourceItem>,
+        unfinished: usize,
+    ) -> Suspended
+        ensures outer { result ≡ readers.suspended_of (reader_of self.old) }
+        ensures inner { reader_of self.new ≡ record (reader_of self.old) {
+          text = text;
+          items = items.items;
+          position = 0;
+          line_offset = pos 0;
+          truths = [];
+          unfinished = unfinished;
+        } }
+    {
+        let position = mem::replace(&mut self.position, 0);
+        Suspended {
+            text: mem::replace(&mut self.text, text),
+            items: mem::replace(&mut self.items, items),
+            position,
+            line_offset: mem::replace(&mut self.line_offset, 0),
+            truths: mem::replace(&mut self.truths, Vec::new(alloc)),
+            unfinished: mem::replace(&mut self.unfinished, unfinished),
+        }
+    }
+
+    /// Reads an included text with these items next. Stops if it can have no number.
+    pub fn include(&mut self, alloc: Global, items: Vec<SourceItem>) -> Result<(), Stop>
+        ensures { OnOk result (reader_of self.new ≡ readers.with_text items.items (reader_of self.old)) }
+    {
+        let unfinished = blocks_at(alloc, &items, items.len())?.len();
+        let earlier = self.read_so_far(alloc)?;
+        let text = self.next_number()?;
+        let outer = self.begin(alloc, text, items, unfinished);
+        self.around.insert(0, outer)?;
+        self.earlier = earlier;
+        self.contents = text;
+        Ok(())
+    }
+
+    // Goes on in this text.
+    fn resume(&mut self, outer: Suspended)
+        ensures { reader_of self.new ≡ record (reader_of self.old) {
+          text = outer.text;
+          items = outer.items;
+          position = outer.position;
+          line_offset = outer.line_offset;
+          truths = outer.truths;
+          unfinished = outer.unfinished;
+        } }
+    {
+        self.text = outer.text;
+        self.position = 0;
+        self.items = outer.items;
+        self.position = outer.position;
+        self.line_offset = outer.line_offset;
+        self.truths = outer.truths;
+        self.unfinished = outer.unfinished;
+    }
+
+    // Goes on in the text around, if there is one. The end of the source is the end.
+    fn leave(&mut self, alloc: Global) -> Result<Step, Halt>
+        ensures acts { ActsAs result (spec.leave (reader_of self.old).around (reader_of self.old))
+            (reader_of self.new) }
+        ensures line { HasLineIfOk result self.old self.new }
+    {
+        let earlier = self.read_so_far(alloc)?;
+        let Some(outer) = take_first(&mut self.around) else {
+            return Ok(Step::Given(Outcome::End));
+        };
+        self.resume(outer);
+        self.earlier = earlier;
+        Ok(Step::Passed)
     }
 
     // Gathers the line of a condition.
@@ -292,7 +488,7 @@ impl<'a> SourceReader<'a> {
         ensures { IfOk result (λ live. live
             ≡ are_surroundings_live self.now.items self.now.truths block.now) }
     {
-        is_live(alloc, self.items, &self.truths, block.first.position)
+        is_live(alloc, &self.items, &self.truths, block.first.position)
     }
 
     // Reads an `#elif` of this block.
@@ -383,7 +579,7 @@ impl<'a> SourceReader<'a> {
             (reader_of self.new) }
         ensures line { HasLineIfOk result self.old self.new }
     {
-        let blocks = blocks_at(alloc, self.items, self.position)?;
+        let blocks = blocks_at(alloc, &self.items, self.position)?;
         self.elif_in(alloc, blocks.last(), word)
     }
 
@@ -395,7 +591,7 @@ impl<'a> SourceReader<'a> {
             (reader_of self.new) }
         ensures line { HasLineIfOk result self.old self.new }
     {
-        let blocks = blocks_at(alloc, self.items, self.position)?;
+        let blocks = blocks_at(alloc, &self.items, self.position)?;
         self.else_in(alloc, blocks.last(), word)
     }
 
@@ -407,7 +603,7 @@ impl<'a> SourceReader<'a> {
             (reader_of self.new) }
         ensures line { HasLineIfOk result self.old self.new }
     {
-        let blocks = blocks_at(alloc, self.items, self.position)?;
+        let blocks = blocks_at(alloc, &self.items, self.position)?;
         self.endif_in(alloc, blocks.last(), word)
     }
 
@@ -422,7 +618,7 @@ impl<'a> SourceReader<'a> {
         ensures line { HasLineIfOk result self.old self.new }
     {
         let tokens = line_tokens(alloc, self.after_word())?;
-        let first = is_first_directive(alloc, self.items, &self.truths, self.position)?;
+        let first = self.is_first_directive(alloc)?;
         let value = TokenValue::Version(Version {
             tokens: Tokens::from(tokens.items),
             is_first_directive: first,
@@ -441,7 +637,7 @@ impl<'a> SourceReader<'a> {
         ensures line { HasLineIfOk result self.old self.new }
     {
         let tokens = line_tokens(alloc, self.after_word())?;
-        let before = has_live_text_before(alloc, self.items, &self.truths, self.position)?;
+        let before = self.had_text(alloc)?;
         let value = TokenValue::Extension(Extension {
             tokens: Tokens::from(tokens.items),
             has_non_directive_before: before,
@@ -478,6 +674,46 @@ impl<'a> SourceReader<'a> {
         }))
     }
 
+    // Asks for the text of an `#include` line, if the rules say so.
+    fn ask(&mut self, alloc: Global, word: Location) -> Result<Step, Halt>
+        requires { self.old.position + 2 ≤ length self.old.items }
+        ensures acts { ActsAs result (parts.perform_line
+            (moves.include_move self.old.rules word (parts.after_word (reader_of self.old)))
+            (reader_of self.old)) (reader_of self.new) }
+        ensures line { HasLineIfOk result self.old self.new }
+    {
+        if !self.rules.asks_includes {
+            return Err(refuse(PreprocessorError::UnknownDirective, word));
+        }
+        let line = include_line(word, self.after_word());
+        if self.rules.passes_dead_errors {
+            self.pass_line();
+            return Ok(Step::Given(Outcome::Include(line)));
+        }
+        match line_fault(alloc, self.after_word())? {
+            Some(fault) => Err(Halt::Fault(fault)),
+            None => {
+                self.pass_line();
+                Ok(Step::Given(Outcome::Include(line)))
+            }
+        }
+    }
+
+    // Skips an `#include` line in dead text, if the rules know it, or else passes its word, like any unknown one.
+    fn skip_include(&mut self, alloc: Global) -> Result<Step, Halt>
+        requires { self.old.position + 2 ≤ length self.old.items }
+        ensures acts { ActsAs result (parts.perform_line
+            (moves.dead_include_move self.old.rules (parts.after_word (reader_of self.old)))
+            (reader_of self.old)) (reader_of self.new) }
+        ensures line { HasLineIfOk result self.old self.new }
+    {
+        if self.rules.asks_includes {
+            return self.skip_line(alloc);
+        }
+        self.position += 2;
+        Ok(Step::Passed)
+    }
+
     // Acts on a directive in live text.
     fn act_live_directive(
         &mut self,
@@ -502,6 +738,7 @@ impl<'a> SourceReader<'a> {
             Directive::Else => self.else_line(alloc, word),
             Directive::Endif => self.endif_line(alloc, word),
             Directive::Error => Err(refuse(PreprocessorError::ErrorDirective, word)),
+            Directive::Include => self.ask(alloc, word),
             Directive::Line => self.line_number(alloc, word),
             Directive::Version => self.version(alloc, word),
             Directive::Extension => self.extension(alloc, word),
@@ -528,6 +765,7 @@ impl<'a> SourceReader<'a> {
             Directive::Elif => self.elif_line(alloc, word),
             Directive::Else => self.else_line(alloc, word),
             Directive::Endif => self.endif_line(alloc, word),
+            Directive::Include => self.skip_include(alloc),
             Directive::Unknown => {
                 self.position += 2;
                 Ok(Step::Passed)
@@ -545,15 +783,15 @@ impl<'a> SourceReader<'a> {
         }
     }
 
-    // Reports the next of the blocks that stay open at the end, or the end.
+    // Reports the next of the blocks that stay open at the end of the text, or leaves the text.
     fn tell_end(&mut self, alloc: Global) -> Result<Step, Halt>
         ensures acts { ActsAs result (spec.end_at (reader_of self.old)) (reader_of self.new) }
         ensures line { HasLineIfOk result self.old self.new }
     {
-        let mut blocks = blocks_at(alloc, self.items, self.items.len())?;
+        let mut blocks = blocks_at(alloc, &self.items, self.items.len())?;
         blocks.truncate(self.unfinished);
         let Some(block) = blocks.last() else {
-            return Ok(Step::Given(Outcome::End));
+            return self.leave(alloc);
         };
         let word = block.first.word;
         self.unfinished = self.unfinished.saturating_sub(1);
@@ -608,7 +846,7 @@ impl<'a> SourceReader<'a> {
         match sight {
             Sight::End => self.tell_end(alloc),
             Sight::Fault(_) if self.rules.passes_dead_errors => {
-                Ok(self.pass(error_length(&self.items[self.position..])))
+                Ok(self.pass(error_length(self.items_left())))
             }
             Sight::Fault(fault) => Err(Halt::Fault(fault)),
             Sight::NewLine | Sight::Token(_) | Sight::Hash(_) => Ok(self.pass(1)),
@@ -622,8 +860,8 @@ impl<'a> SourceReader<'a> {
         ensures acts { ActsAs result (spec.act (reader_of self.old)) (reader_of self.new) }
         ensures line { HasLineIfOk result self.old self.new }
     {
-        let live = is_live(alloc, self.items, &self.truths, self.position)?;
-        let sight = sight_of(alloc, &self.items[self.position..])?;
+        let live = is_live(alloc, &self.items, &self.truths, self.position)?;
+        let sight = sight_of(alloc, self.items_left())?;
         if live {
             self.act_live(alloc, sight)
         } else {

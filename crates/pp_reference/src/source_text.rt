@@ -44,8 +44,8 @@ fn begins_with_text(alloc: Global, items: &[SourceItem]) -> Result<bool, Stop>
     Ok(is_text(&sight))
 }
 
-// Whether one of these items begins a directive.
-fn has_directive(alloc: Global, items: &[SourceItem]) -> Result<bool, Stop>
+/// Whether one of these items begins a directive.
+pub fn has_directive(alloc: Global, items: &[SourceItem]) -> Result<bool, Stop>
     ensures { IfOk result (λ has. has ≡ spec.has_directive items.now) }
 {
     let Some((_, rest)) = items.split_first() else {
@@ -129,21 +129,4 @@ pub fn has_live_text_before(
         return Ok(true);
     }
     has_live_text_before(alloc, source, truths, position - 1)
-}
-
-/// Whether there is neither a directive nor a live token of the text before the position.
-pub fn is_first_directive(
-    alloc: Global,
-    source: &[SourceItem],
-    truths: &[Truth],
-    position: usize,
-) -> Result<bool, Stop>
-    requires { position ≤ length source.now }
-    ensures { IfOk result (λ first. first
-        ≡ spec.is_first_directive source.now truths.now position) }
-{
-    if has_directive(alloc, &source[..position])? {
-        return Ok(false);
-    }
-    Ok(!has_live_text_before(alloc, source, truths, position)?)
 }

@@ -9,14 +9,14 @@ use std::alloc::{AllocError, AllocFailed};
 /// Why the plain program gives no answer.
 #[derive(Clone, Copy, PartialEq, Eq, Debug)]
 pub enum Stop {
-    /// An allocation failed, or a content can have no number.
+    /// An allocation failed, or a content or an included text can have no number.
     OutOfMemory,
     /// The steps of the budget are used up, or a list is too long.
     OutOfBudget,
 }
 
-// The most items that a source or a content may have, and the most calls that may be made. For each of them some
-// function calls itself once more, which takes native stack.
+// The most items that a source, a content or an included text may have, and the most calls that may be made. For each
+// of them some function calls itself once more, which takes native stack.
 const MOST: usize = 3_000;
 
 /// Stops if a list has more elements than the native stack has room for.

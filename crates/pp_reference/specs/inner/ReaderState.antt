@@ -4,7 +4,7 @@ use Rattle.pp_lexer.specs.Lexed.{Seen}
 use Rattle.pp_lexer.specs.declared.rules.Rules.{Rules}
 use Rattle.pp_reference.specs.inner.Changes.{meaning_of}
 use Rattle.pp_model.specs.Blocks.{Truths}
-use Rattle.pp_model.specs.SourceReader.{SourceReader}
+use Rattle.pp_model.specs.SourceReader.{Suspended, Earlier, SourceReader}
 use Rattle.pp_reference.specs.declared.definitions.Change.{Change}
 
 -- a reader of a source, with the changes of the definitions in place of the map that they give
@@ -18,6 +18,8 @@ pub record ReaderState : Type 0 where
   pub line_offset : ℤ
   pub truths : Truths
   pub unfinished : ℕ
+  pub around : List Suspended
+  pub earlier : Earlier
 
 abbrev pub reader_of : ReaderState → SourceReader
 reader_of state = record {
@@ -30,4 +32,6 @@ reader_of state = record {
   line_offset = state.line_offset;
   truths = state.truths;
   unfinished = state.unfinished;
+  around = state.around;
+  earlier = state.earlier;
 }

@@ -9,9 +9,10 @@ use Rattle.pp_lexer.specs.declared.rules.Rules.{Rules}
 use Rattle.pp_model.specs.Places.{Fault}
 use Rattle.pp_model.specs.Reading.{Expander}
 use Rattle.pp_model.specs.Calls.{Answers}
-use Rattle.pp_model.specs.SourceReader.{SourceReader}
+use Rattle.pp_model.specs.SourceReader.{SourceReader, is_full}
 use Rattle.pp_reference.specs.inner.ReaderState.{reader_of}
-use Rattle.pp_model.specs.Run.{by_rules, Call, add_define, next, items_by, content_tokens, with_added}
+use Rattle.pp_model.specs.Run.{by_rules, Call, add_define, include, next, items_by, content_tokens, with_added}
+use Rattle.pp_model.specs.Run.{with_included}
 use Rattle.pp_model.specs.declared.call.Reply.{Reply}
 use Rattle.pp_model.specs.declared.call.Reply.TheVariants as reply
 use Rattle.pp_model.specs.declared.outcome.Outcome.{Outcome}
@@ -31,7 +32,7 @@ abbrev pub is_refused : Lexeme → Bool
 is_refused (Ok token) = false
 is_refused (Err fault) = is_out_of_memory fault.0
 
--- the reply to one call, if contents are read by these rules, and the state after it
+-- the reply to one call, if contents and texts are read by these rules, and the state after it
 pub data Replying (A : Answers) (rules : Rules)
     : Expander SourceReader → Call → Reply → Expander SourceReader → Type 0 where
   added : (name content : List ℕ) (tokens : List Token) (e f : Expander SourceReader) (r : Reply)
@@ -44,6 +45,16 @@ pub data Replying (A : Answers) (rules : Rules)
       → r ≡ reply.Refused fault
       → f ≡ e
       → Replying A rules e (add_define name content) r f
+  included : (text : List ℕ) (e f : Expander SourceReader) (r : Reply)
+      → is_full e.reader ≡ false
+      → r ≡ reply.Included
+      → f ≡ with_included (items_by rules text) e
+      → Replying A rules e (include text) r f
+  too_deep : (text : List ℕ) (e f : Expander SourceReader) (r : Reply)
+      → is_full e.reader ≡ true
+      → r ≡ reply.TooDeep
+      → f ≡ e
+      → Replying A rules e (include text) r f
   given : (o : Outcome) (e f : Expander SourceReader) (r : Reply)
       → by_rules A e o f
       → r ≡ reply.Given o

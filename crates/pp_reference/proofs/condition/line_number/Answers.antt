@@ -39,5 +39,6 @@ returns-in-Ok-2-clause-reads c =
       read = rw (← c.tokens.view_is) c.in_ok-words.ensures.words;
       numbers = numbers_followed c.args.directive c.in_ok-words.words _ _ c.in_ok-value.ensures.takes c.in-Ok.value c.in-Some.number
           c.in-Ok.is some (Ok c.in-Some.number) more
-          (alone_at_value c.args.directive _ _ c.in-Ok-2.field-0 c.in-Some.number (rw c.in-Ok-2.is at c.in_ok-value_alone.ensures));
+          (alone_at_value c.args.directive _ _ (λ value. c.in-Some.number) c.in-Ok-2.field-0
+          (rw c.in-Ok-2.is at c.in_ok-value_alone.ensures));
     }

@@ -1,4 +1,4 @@
-use Rattle.std.proofs.Common.{[], refl, arith}
+use Rattle.std.proofs.Common.{[], refl, ap, arith}
 use Rattle.std.specs.Prelude.{Ok, Err}
 use Rattle.pp_lexer.specs.declared.token.PreprocessorError.TheVariants.{IntegerOverflow, UnexpectedEndOfInput}
 use Rattle.pp_model.specs.Calls.{before, closed, inside, overfull, ended, failed}
@@ -8,8 +8,8 @@ use Rattle.pp_reference.proofs.expander.Expander.gather.Goals as goal
 
 pub returns-in-Fault-clause-gathers : goal.returns-in-Fault-clause-gathers
 returns-in-Fault-clause-gathers g c =
-    c.tokens.invariant.goes_on (Err c.in-Fault.fault) (seen g.R.Reader.state c.take.new.self)
-    (failed c.tokens.depth c.tokens.last c.in-Fault.fault _ _ _ (rw c.in-Fault.is at c.in_ok-read.ensures.takes) refl)
+    c.tokens.invariant.goes_on (Err c.unasked.result) (seen g.R.Reader.state c.take.new.self)
+    (failed c.tokens.depth c.tokens.last c.in-Fault.fault _ _ _ (rw c.in-Fault.is at c.in_ok-read.ensures.takes) (ap Err c.unasked.ensures))
 
 pub returns-in-End-clause-gathers : goal.returns-in-End-clause-gathers
 returns-in-End-clause-gathers g c =

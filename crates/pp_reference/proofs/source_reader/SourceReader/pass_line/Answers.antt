@@ -9,7 +9,7 @@ invariant_of-self c =
       arith,
       c.line_length-length.ensures.most,
       ap length after,
-      length-drop 2 (drop p.position p.items.now),
-      length-drop p.position p.items.now,
+      length-drop 2 (drop p.position p.items.items),
+      length-drop p.position p.items.items,
       rw (← c.self.view_is) at c.requires,
     )
