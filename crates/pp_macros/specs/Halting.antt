@@ -1,10 +1,8 @@
 -- Why reading a part of the source stopped without a value, as the exit of a step.
 use Rattle.std.specs.Prelude.{ℕ, if◌then◌else◌, Option, Result, Ok, Err}
-use Rattle.pp_lexer.specs.declared.token.Token.{Token}
-use Rattle.pp_model.specs.Places.{PlacedFault, fault_in, placed, unplaced}
+use Rattle.pp_model.specs.Places.{PlacedFault, fault_in, placed}
 use Rattle.pp_model.specs.declared.splice.CallPlace.{CallPlace}
-use Rattle.pp_macros.specs.Item.{PlacedStep, is_out_of_memory, no_memory}
-use Rattle.pp_macros.specs.inner.Turns.{as_pause}
+use Rattle.pp_macros.specs.Item.{is_out_of_memory, no_memory}
 use Rattle.pp_macros.specs.declared.halt.Halt.{Halt}
 use Rattle.pp_macros.specs.declared.halt.Halt.TheVariants as halt
 use Rattle.pp_macros.specs.declared.halt.PlacedHalt.{PlacedHalt}
@@ -16,15 +14,6 @@ use Rattle.pp_macros.specs.declared.step.PlacedExit.TheVariants.{Error}
 abbrev pub placed_halt_of : ℕ → Halt → PlacedHalt
 placed_halt_of text (halt.Fault fault) = placed_halt.Fault (placed text fault)
 placed_halt_of text halt.OutOfMemory = placed_halt.OutOfMemory
-
--- the same without the text of the fault
-abbrev pub unplaced_halt : PlacedHalt → Halt
-unplaced_halt (placed_halt.Fault fault) = halt.Fault (unplaced fault)
-unplaced_halt placed_halt.OutOfMemory = halt.OutOfMemory
-
-abbrev pub unplaced_result : {A : Type 0} → Result A PlacedHalt → Result A Halt
-unplaced_result (Ok value) = Ok value
-unplaced_result (Err halt) = Err (unplaced_halt halt)
 
 -- the same in this call, if there is one
 abbrev pub halt_in : Option CallPlace → PlacedHalt → PlacedHalt
@@ -39,11 +28,6 @@ result_in call (Err halt) = Err (halt_in call halt)
 abbrev pub exit_of : PlacedHalt → PlacedExit
 exit_of (placed_halt.Fault fault) = Error fault
 exit_of placed_halt.OutOfMemory = Error no_memory
-
--- a token is given, and no token is a pause
-abbrev pub step_of : Result (Option Token) PlacedHalt → PlacedStep Token
-step_of (Ok given) = as_pause given
-step_of (Err halt) = Err (exit_of halt)
 
 -- `OutOfMemory` as such, any other error as a fault
 abbrev pub halt_of : PlacedFault → PlacedHalt

@@ -28,7 +28,7 @@ use crate::step::{PlacedExit, PlacedStep, is_out_of_memory, no_memory};
 use pp_lexer::token::{Location, PreprocessorError, Text, Token, TokenValue, out_of_memory};
 use pp_model::names::is_line_name;
 use pp_model::parentheses::{Nesting, is_left_paren, nesting_of};
-use pp_model::place::Place;
+use pp_model::place::{Place, unasked};
 use pp_model::read::Read;
 use pp_model::splice::CallPlace;
 use std::alloc::{AllocError, Global};
@@ -333,7 +333,7 @@ impl MacroProcessor {
         'tokens: loop {
             match self.push_run(lexer, tokens) {
                 Ok(()) => {}
-                Err(PlacedExit::Error(fault)) => return Err(halt_of(fault)),
+                Err(PlacedExit::Error(fault)) => return Err(halt_of(unasked(fault))),
                 Err(PlacedExit::Finished) => return Err(ended_after(paren, tokens)),
                 Err(PlacedExit::Continue) => return Err(ended_after(paren, tokens)),
             }

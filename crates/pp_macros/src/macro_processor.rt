@@ -20,7 +20,7 @@ ghost use Rattle.pp_macros.specs.inner.Idle.{is_idle};
 ghost use Rattle.pp_macros.specs.inner.Nesting.{AreKnown, nothing_open, open_names, stepped, with_frames};
 ghost use Rattle.pp_macros.specs.inner.Reader.{definitions_of, shown_line};
 ghost use Rattle.pp_macros.specs.inner.Reading.{painted_from};
-ghost use Rattle.pp_macros.specs.inner.Expander.{kept_call, step_of_outcome, taken_as};
+ghost use Rattle.pp_macros.specs.inner.Expander.{kept_call, step_of_outcome, taken_as, without_end};
 ghost use Rattle.pp_macros.specs.inner.Turns.{Moves};
 
 use crate::argument_lists::{ArgumentLists, Part};
@@ -301,6 +301,15 @@ impl MacroProcessor {
         ensures { self.new ≡ record self.old { here = record self.old.here { held = Some step } } }
     {
         drop(self.held.replace(step));
+    }
+
+    /// Forgets an end that is held, since another text is read next.
+    pub fn forget_end(&mut self)
+        ensures { self.new ≡ record self.old { here = record self.old.here { held = without_end self.old.here.held } } }
+    {
+        if matches!(self.held, Some(Err(PlacedExit::Finished))) {
+            drop(self.held.take());
+        }
     }
 
     /// Takes the step that is held. It is a function of its own, so that other tokens are moved less.

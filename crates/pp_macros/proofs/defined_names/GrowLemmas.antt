@@ -6,13 +6,14 @@ use Rattle.pp_lexer.specs.declared.token.Token.{Token}
 use Rattle.pp_model.specs.Acts.{defined_in}
 use Rattle.pp_model.specs.Definitions.{Definition}
 use Rattle.pp_model.specs.declared.definition.Named.{Named}
-use Rattle.pp_model.specs.Moves.{Effect, gives, gives_item, fails, ends, passes, defines, undefines, tests, decides, renumbers}
+use Rattle.pp_model.specs.Moves.{Effect, gives, gives_item, asks, fails, ends, passes, defines, undefines, tests, decides, renumbers}
 use Rattle.pp_model.specs.Names.{Name}
 use Rattle.pp_model.specs.Sights.{sight_of}
 use Rattle.pp_model.specs.declared.read.Read.{Read}
 use Rattle.pp_macros.specs.Item.{PlacedStep, wants_memory}
 use Rattle.pp_macros.specs.inner.Defined.{GrowAtEnd, meaning_of, names_in}
 use Rattle.pp_macros.specs.inner.OpenBlocks.{last_block, BlockChange, block_change_at}
+use Rattle.pp_macros.specs.inner.Reader as reader
 use Rattle.pp_macros.specs.inner.Reader.{Reader, of_source, of_list, Reads, ReadsFlat, none_read, read_more, ReadsOnto, ReadsRun, definitions_of}
 use Rattle.pp_macros.specs.inner.Reading.{unpainted_step}
 use Rattle.pp_macros.specs.inner.Source.{Source, IsAfterFault, DefinesOver, Ends, Decides, holds, faulty, Renumbers, numbers, unnumbered, HasEffect, MakesMove, IsRefusedStep, StepsSource}
@@ -63,6 +64,7 @@ module _ (old new : Source) where
       → HasEffect effect taken note change old step new → Grows
   effect_grows (gives token) taken note change step h = stays h.2
   effect_grows (gives_item item word) taken note change step h = stays h.2
+  effect_grows (asks line) taken note change step h = stays h.2
   effect_grows (fails fault) taken note change step h = fault_grows h.1
   effect_grows ends taken note change step h = end_grows (last_block old.blocks) step h
   effect_grows passes taken note change step h = stays h.2
@@ -89,8 +91,10 @@ given_wants text (Err exit) = refl
 
 pub reads_grow : (step : PlacedStep Read) (r s : Reader) → Reads r step s → wants_memory step ≡ false
     → GrowAtEnd (names_in (definitions_of r)) (names_in (definitions_of s))
-reads_grow step (of_source old) (of_source new) h reported =
-    source_grows old new h.given h.steps (sym (given_wants old.text h.given) ∙ ap wants_memory (sym h.is) ∙ reported)
+reads_grow step (of_source old) (of_source new) (reader.reads given steps tells last is) reported =
+    source_grows old new given steps (sym (given_wants old.text given) ∙ ap wants_memory (sym is) ∙ reported)
+reads_grow step (of_source old) (of_source new) (reader.leaves outer around over at is same) reported =
+    rw same (grow_not (names_in old.definitions))
 reads_grow step (of_list old) (of_list new) (inl h) reported = rw h.1 (grow_not (names_in old.definitions))
 reads_grow step (of_list old) (of_list new) (inr h) reported = absurd (let bad : true ≡ false = rw h at reported in cc)
 reads_grow step (of_source old) (of_list new) h reported = absurd h

@@ -6,7 +6,7 @@ use Rattle.std.proofs.lemmas.List.{length-append}
 use Rattle.std.proofs.lemmas.Option.{slice_get-get_or}
 use Rattle.std.proofs.Math.Seq.{get_or-append_seam, take-append_seam}
 use Rattle.pp_model.specs.declared.place.Place.{Place}
-use Rattle.pp_model.specs.Places.{PlacedFault, place_of}
+use Rattle.pp_model.specs.Places.{PlacedFault, place_of, unasked}
 use Rattle.pp_model.specs.declared.read.Read.{Read}
 use Rattle.pp_lexer.specs.declared.token.PreprocessorError.TheVariants.{IntegerOverflow, UnexpectedEndOfInput}
 use Rattle.pp_model.specs.Calls.{Gathered, before, nesting, closes, within, too_many}
@@ -120,8 +120,8 @@ Gathering paren m r tokens k last n s = (rest : Result Gathered PlacedFault) (p 
 
 module _ (paren : Place) (m : Expander) (r : Reader) (tokens : List Read)
     (k : ℕ) (last : Place) (n : Expander) (s : Reader) (so_far : Gathering paren m r tokens k last n s) (p : Expander) (t : Reader) where
-  pub gathers_fault : (fault : PlacedFault) → TakesNext n s (Err (Error fault)) p t → is_out_of_memory fault.0 ≡ false → GathersNext 0 paren m r (Err fault) p t
-  gathers_fault fault next reported = so_far (Err fault) p t (failed k last fault n p s t (Err fault) next reported refl)
+  pub gathers_fault : (fault : PlacedFault) → TakesNext n s (Err (Error fault)) p t → is_out_of_memory fault.0 ≡ false → GathersNext 0 paren m r (Err (unasked fault)) p t
+  gathers_fault fault next reported = so_far (Err (unasked fault)) p t (failed k last fault n p s t (Err (unasked fault)) next reported refl)
 
   pub gathers_end : TakesNext n s (Err Finished) p t → GathersNext 0 paren m r (Err (UnexpectedEndOfInput, last)) p t
   gathers_end next = so_far (Err (UnexpectedEndOfInput, last)) p t (ended k last n p s t (Err (UnexpectedEndOfInput, last)) next refl)

@@ -27,7 +27,7 @@ use Rattle.pp_macros.proofs.work.CallFallsLemmas.{IsLess, IsPending, turn_falls}
 use Rattle.pp_macros.proofs.open_frames.FlatLemmas.{outermost_flat}
 use Rattle.pp_macros.proofs.taking.TurnLeadsLemmas.{LeadsTo}
 use Rattle.pp_macros.proofs.work.WorkFallsLemmas.{start_work}
-use Rattle.pp_macros.proofs.taking.ListedLeadsLemmas.{IsListed, list_simulates, list_shows, list_hides, list_sees, StandsListed, listed_leads, stands_listed, site_same, opened_less}
+use Rattle.pp_macros.proofs.taking.ListedLeadsLemmas.{IsListed, AnyList, list_simulates, list_shows, list_hides, list_keeps, list_sees, StandsListed, listed_leads, stands_listed, site_same, opened_less}
 use Rattle.pp_model.specs.declared.numbering.Numbering.{Numbering}
 
 -- What the loop over an argument has reached: the items so far, and a state from which the rest comes.
@@ -134,8 +134,9 @@ module _ (levels : ℕ) (numbering : Numbering) (definitions : List Defined) (hi
   -- a call whose frame opened
   module _ (c : MacroCall) (turns : TurnsTo m (of_list l) (Ok (taken.Call c)) n (of_list k))
       (p : kept.Expander) (opened : IsOpened levels numbering definitions (names_of n.frames ++ hidden) c n p) where
-    led : LeadsTo argument_reading (IsListed false numbering definitions hidden) hidden (list_simulates false numbering definitions hidden)
-        (list_shows false numbering definitions hidden) (list_hides false numbering definitions hidden) (list_sees false numbering definitions hidden)
+    led : LeadsTo argument_reading (IsListed false numbering definitions hidden) AnyList hidden (list_simulates false numbering definitions hidden)
+        (list_shows false numbering definitions hidden) (list_hides false numbering definitions hidden) (list_keeps false numbering definitions hidden)
+        (list_sees false numbering definitions hidden)
         (answers_at levels) (Ok (taken.Call c)) r.state n (of_list k)
     led = listed_leads false numbering definitions hidden (answers_at levels) m n l k (Ok (taken.Call c)) r.state r.stands turns refl
 

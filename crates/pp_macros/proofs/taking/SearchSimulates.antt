@@ -1,10 +1,10 @@
 -- Taking and searching over frames is taking and searching over the splice list that they stand for, for every kind of
 -- reader.
 use Rattle.std.proofs.Common.{◌≡◌, ◌∙◌, ◌++◌, inl, inr, true, false, ℕ, Bool, List, [], ◌∷◌, refl, sym, ap, subst, Option, Some, None}
-use Rattle.std.specs.Prelude.{if◌then◌else◌, Result, Ok, Err, option_map, unwrap_or, ⊤}
+use Rattle.std.specs.Prelude.{if◌then◌else◌, Result, Ok, Err, option_map, unwrap_or, IsSome}
 use Rattle.pp_lexer.specs.declared.token.PreprocessorError.TheVariants.{IntegerOverflow, UnexpectedEndOfInput}
 use Rattle.pp_model.specs.declared.place.Place.{Place}
-use Rattle.pp_model.specs.Places.{PlacedFault, place_of}
+use Rattle.pp_model.specs.Places.{PlacedFault, place_of, unasked}
 use Rattle.pp_model.specs.declared.read.Read.{Read}
 use Rattle.pp_model.specs.Names.{Name, is_identifier, line_name}
 use Rattle.pp_model.specs.Reading.{Reading, Expander, masked_names}
@@ -31,17 +31,18 @@ use Rattle.pp_macros.proofs.taking.TakingLemmas.{taken_flat}
 use Rattle.pp_macros.proofs.open_frames.ReportedLemmas.{taken_reported, painted_reported}
 use Rattle.pp_lexer.specs.declared.token.Integer.{Integer}
 
-module _ {R : Type 0} (I : Reading R) (StandsR : Reader → R → Type 0) (hidden : List Name) where
-  -- what a step of a reader is to the reader that it stands for; of what stands after a fault nothing is said
+-- `KeepsR` is what stands after a fault too
+module _ {R : Type 0} (I : Reading R) (StandsR KeepsR : Reader → R → Type 0) (hidden : List Name) where
+  -- what a step of a reader is to the reader that it stands for; after a fault that asks for no text less is said
   abbrev pub ReadsTo : PlacedStep Read → R → Reader → Type 0
   ReadsTo (Ok read) x s = (y : R) × I.Reads x (given.Token read) y × StandsR s y
   ReadsTo (Err Continue) x s = (y : R) × StandsR s y × ((o : Given) (z : R) → I.Reads y o z → I.Reads x o z)
   ReadsTo (Err Finished) x s = (y : R) × I.Reads x given.End y × StandsR s y
-  ReadsTo (Err (Error fault)) x s = (y : R) × I.Reads x (given.Fault fault) y
+  ReadsTo (Err (Error fault)) x s = (y : R) × I.Reads x (given.Fault fault) y × (IsSome fault.1.asks → StandsR s y) × KeepsR s y
 
-  -- what is held is held in the definitions' expander; after a fault that is held nothing is said of the reader
+  -- what is held is held in the definitions' expander; after a fault that is held less is said of the reader
   abbrev pub StandsHeld : Option (PlacedStep Read) → Reader → R → Type 0
-  StandsHeld (Some (Err (Error fault))) r x = ⊤
+  StandsHeld (Some (Err (Error fault))) r x = (IsSome fault.1.asks → StandsR r x) × KeepsR r x
   StandsHeld (Some (Err Continue)) r x = ⊥
   StandsHeld _ r x = StandsR r x
 
@@ -62,7 +63,7 @@ module _ {R : Type 0} (I : Reading R) (StandsR : Reader → R → Type 0) (hidde
   FetchesTo (Err Continue) e n s = (f : Expander R) × StandsIn n s f × PausesTo I e f
   FetchesTo (Err Finished) e n s = (f : Expander R) × taking.Fetches I e given.End f × StandsIn n s f
   FetchesTo (Err (Error fault)) e n s = (f : Expander R) × taking.Fetches I e (given.Fault fault) f × (e.hidden ≡ hidden) × (f.hidden ≡ hidden)
-      × (f.list ≡ flat n.frames) × (f.held ≡ None) × (n.held ≡ None)
+      × (f.list ≡ flat n.frames) × (f.held ≡ None) × (n.held ≡ None) × (IsSome fault.1.asks → StandsR s f.reader) × KeepsR s f.reader
 
   -- what one step of taking is to the expander
   abbrev pub StepsTo : PlacedStep Read → Expander R → kept.Expander → Reader → Type 0
@@ -70,11 +71,12 @@ module _ {R : Type 0} (I : Reading R) (StandsR : Reader → R → Type 0) (hidde
   StepsTo (Err Continue) e n s = (f : Expander R) × StandsIn n s f × PausesTo I e f
   StepsTo (Err Finished) e n s = (f : Expander R) × Takes I e given.End f × StandsIn n s f
   StepsTo (Err (Error fault)) e n s = (f : Expander R) × Takes I e (given.Fault fault) f × (e.hidden ≡ hidden) × (f.hidden ≡ hidden)
-      × (f.list ≡ flat n.frames) × (f.held ≡ None) × (n.held ≡ None)
+      × (f.list ≡ flat n.frames) × (f.held ≡ None) × (n.held ≡ None) × (IsSome fault.1.asks → StandsR s f.reader) × KeepsR s f.reader
 
   module _ (simulates : (r s : Reader) (x : R) (step : PlacedStep Read) → StandsR r x → Reads r step s → wants_memory step ≡ false → ReadsTo step x s)
       (shows : (s : Reader) (y : R) (line : ℕ) → StandsR s y → I.shown_line y line ≡ shown_line s line)
-      (hides : (s : Reader) (y : R) → StandsR s y → hidden_of s ≡ hidden) where
+      (hides : (s : Reader) (y : R) → StandsR s y → hidden_of s ≡ hidden)
+      (keeps : (s : Reader) (y : R) → StandsR s y → KeepsR s y) where
     -- what is held
     held_steps : (step : PlacedStep Read) (n : kept.Expander) (s : Reader) (e : Expander R) → e.held ≡ Some (outcome_of_step step) → e.list ≡ flat n.frames
         → StandsHeld (Some step) s e.reader → e.hidden ≡ hidden → n.held ≡ None → FetchesTo step e n s
@@ -90,14 +92,15 @@ module _ {R : Type 0} (I : Reading R) (StandsR : Reader → R → Type 0) (hidde
       record { holds = rw free refl; list = list; reader = rw free reader; names = names },
     )
     held_steps (Err (Error fault)) n s e is list reader names free =
-        (record e { held = None }, taking.held (given.Fault fault) e (record e { held = None }) is refl, names, names, list, refl, free)
+        (record e { held = None }, taking.held (given.Fault fault) e (record e { held = None }) is refl, names, names, list, refl, free, reader.0, reader.1)
 
     -- a token that is taken from the list or the reader, as `__LINE__` or as itself
     taken_steps : (o : Given) (e f : Expander R) (n : kept.Expander) (s : Reader) → taking.Fetches I e o f → StandsIn n s f → e.hidden ≡ hidden → n.held ≡ None
         → (o ≡ given.End → ⊥) → FetchesTo (step_of_outcome o) e n s
     taken_steps (given.Token read) e f n s takes stands names free goes = (f, takes, stands)
     taken_steps (given.Fault fault) e f n s takes stands names free goes =
-        (f, takes, names, stands.names, stands.list, stands.holds ∙ ap (option_map outcome_of_step) free, free)
+        let reader : StandsR s f.reader = rw free at stands.reader in
+        (f, takes, names, stands.names, stands.list, stands.holds ∙ ap (option_map outcome_of_step) free, free, (λ asks. reader), keeps s f.reader reader)
     taken_steps given.End e f n s takes stands names free goes = absurd (goes refl)
 
     -- a taken token is never the end
@@ -191,7 +194,7 @@ module _ {R : Type 0} (I : Reading R) (StandsR : Reader → R → Type 0) (hidde
           taking.read given.End given.End y e (record e { list = []; reader = y }) none empty reads refl refl,
           record { holds = none ∙ sym (ap (option_map outcome_of_step) freed); list = sym (ap flat end); reader = rw freed after; names = stands.names },
         )
-    read_steps m n r s (Err (Error fault)) e stands free freed start end (y, reads) =
+    read_steps m n r s (Err (Error fault)) e stands free freed start end (y, reads, after, kept_then) =
         let none : e.held ≡ None = stands.holds ∙ ap (option_map outcome_of_step) free in
         let empty : after_marks e.list ≡ [] = ap after_marks stands.list ∙ ap (λ fs. after_marks (flat fs)) start in (
           record e { list = []; reader = y },
@@ -202,6 +205,8 @@ module _ {R : Type 0} (I : Reading R) (StandsR : Reader → R → Type 0) (hidde
           sym (ap flat end),
           none,
           freed,
+          after,
+          kept_then,
         )
 
     moved_simulates : (frames : List Frame) (m n : kept.Expander) (r s : Reader) (move : PlacedStep Read) (e : Expander R) → StandsIn m r e → m.held ≡ None
@@ -245,8 +250,8 @@ module _ {R : Type 0} (I : Reading R) (StandsR : Reader → R → Type 0) (hidde
     )
     painted_to (Err Continue) e n s freed h = h
     painted_to (Err Finished) e n s freed (f, fetches, stands) = (f, record { first = given.End; fetches = fetches; paints = refl }, stands)
-    painted_to (Err (Error fault)) e n s freed (f, fetches, h1, h2, h3, h4, h5) =
-        (f, record { first = given.Fault fault; fetches = fetches; paints = refl }, h1, h2, h3, h4, h5)
+    painted_to (Err (Error fault)) e n s freed (f, fetches, h1, h2, h3, h4, h5, h6, h7) =
+        (f, record { first = given.Fault fault; fetches = fetches; paints = refl }, h1, h2, h3, h4, h5, h6, h7)
 
     fetch_frees : (m n : kept.Expander) (r s : Reader) (step : PlacedStep Read) → StepsFetching m r step n s → n.held ≡ None
     fetch_frees m n r s step (held step1 m1 n1 r1 s1 is at same) = ap (λ (k : kept.Expander). k.held) at
@@ -283,8 +288,8 @@ module _ {R : Type 0} (I : Reading R) (StandsR : Reader → R → Type 0) (hidde
       stands.holds
           ∙ ap (option_map outcome_of_step) free,
     )
-    held_back (Err (Error fault)) e n s goes free (f, takes, names, names_then, list, none, freed) =
-        (f, takes, record { holds = refl; list = list; reader = tt; names = names_then }, none)
+    held_back (Err (Error fault)) e n s goes free (f, takes, names, names_then, list, none, freed, asked, kept_then) =
+        (f, takes, record { holds = refl; list = list; reader = (asked, kept_then); names = names_then }, none)
 
     pub next_simulates : (m n : kept.Expander) (r s : Reader) (step : PlacedStep Read) (e : Expander R) → StandsIn m r e → TakesNext m r step n s
         → wants_memory step ≡ false → NextTo step e n s
@@ -298,6 +303,19 @@ module _ {R : Type 0} (I : Reading R) (StandsR : Reader → R → Type 0) (hidde
     next_frees : (m n : kept.Expander) (r s : Reader) (step : PlacedStep Read) → TakesNext m r step n s → n.held ≡ None
     next_frees m n r s step (now step1 m1 n1 r1 s1 steps goes) = step_frees m n r s step steps
     next_frees m n r s step (later step1 m1 between n1 r1 s1 t1 steps next) = next_frees between n s1 s step next
+
+    -- what stands with the end held stands without it
+    end_stands : (m n : kept.Expander) (r s : Reader) (e : Expander R) (stands : StandsIn m r e) (next : TakesNext m r (Err Finished) n s)
+        → StandsIn n s (next_simulates m n r s (Err Finished) e stands next refl).0
+    end_stands m n r s e stands next =
+        let h = next_simulates m n r s (Err Finished) e stands next refl in
+        let free : n.held ≡ None = next_frees m n r s (Err Finished) next in
+        record {
+          holds = h.3 ∙ sym (ap (option_map outcome_of_step) free);
+          list = h.2.list;
+          reader = subst (λ (o : Option (PlacedStep Read)). StandsHeld o s h.0.reader) (sym free) h.2.reader;
+          names = h.2.names;
+        }
 
     -- after a token the expander stands for the state after it
     pub token_stands : (read : Read) (m n : kept.Expander) (r s : Reader) (e : Expander R) → StandsIn m r e → TakesNext m r (Ok read) n s
@@ -319,14 +337,15 @@ module _ {R : Type 0} (I : Reading R) (StandsR : Reader → R → Type 0) (hidde
     abbrev pub GathersTo : ℕ → Place → Expander R → Result Gathered PlacedFault → kept.Expander → Reader → Type 0
     GathersTo k last e (Ok g) n s = (f : Expander R) × Gathers I k last e (Ok g) f × StandsIn n s f
     GathersTo k last e (Err fault) n s = (f : Expander R) × Gathers I k last e (Err fault) f × (f.list ≡ flat n.frames) × (n.held ≡ None)
+        × (IsSome fault.1.asks → StandsIn n s f)
 
     inside_to : (k l : ℕ) (last : Place) (read : Read) (e f : Expander R) (rest : Result Gathered PlacedFault) (n : kept.Expander) (s : Reader)
         → Takes I e (given.Token read) f → calls.nesting k read.token.value ≡ calls.within l → GathersTo l (place_of read) f rest n s
         → GathersTo k last e (before read rest) n s
     inside_to k l last read e f (Ok g) n s takes is (h, gathers, stands) =
         (h, calls.inside k l last read e f h (Ok g) (before read (Ok g)) takes is gathers refl, stands)
-    inside_to k l last read e f (Err fault) n s takes is (h, gathers, list, freed) =
-        (h, calls.inside k l last read e f h (Err fault) (before read (Err fault)) takes is gathers refl, list, freed)
+    inside_to k l last read e f (Err fault) n s takes is (h, gathers, list, freed, asked) =
+        (h, calls.inside k l last read e f h (Err fault) (before read (Err fault)) takes is gathers refl, list, freed, asked)
 
     pub gather_simulates : (k : ℕ) (last : Place) (m n : kept.Expander) (r s : Reader) (g : Result Gathered PlacedFault) (e : Expander R) → StandsIn m r e
         → GathersNext k last m r g n s → GathersTo k last e g n s
@@ -343,10 +362,23 @@ module _ {R : Type 0} (I : Reading R) (StandsR : Reader → R → Type 0) (hidde
           calls.overfull k last read e h.0 (Err (IntegerOverflow, place_of read)) h.1 out refl,
           h.2.list,
           next_frees m n r s (Ok read) next,
+          λ asks. h.2,
         )
     gather_simulates k last m n r s g e stands (ended k1 last1 m1 n1 r1 s1 g1 next is) =
         let h = next_simulates m n r s (Err Finished) e stands next refl in
-        rw is (h.0, calls.ended k last e h.0 (Err (UnexpectedEndOfInput, last)) h.1 refl, h.2.list, next_frees m n r s (Err Finished) next)
+        rw is (
+          h.0,
+          calls.ended k last e h.0 (Err (UnexpectedEndOfInput, last)) h.1 refl,
+          h.2.list,
+          next_frees m n r s (Err Finished) next,
+          λ asks. end_stands m n r s e stands next,
+        )
     gather_simulates k last m n r s g e stands (failed k1 last1 fault m1 n1 r1 s1 g1 next reported is) =
         let h = next_simulates m n r s (Err (Error fault)) e stands next reported in
-        rw is (h.0, calls.failed k last fault e h.0 (Err fault) h.1 refl, h.2.list, next_frees m n r s (Err (Error fault)) next)
+        rw is (
+          h.0,
+          calls.failed k last fault e h.0 (Err (unasked fault)) h.1 refl,
+          h.2.list,
+          next_frees m n r s (Err (Error fault)) next,
+          λ asks. let bad : false ≡ true = asks in cc,
+        )

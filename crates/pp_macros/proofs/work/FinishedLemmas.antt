@@ -8,7 +8,7 @@ use Rattle.pp_model.specs.Definitions.{Definition}
 use Rattle.pp_model.specs.declared.definition.Named.{Named}
 use Rattle.pp_macros.specs.inner.Defined.{meaning_of}
 use Rattle.pp_macros.specs.declared.blocks.OpenBlock.{OpenBlock}
-use Rattle.pp_model.specs.Moves.{Effect, gives, gives_item, fails, ends, passes, defines, undefines, tests, decides, renumbers}
+use Rattle.pp_model.specs.Moves.{Effect, gives, gives_item, asks, fails, ends, passes, defines, undefines, tests, decides, renumbers}
 use Rattle.pp_macros.specs.inner.OpenBlocks.{BlockChange}
 use Rattle.pp_macros.specs.inner.SourceMoves.{Note}
 use Rattle.pp_macros.specs.inner.Source.{Source, DefinesOver, HasEffect, Decides, holds, faulty, Renumbers, numbers, unnumbered}
@@ -38,6 +38,7 @@ pub finished_ends : (effect : Effect) (taken : ℕ) (note : Note) (change : Bloc
     → is_end_effect effect ≡ true
 finished_ends (gives token) taken note change old new h = let e = h.0 in cc
 finished_ends (gives_item item word) taken note change old new h = let e = h.0 in cc
+finished_ends (asks line) taken note change old new h = let e = h.0 in cc
 finished_ends (fails fault) taken note change old new h = let e = h.0 in cc
 finished_ends ends taken note change old new h = refl
 finished_ends passes taken note change old new h = let e = h.0 in cc

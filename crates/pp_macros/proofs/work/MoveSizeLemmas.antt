@@ -42,6 +42,7 @@ module _ (rules : Rules) (word : Location) (after : List Seen) where
         unknown = λ live its. record { adds = omega arith; taken = omega arith };
         passing = λ why. line_within _ (omega arith);
         items = λ live its value is. line_within _ (omega arith);
+        asking = λ live its. line_within _ (omega arith);
         defining = λ live its. define_within;
         undefining = λ live its name. line_within _ (omega arith);
         numbering = λ live its tokens. line_within _ (omega arith);

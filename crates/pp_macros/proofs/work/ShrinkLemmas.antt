@@ -14,11 +14,11 @@ use Rattle.pp_macros.specs.Item.{PlacedStep}
 use Rattle.pp_macros.specs.inner.OpenBlocks.{last_block, BlockChange, block_change_at}
 use Rattle.pp_macros.specs.declared.blocks.OpenBlock.{OpenBlock}
 use Rattle.pp_macros.specs.inner.Source.{Source, IsAfter, IsAfterFault, IsAfterBlock, DefinesOver, Ends, HasEffect, MakesMove, IsRefusedStep, StepsSource, Decides, holds, faulty, Renumbers, numbers, unnumbered}
-use Rattle.pp_model.specs.Moves.{Effect, gives, gives_item, fails, ends, passes, defines, undefines, tests, decides, renumbers, Move}
+use Rattle.pp_model.specs.Moves.{Effect, gives, gives_item, asks, fails, ends, passes, defines, undefines, tests, decides, renumbers, Move}
 use Rattle.pp_model.specs.Sights.{sight_of}
 use Rattle.pp_model.specs.declared.sight.Sight.{Sight}
 use Rattle.pp_macros.specs.inner.SourceMoves.{Note, move_of, note_of}
-use Rattle.pp_macros.specs.inner.Work.{goes_on, most_reads, most_names, most_steps}
+use Rattle.pp_macros.specs.inner.Work.{goes_on, reads_around, most_reads, most_names, most_steps}
 use Rattle.pp_macros.specs.declared.step.PlacedExit.TheVariants.{Finished}
 use Rattle.pp_macros.proofs.work.ShortenLemmas.{sight_adds, sight_least, Shortens, move_of_shortens}
 use Rattle.pp_macros.proofs.taking.StepLemmas.{goes_on_not_end, goes_on_not_want}
@@ -41,6 +41,7 @@ module _ (old new : Source) where
   after_shrinks taken adds note blocks after names more low few =
       let left : length new.rest ≡ length old.rest - taken = ap length after.rest ∙ length-drop taken old.rest in
       let still : length new.blocks ≡ length blocks = ap length after.blocks in
+      let around : reads_around new.around ≡ reads_around old.around = ap reads_around after.around in
       record { shorter = omega arith; names = omega arith; steps = omega arith }
 
   passed_shrinks : (taken adds : ℕ) (note : Note) (blocks : List OpenBlock) → IsAfter taken note blocks old new → new.definitions ≡ old.definitions
@@ -59,11 +60,12 @@ module _ (old new : Source) where
   fault_shrinks : IsAfterFault old new → Shrinks old new
   fault_shrinks after =
       let names : length new.definitions ≡ length old.definitions = as_many old.definitions new.definitions after.names in
+      let around : reads_around new.around ≡ reads_around old.around = ap reads_around after.around in
       record { shorter = omega (arith, after.fewer); names = omega (arith, after.fewer, names); steps = omega (arith, after.fewer, after.tokens) }
 
   block_shrinks : IsAfterBlock old new → length old.rest + (length old.blocks - 1) < length old.rest + length old.blocks → Shrinks old new
   block_shrinks after low =
-      stays_shrinks after.definitions (omega (arith, ap length after.rest, ap length after.blocks, length-take (length old.blocks - 1) old.blocks))
+      stays_shrinks after.definitions (omega (arith, ap reads_around after.around, ap length after.rest, ap length after.blocks, length-take (length old.blocks - 1) old.blocks))
 
   define_shrinks : (named : Named) (o : Option Definition) (taken : ℕ) (note : Note) (step : PlacedStep Token)
       → length old.rest - taken + length old.blocks + length named.definition.body < length old.rest + length old.blocks
@@ -100,6 +102,7 @@ module _ (old new : Source) where
         → HasEffect effect taken note change old step new → Shrinks old new
     effect_shrinks (gives token) low h = passed_shrinks old new taken more note old.blocks h.1 h.2 (omega (arith, low refl)) (omega arith)
     effect_shrinks (gives_item item word) low h = passed_shrinks old new taken more note old.blocks h.1 h.2 (omega (arith, low refl)) (omega arith)
+    effect_shrinks (asks line) low h = passed_shrinks old new taken more note old.blocks h.1 h.2 (omega (arith, low refl)) (omega arith)
     effect_shrinks (fails fault) low h = fault_shrinks old new h.1
     effect_shrinks ends low h = end_shrinks (last_block old.blocks) refl step h not_end
     effect_shrinks passes low h = passed_shrinks old new taken more note (change None old.blocks) h.1 h.2 (omega (arith, low refl)) (few None)

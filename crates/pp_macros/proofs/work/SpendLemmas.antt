@@ -17,15 +17,16 @@ use Rattle.pp_macros.specs.inner.Defined.{body_tokens}
 use Rattle.pp_macros.specs.inner.Left.{reads_left, most_open, most_bodies, one_more, holding_step, regions_of, regions}
 use Rattle.pp_macros.specs.inner.Expander.{Expander, is_pause, step_of_outcome, taken_as, StepsFetching, StepsTaking, held, moved, TakesNext, now, later, GathersNext, closed, inside, overfull, ended, failed}
 use Rattle.pp_macros.specs.inner.Reach.{growth, through, total}
-use Rattle.pp_macros.specs.inner.Reader.{Reader, of_source, of_list, Listing, listed_step, Reads, shown_line}
-use Rattle.pp_macros.specs.inner.Source.{Source, StepsSource, IsRefusedStep, Ends, MakesMove, HasEffect}
-use Rattle.pp_model.specs.Moves.{Effect, gives, gives_item, fails, ends, passes, defines, undefines, tests, decides, renumbers}
+use Rattle.pp_macros.specs.inner.Reader as reader
+use Rattle.pp_macros.specs.inner.Reader.{IsTextOver, Reader, of_source, of_list, Listing, listed_step, Reads, shown_line}
+use Rattle.pp_macros.specs.inner.Source.{SuspendedText, resumed, Source, StepsSource, IsRefusedStep, Ends, MakesMove, HasEffect}
+use Rattle.pp_model.specs.Moves.{Effect, gives, gives_item, asks, fails, ends, passes, defines, undefines, tests, decides, renumbers}
 use Rattle.pp_macros.specs.inner.SourceMoves.{Note, move_of, note_of}
 use Rattle.pp_macros.specs.inner.OpenBlocks.{last_block, BlockChange, block_change_at}
 use Rattle.pp_macros.specs.declared.blocks.OpenBlock.{OpenBlock}
 use Rattle.pp_macros.specs.inner.Turns.{as_pause, frame_move, Moves, masks}
 use Rattle.pp_macros.specs.inner.Reading.{unpainted_step, painted_step}
-use Rattle.pp_macros.specs.inner.Work.{steps_left, is_end}
+use Rattle.pp_macros.specs.inner.Work.{most_reads, reads_around, steps_left, is_end}
 use Rattle.pp_macros.specs.declared.step.PlacedExit.TheVariants.{Error, Continue, Finished}
 use Rattle.pp_macros.proofs.open_frames.AdvanceLemmas.{Advances, advance_lowers, some_steps_left}
 use Rattle.pp_macros.proofs.work.FinishedLemmas.{finished_ends}
@@ -79,6 +80,7 @@ effect_stays : (effect : Effect) (taken : ℕ) (note : Note) (change : BlockChan
 effect_stays ends taken note change old new h = end_stays (last_block old.blocks) old new h
 effect_stays (gives token) taken note change old new h = let e = h.0 in cc
 effect_stays (gives_item item word) taken note change old new h = let e = h.0 in cc
+effect_stays (asks line) taken note change old new h = let e = h.0 in cc
 effect_stays (fails fault) taken note change old new h = let e = h.0 in cc
 effect_stays passes taken note change old new h = let e = h.0 in cc
 effect_stays (defines named) taken note change old new h = absurd (let bad = finished_ends (defines named) taken note change old new h in cc)
@@ -134,9 +136,18 @@ list_read (read ∷ tokens) step old new e is at =
     let same : new.definitions ≡ old.definitions = ap (λ (l : Listing). l.definitions) at in
     rw is (record { spends = less; tightens = record { names = omega (arith, ap length same); bodies = omega (arith, ap body_tokens same) } })
 
+-- behind an included text less is left
+leaves_read : (old : Source) (outer : SuspendedText) (around : List SuspendedText) → IsTextOver old → old.around ≡ outer ∷ around
+    → IsRead (Err Continue) (of_source old) (of_source (resumed outer around old))
+leaves_read old outer around over at =
+    let left : most_reads old ≡ reads_around (outer ∷ around) = omega (arith, ap length over.rest, ap length over.blocks, ap reads_around at) in
+    record { spends = omega (arith, left); tightens = record { names = omega (arith, left); bodies = omega (arith, left) } }
+
 pub reader_read : (step : PlacedStep Read) (r s : Reader) → Reads r step s → wants_memory step ≡ false → IsRead step r s
-reader_read step (of_source old) (of_source new) h reported =
-    rw h.is (source_read h.given old new h.steps (given_quiet h.given (rw h.is at reported)))
+reader_read step (of_source old) (of_source new) (reader.leaves outer around over at is same) reported =
+    rw (is, same) (leaves_read old outer around over at)
+reader_read step (of_source old) (of_source new) (reader.reads given steps tells last is) reported =
+    rw is (source_read given old new steps (given_quiet given (rw is at reported)))
   where
     given_quiet : (given : PlacedStep Token) → wants_memory (unpainted_step old.text given) ≡ false → wants_memory given ≡ false
     given_quiet (Ok token) e = refl

@@ -3,7 +3,7 @@
 use Rattle.std.specs.Prelude.{◌≡◌, Bool, false, true, ℕ, ⊤, List, [], ◌∷◌, ◌++◌, Option, Some, None, Result, Ok, Err}
 use Rattle.pp_lexer.specs.declared.token.Location.{Location}
 use Rattle.pp_lexer.specs.declared.token.PreprocessorError.TheVariants.{IntegerOverflow, UnexpectedEndOfInput}
-use Rattle.pp_model.specs.Places.{PlacedFault, place_of}
+use Rattle.pp_model.specs.Places.{PlacedFault, place_of, unasked}
 use Rattle.pp_model.specs.declared.place.Place.{Place}
 use Rattle.pp_model.specs.declared.read.Read.{Read}
 use Rattle.pp_model.specs.Calls.{Gathered, before, nesting, closes, within, too_many}
@@ -42,6 +42,11 @@ outcome_of_step (Ok read) = given.Token read
 outcome_of_step (Err (Error fault)) = given.Fault fault
 outcome_of_step (Err Finished) = given.End
 outcome_of_step (Err Continue) = given.End
+
+-- what is held, unless it is the end
+abbrev pub without_end : Option (PlacedStep Read) → Option (PlacedStep Read)
+without_end (Some (Err Finished)) = None
+without_end held = held
 
 -- a step of the frames or the reader, once it is taken: `__LINE__` becomes a number
 abbrev pub taken_as : PlacedStep Read → List Frame → Reader → PlacedStep Read
@@ -170,7 +175,7 @@ pub data GathersNext : ℕ → Place → Expander → Reader → Result Gathered
       (g : Result Gathered PlacedFault)
       → TakesNext m r (Err (Error fault)) n s
       → is_out_of_memory fault.0 ≡ false
-      → g ≡ Err fault
+      → g ≡ Err (unasked fault)
       → GathersNext k last m r g n s
 
 -- what a search gives satisfies the predicate, unless memory runs out

@@ -15,9 +15,9 @@ use Rattle.pp_macros.specs.Held.{HoldsOrdinary}
 use Rattle.pp_macros.specs.Item.{PlacedStep, no_memory}
 use Rattle.pp_macros.specs.inner.Reading.{unpainted_step}
 use Rattle.pp_macros.specs.inner.Defined.{Defined, meaning_of}
-use Rattle.pp_macros.specs.inner.Source.{Source, unreported_of, StepsSource}
+use Rattle.pp_macros.specs.inner.Source.{SuspendedText, Source, unreported_of, StepsSource, resumed}
 use Rattle.pp_macros.specs.inner.Unreported.{StepReports}
-use Rattle.pp_macros.specs.declared.step.PlacedExit.TheVariants.{Error, Finished}
+use Rattle.pp_macros.specs.declared.step.PlacedExit.TheVariants.{Error, Continue, Finished}
 
 -- The tokens of an argument or of a directive's line, how their lines are numbered, with the definitions there and the
 -- names that are open around. On a line `defined` is an operator.
@@ -42,12 +42,29 @@ StepsListed old step new =
     ((step ≡ listed_step old.tokens) × (new ≡ record old { tokens = after_listed old.tokens }))
     ⊎ (step ≡ Err (Error no_memory))
 
--- one step of a source: what it gives is unpainted, and it reports the errors of the lexer too
-pub record ReadsSource (old : Source) (step : PlacedStep Read) (new : Source) : Type 0 where
-  pub given : PlacedStep Token
-  pub steps : StepsSource old given new
-  pub reports : StepReports old.rules.passes_dead_errors given (unreported_of old) (unreported_of new)
-  pub is : step ≡ unpainted_step old.text given
+-- Nothing of an included text is left, and all its open blocks were reported.
+pub record IsTextOver (s : Source) : Type 0 where
+  pub spent : s.spent ≡ false
+  pub rest : s.rest ≡ []
+  pub blocks : s.blocks ≡ []
+
+-- one step of a source
+pub data ReadsSource (old : Source) (step : PlacedStep Read) (new : Source) : Type 0 where
+  -- One step of its text: what it gives is unpainted, and it reports the errors of the lexer too. The end is given in
+  -- the outermost text alone, unless memory ran out.
+  reads : (given : PlacedStep Token)
+      → StepsSource old given new
+      → StepReports old.rules.passes_dead_errors given (unreported_of old) (unreported_of new)
+      → (given ≡ Err Finished → (old.spent ≡ true) ⊎ (old.around ≡ []))
+      → step ≡ unpainted_step old.text given
+      → ReadsSource old step new
+  -- an included text is over, and reading goes on in the text around it
+  leaves : (outer : SuspendedText) (around : List SuspendedText)
+      → IsTextOver old
+      → old.around ≡ outer ∷ around
+      → step ≡ Err Continue
+      → new ≡ resumed outer around old
+      → ReadsSource old step new
 
 -- one step of a reader: a source stays a source, a list a list
 abbrev pub Reads : Reader → PlacedStep Read → Reader → Type 0

@@ -4,22 +4,24 @@ use Rattle.std.specs.Prelude.{length, drop, Option, Some, None, Result, Ok, Err,
 use Rattle.pp_lexer.specs.Lexed.{Seen}
 use Rattle.pp_lexer.specs.declared.rules.Rules.{Rules}
 use Rattle.pp_lexer.specs.declared.token.PreprocessorError.TheVariants.{DefineRedefined, UnfinishedBlock}
+use Rattle.pp_lexer.specs.declared.token.PreprocessorError.TheVariants.{UnknownDirective}
 use Rattle.pp_lexer.specs.declared.token.Token.{Token}
 use Rattle.pp_lexer.specs.declared.token.Location.{Location}
-use Rattle.pp_model.specs.Places.{PlacedFault, in_text, placed}
+use Rattle.pp_model.specs.Places.{PlacedFault, asking, in_text, placed, unasked}
 use Rattle.pp_model.specs.Acts.{defined_in}
 use Rattle.pp_model.specs.Definitions.{Definition, IsSameDefinition}
 use Rattle.pp_model.specs.Emitting.{answers_at, expansion_limit}
 use Rattle.pp_model.specs.LineValues.{IsCondition, IsLineNumber}
 use Rattle.pp_model.specs.Reads.{numbered_line}
+use Rattle.pp_model.specs.SourceReader.{Earlier}
 use Rattle.pp_model.specs.declared.definition.Named.{Named}
 use Rattle.pp_model.specs.declared.place.Place.{Place}
 use Rattle.pp_macros.specs.Item.{PlacedStep, no_memory}
 use Rattle.pp_macros.specs.inner.Defined.{Defined, meaning_of, names_in, body_tokens, IsChanged}
 use Rattle.pp_macros.specs.inner.OpenBlocks.{last_block, outer_blocks, BlockChange, block_change_at}
 use Rattle.pp_macros.specs.declared.blocks.OpenBlock.{OpenBlock}
-use Rattle.pp_model.specs.Moves.{Effect, gives, gives_item, fails, ends, passes, defines, undefines, tests, decides}
-use Rattle.pp_model.specs.Moves.{renumbers, Move}
+use Rattle.pp_model.specs.Moves.{Effect, gives, gives_item, asks, fails, ends, passes, defines, undefines, tests}
+use Rattle.pp_model.specs.Moves.{decides, renumbers, Move}
 use Rattle.pp_model.specs.Sights.{sight_of}
 use Rattle.pp_macros.specs.inner.SourceMoves.{Note, notes_text, notes_directive, move_of, note_of}
 use Rattle.pp_macros.specs.inner.Unreported.{Unreported, unreported}
@@ -27,13 +29,29 @@ use Rattle.pp_macros.specs.declared.step.PlacedExit.TheVariants.{Error, Continue
 use Rattle.pp_model.specs.Numbering.{list_numbering}
 use Rattle.pp_model.specs.declared.numbering.Numbering.{Numbering}
 
+-- A text in which reading goes on once the text that it includes ends: its number, the items that are left with their
+-- places, the open blocks, what `#line` adds to a line, whether a live token or a directive of it was read, and whether
+-- it is dead for good.
+pub record SuspendedText : Type 0 where
+  pub text : ℕ
+  pub rest : List Seen
+  pub places : List Location
+  pub blocks : List OpenBlock
+  pub line_offset : ℤ
+  pub has_text : Bool
+  pub has_directive : Bool
+  pub dead_for_good : Bool
+
 -- the rules by which it is read; the number of its text; the items that are left, with their places; the place of an
 -- error of the lexer that was read and not reported; what is defined; the open blocks, the outermost first; what
 -- `#line` adds to a line; whether memory ran out; whether a live token of the text was read so far, and whether a
--- directive was; whether an `#elif` outside of all blocks made all that follows dead; and how many contents were added
+-- directive was; whether an `#elif` outside of all blocks made all that follows dead; how many contents were added and
+-- texts included; what was read in other texts before; and the texts around, the innermost first
 pub record Source : Type 0 where
   pub rules : Rules
   pub text : ℕ
+  pub earlier : Earlier
+  pub around : List SuspendedText
   pub rest : List Seen
   pub places : List Location
   pub error_place : Option Location
@@ -46,6 +64,31 @@ pub record Source : Type 0 where
   pub dead_for_good : Bool
   pub contents : ℕ
 
+-- whether a live token was read, here or in another text, and whether a directive was
+abbrev pub had_text : Source → Bool
+had_text s = s.earlier.text || s.has_text
+
+abbrev pub had_directive : Source → Bool
+had_directive s = s.earlier.directive || s.has_directive
+
+abbrev pub is_first_directive : Source → Bool
+is_first_directive s = not (had_directive s || had_text s)
+
+-- the source back in a text, with these around it
+abbrev pub resumed : SuspendedText → List SuspendedText → Source → Source
+resumed outer around s = record s {
+  text = outer.text;
+  earlier = record { text = had_text s; directive = had_directive s };
+  around = around;
+  rest = outer.rest;
+  places = outer.places;
+  blocks = outer.blocks;
+  line_offset = outer.line_offset;
+  has_text = outer.has_text;
+  has_directive = outer.has_directive;
+  dead_for_good = outer.dead_for_good;
+}
+
 -- its errors of the lexer that were not reported yet
 abbrev pub unreported_of : Source → Unreported
 unreported_of s = unreported s.rest s.places s.error_place
@@ -54,6 +97,8 @@ unreported_of s = unreported s.rest s.places s.error_place
 pub record IsAfter (taken : ℕ) (note : Note) (still_open : List OpenBlock) (old new : Source) : Type 0 where
   pub rules : new.rules ≡ old.rules
   pub text : new.text ≡ old.text
+  pub earlier : new.earlier ≡ old.earlier
+  pub around : new.around ≡ old.around
   pub rest : new.rest ≡ drop taken old.rest
   pub blocks : new.blocks ≡ still_open
   pub line_offset : new.line_offset ≡ old.line_offset
@@ -67,6 +112,7 @@ pub record IsAfter (taken : ℕ) (note : Note) (still_open : List OpenBlock) (ol
 -- numbers, no more tokens of bodies are defined, and memory didn't run out.
 pub record IsAfterFault (old new : Source) : Type 0 where
   pub rules : new.rules ≡ old.rules
+  pub around : new.around ≡ old.around
   pub fewer : length new.rest + length new.blocks < length old.rest + length old.blocks
   pub names : names_in new.definitions ≡ names_in old.definitions
   pub tokens : body_tokens new.definitions ≤ body_tokens old.definitions
@@ -75,6 +121,7 @@ pub record IsAfterFault (old new : Source) : Type 0 where
 -- after the innermost block was reported at the end: the outer blocks are still open
 pub record IsAfterBlock (old new : Source) : Type 0 where
   pub rules : new.rules ≡ old.rules
+  pub around : new.around ≡ old.around
   pub rest : new.rest ≡ old.rest
   pub definitions : new.definitions ≡ old.definitions
   pub blocks : new.blocks ≡ outer_blocks old.blocks
@@ -125,7 +172,7 @@ pub data Decides (word : Location) (tokens : List Token) (blocks : Bool → List
       → Decides word tokens blocks taken note old step new
   faulty : (fault : PlacedFault)
       → Condition (in_text old.text word) tokens (list_numbering old.rules old.line_offset) old.definitions (Err fault)
-      → step ≡ Err (Error fault)
+      → step ≡ Err (Error (unasked fault))
       → IsAfterFault old new
       → Decides word tokens blocks taken note old step new
 
@@ -139,7 +186,7 @@ pub data Renumbers (word : Location) (tokens : List Token) (taken : ℕ) (note :
       → Renumbers word tokens taken note old step new
   unnumbered : (fault : PlacedFault)
       → LineNumber (in_text old.text word) tokens (list_numbering old.rules old.line_offset) old.definitions (Err fault)
-      → step ≡ Err (Error fault)
+      → step ≡ Err (Error (unasked fault))
       → IsAfterFault old new
       → Renumbers word tokens taken note old step new
 
@@ -148,7 +195,11 @@ abbrev pub HasEffect : Effect → ℕ → Note → BlockChange → Source → Pl
 HasEffect (gives token) taken note change old step new =
     (step ≡ Ok token) × IsAfter taken note old.blocks old new × (new.definitions ≡ old.definitions)
 HasEffect (gives_item value word) taken note change old step new =
-    (step ≡ Ok (record { value = value old.has_text (not (old.has_directive || old.has_text)); location = word }))
+    (step ≡ Ok (record { value = value (had_text old) (is_first_directive old); location = word }))
+    × IsAfter taken note old.blocks old new
+    × (new.definitions ≡ old.definitions)
+HasEffect (asks line) taken note change old step new =
+    (step ≡ Err (Error (UnknownDirective, asking old.text line)))
     × IsAfter taken note old.blocks old new
     × (new.definitions ≡ old.definitions)
 HasEffect (fails fault) taken note change old step new =

@@ -7,7 +7,7 @@ use Rattle.pp_model.specs.SpliceList.{parameter_of}
 use Rattle.pp_macros.specs.inner.Defined.{body_tokens}
 use Rattle.pp_macros.specs.inner.Frames.{Frame, argument_at}
 use Rattle.pp_macros.specs.Item.{PlacedStep, wants_memory}
-use Rattle.pp_macros.specs.inner.Source.{Source}
+use Rattle.pp_macros.specs.inner.Source.{SuspendedText, Source}
 use Rattle.pp_macros.specs.declared.step.PlacedExit.TheVariants.{Finished}
 
 -- A token of a body takes one step. A parameter takes one step itself, one for each token of its argument, and one for
@@ -30,9 +30,14 @@ reading_steps (Some tokens) = length tokens + 1
 abbrev pub steps_left : Frame → ℕ
 steps_left f = reading_steps f.reading + body_steps f.parameters f.arguments f.body
 
--- how many items and open blocks are left in the source: it gives no more
+-- how many items and open blocks are left in the texts around, each of which is gone back to once
+abbrev pub reads_around : List SuspendedText → ℕ
+reads_around [] = 0
+reads_around (text ∷ texts) = 1 + length text.rest + length text.blocks + reads_around texts
+
+-- the same of the source with the texts around: it gives no more
 abbrev pub most_reads : Source → ℕ
-most_reads source = length source.rest + length source.blocks
+most_reads source = length source.rest + length source.blocks + reads_around source.around
 
 -- how many steps a macro at most has that is still to open, if it has no arguments
 abbrev pub most_steps : Source → ℕ

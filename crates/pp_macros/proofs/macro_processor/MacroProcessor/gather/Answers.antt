@@ -1,6 +1,8 @@
 use Rattle.std.proofs.Common.{◌∙◌, ap, arith, refl, sym}
 use Rattle.std.proofs.lemmas.List.Elements.{All-push}
 use Rattle.pp_model.specs.Calls.{nesting}
+use Rattle.pp_model.specs.Places.{unasked}
+use Rattle.pp_macros.specs.Halting.{halt_of}
 use Rattle.pp_model.specs.declared.read.Read.{Read}
 use Rattle.pp_macros.specs.Held.{HoldsOrdinary}
 use Rattle.pp_macros.proofs.open_frames.KnownLemmas.{run_known}
@@ -16,7 +18,7 @@ pub returns-in-Err-Error : goal.returns-in-Err-Error
 returns-in-Err-Error g c =
     let run = rw c.in-Err-Error.field-0-is at (c.in-Err-Error.ensures {u = tt}).takes in
     record {
-      gathers = satisfies_fault c.halt_of.result c.in-Err-Error.fault _ c.halt_of.ensures
+      gathers = satisfies_fault c.halt_of.result (unasked c.in-Err-Error.fault) _ (c.halt_of.ensures ∙ ap halt_of c.unasked.ensures)
           (λ reported. gathers_fault _ _ _ run.some _ _ _ _ (flat_gathers _ _ _ _ _ _ _ _ _ c.tokens.invariant.goes_on run.flat) _ _ c.in-Err-Error.fault
           (run.last reported) reported);
       below = c.push_run.ensures.below ∙ c.tokens.invariant.below;
