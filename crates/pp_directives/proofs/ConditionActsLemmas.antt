@@ -10,10 +10,11 @@ use Rattle.pp_model.specs.Places.{Fault, in_text, unplaced}
 use Rattle.pp_model.specs.Lines.{line_length, line_tokens}
 use Rattle.pp_model.specs.Reads.{numbered_line}
 use Rattle.pp_model.specs.declared.block.Part.TheVariants as part
+use Rattle.pp_model.specs.SourceReader.{Earlier}
 use Rattle.pp_macros.specs.inner.Defined.{Defined}
 use Rattle.pp_macros.specs.inner.OpenBlocks.{last_block, outer_blocks, with_last, block_opened, block_decided, block_branched, BlockChange, unchanged, elif_change, block_change}
 use Rattle.pp_macros.specs.declared.blocks.OpenBlock.{OpenBlock}
-use Rattle.pp_macros.specs.inner.Source.{Source, IsAfter, Condition, LineNumber, holds, numbers}
+use Rattle.pp_macros.specs.inner.Source.{SuspendedText, Source, IsAfter, Condition, LineNumber, holds, numbers}
 use Rattle.pp_macros.specs.inner.Expander.{Satisfies}
 use Rattle.pp_macros.specs.declared.halt.PlacedHalt.{PlacedHalt}
 use Rattle.pp_macros.specs.declared.halt.PlacedHalt.TheVariants as halt
@@ -36,17 +37,19 @@ pub with_last_is : (change : OpenBlock → OpenBlock) (blocks : List OpenBlock) 
     → with_last change blocks ≡ outer_blocks blocks ++ change block ∷ []
 with_last_is change blocks block last = ap (λ found. outer_blocks blocks ++ option_map_or (λ b. change b ∷ []) found []) last
 
-module _ (rules : Rules) (text : ℕ) (definitions : List Defined) (blocks : List OpenBlock)
+module _ (rules : Rules) (text : ℕ) (earlier : Earlier) (around : List SuspendedText) (definitions : List Defined) (blocks : List OpenBlock)
     (line_offset : ℤ) (has_text has_directive dead : Bool) (contents : ℕ) (old new : SourceLexed) (word : Location) (line : LineTokens)
     (read : ReadsLine {A = LineTokens} (λ line. line.tokens) line_tokens old (Ok line) new) where
   none_read : ReportsNone rules.passes_dead_errors (unreported_at old) (unreported_at new)
   none_read = same_none rules.passes_dead_errors (unreported_at old) (unreported_at new) read.errors
 
   after_line : (offset : ℤ) (after : List OpenBlock) → IsAfter (line_length old.rest) unnoted after
-      (source_of old rules text definitions blocks offset has_text has_directive dead contents) (source_of new rules text definitions after offset has_text has_directive dead contents)
+      (source_of old rules text earlier around definitions blocks offset has_text has_directive dead contents) (source_of new rules text earlier around definitions after offset has_text has_directive dead contents)
   after_line offset after = record {
     rules = refl;
     text = refl;
+    earlier = refl;
+    around = refl;
     rest = read.takes.rest;
     blocks = refl;
     line_offset = refl;
@@ -60,7 +63,7 @@ module _ (rules : Rules) (text : ℕ) (definitions : List Defined) (blocks : Lis
   -- an `#if` opens a block
   pub if_opens : (value : Bool) (after : List OpenBlock) → Condition (in_text text word) line.tokens (list_numbering rules line_offset) definitions (Ok value) → after ≡ blocks ++ block_opened word value ∷ []
       → Acts (block_change (Some part.Opens) word) (line_move (line_tokens old.rest) (decides word) old.rest)
-      (source_of old rules text definitions blocks line_offset has_text has_directive dead contents) (Ok tt) (source_of new rules text definitions after line_offset has_text has_directive dead contents)
+      (source_of old rules text earlier around definitions blocks line_offset has_text has_directive dead contents) (Ok tt) (source_of new rules text earlier around definitions after line_offset has_text has_directive dead contents)
   if_opens value after condition made = record {
     acts = rw (read.is, made) (holds value condition (refl, after_line line_offset _, refl));
     holds = tt;
@@ -71,7 +74,7 @@ module _ (rules : Rules) (text : ℕ) (definitions : List Defined) (blocks : Lis
   pub elif_parts : (block : OpenBlock) (value : Bool) (after : List OpenBlock) → Condition (in_text text word) line.tokens (list_numbering rules line_offset) definitions (Ok value)
       → last_block blocks ≡ Some block → after ≡ outer_blocks blocks ++ block_decided block value ∷ []
       → Acts elif_change (line_move (line_tokens old.rest) (decides word) old.rest)
-      (source_of old rules text definitions blocks line_offset has_text has_directive dead contents) (Ok tt) (source_of new rules text definitions after line_offset has_text has_directive dead contents)
+      (source_of old rules text earlier around definitions blocks line_offset has_text has_directive dead contents) (Ok tt) (source_of new rules text earlier around definitions after line_offset has_text has_directive dead contents)
   elif_parts block value after condition last made = record {
     acts = rw (read.is, made ∙ sym (with_last_is (block_branched (Some value)) blocks block last))
         (holds value condition (refl, after_line line_offset _, refl));
@@ -82,7 +85,7 @@ module _ (rules : Rules) (text : ℕ) (definitions : List Defined) (blocks : Lis
   -- a `#line` numbers the lines after it
   pub line_numbers : (n : ℕ) (offset : ℤ) → LineNumber (in_text text word) line.tokens (list_numbering rules line_offset) definitions (Ok n) → offset ≡ pos n -ℤ pos (numbered_line rules word.line)
       → Acts unchanged (line_move (line_tokens old.rest) (renumbers word) old.rest)
-      (source_of old rules text definitions blocks line_offset has_text has_directive dead contents) (Ok tt) (source_of new rules text definitions blocks offset has_text has_directive dead contents)
+      (source_of old rules text earlier around definitions blocks line_offset has_text has_directive dead contents) (Ok tt) (source_of new rules text earlier around definitions blocks offset has_text has_directive dead contents)
   line_numbers n offset number made = record {
     acts = rw (read.is, made) (numbers n number (refl, after_line (pos n -ℤ pos (numbered_line rules word.line)) blocks, refl));
     holds = tt;
@@ -90,9 +93,10 @@ module _ (rules : Rules) (text : ℕ) (definitions : List Defined) (blocks : Lis
   }
 
   kept : (after : List OpenBlock) (offset : ℤ) → length after ≤ length blocks
-      → HasKept (source_of old rules text definitions blocks line_offset has_text has_directive dead contents) (source_of new rules text definitions after offset has_text has_directive dead contents)
+      → HasKept (source_of old rules text earlier around definitions blocks line_offset has_text has_directive dead contents) (source_of new rules text earlier around definitions after offset has_text has_directive dead contents)
   kept after offset few = record {
     rules = refl;
+    around = refl;
     left = omega (arith, few, drop_fewer old.rest new.rest (line_length old.rest) read.takes.rest);
     names = refl;
     tokens = omega arith;
@@ -106,19 +110,19 @@ module _ (rules : Rules) (text : ℕ) (definitions : List Defined) (blocks : Lis
   pub condition_failed : (change : BlockChange) (after : List OpenBlock) → length after ≤ length blocks → (h : PlacedHalt)
       → Satisfies {A = Bool} (Err h) (Condition (in_text text word) line.tokens (list_numbering rules line_offset) definitions)
       → Acts change (line_move (line_tokens old.rest) (decides word) old.rest)
-      (source_of old rules text definitions blocks line_offset has_text has_directive dead contents) (Err (of_expansion h))
-      (source_of new rules text definitions after line_offset has_text has_directive dead contents)
+      (source_of old rules text earlier around definitions blocks line_offset has_text has_directive dead contents) (Err (of_expansion h))
+      (source_of new rules text earlier around definitions after line_offset has_text has_directive dead contents)
   condition_failed change after few (halt.Fault fault) condition =
-      record { acts = rw read.is (condition, kept after line_offset few); holds = tt; errors = nothing_more (unplaced fault) }
+      record { acts = rw read.is ((fault, condition, refl), kept after line_offset few); holds = tt; errors = nothing_more (unplaced fault) }
   condition_failed change after few halt.OutOfMemory condition = record { acts = tt; holds = tt; errors = tt }
 
   -- so is the number of a `#line`, after which the lines may be numbered from anywhere
   pub number_failed : (offset : ℤ) (h : PlacedHalt) → Satisfies {A = ℕ} (Err h) (LineNumber (in_text text word) line.tokens (list_numbering rules line_offset) definitions)
       → Acts unchanged (line_move (line_tokens old.rest) (renumbers word) old.rest)
-      (source_of old rules text definitions blocks line_offset has_text has_directive dead contents) (Err (of_expansion h))
-      (source_of new rules text definitions blocks offset has_text has_directive dead contents)
+      (source_of old rules text earlier around definitions blocks line_offset has_text has_directive dead contents) (Err (of_expansion h))
+      (source_of new rules text earlier around definitions blocks offset has_text has_directive dead contents)
   number_failed offset (halt.Fault fault) number =
-      record { acts = rw read.is (number, kept blocks offset (omega arith)); holds = tt; errors = nothing_more (unplaced fault) }
+      record { acts = rw read.is ((fault, number, refl), kept blocks offset (omega arith)); holds = tt; errors = nothing_more (unplaced fault) }
   number_failed offset halt.OutOfMemory number = record { acts = tt; holds = tt; errors = tt }
 
 -- the same of sources that are equal to these

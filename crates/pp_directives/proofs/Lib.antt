@@ -4,6 +4,7 @@ pub mod UnreportedLemmas
 pub mod PassedErrorsLemmas
 pub mod HeldLemmas
 pub mod LineReadingLemmas
+pub mod LineEndLemmas
 pub mod ContentLemmas
 pub mod CommentsAfterLemmas
 pub mod SourceActsLemmas
@@ -11,6 +12,7 @@ pub mod SkippingLemmas
 pub mod NotedLemmas
 pub mod PlainWordLemmas
 pub mod SourceStepLemmas
+pub mod TextEndLemmas
 pub mod ConditionActsLemmas
 pub mod LineTurnLemmas
 pub mod LineReadLemmas

@@ -32,7 +32,7 @@ use Rattle.pp_macros.specs.declared.calls.Taken.TheVariants as taken
 use Rattle.pp_macros.specs.declared.step.PlacedExit.{PlacedExit}
 use Rattle.pp_macros.specs.declared.step.PlacedExit.TheVariants.{Error, Continue, Finished}
 use Rattle.pp_macros.proofs.work.CallFallsLemmas.{IsLess, IsPending, turn_falls}
-use Rattle.pp_macros.proofs.taking.ListedLeadsLemmas.{IsListed, list_simulates, list_shows, list_hides, list_sees, StandsListed, listed_leads, stands_listed, site_same, opened_less}
+use Rattle.pp_macros.proofs.taking.ListedLeadsLemmas.{IsListed, AnyList, list_simulates, list_shows, list_hides, list_keeps, list_sees, StandsListed, listed_leads, stands_listed, site_same, opened_less}
 use Rattle.pp_macros.proofs.taking.ExpanderLemmas.{next_no_pause}
 use Rattle.pp_macros.proofs.open_frames.OpenSoundLemmas.{next_sound}
 use Rattle.pp_macros.proofs.open_frames.ReportedLemmas.{wants_taken, not_refused, painted_reported, taken_reported}
@@ -197,7 +197,7 @@ end_taken m q r t step e (seeks read opened c step1 m1 n p q1 r1 s t1 steps some
 
 module _ (numbering : Numbering) (definitions : List Defined) where
   held_stands : (o : Option (PlacedStep Read)) (l : Listing) (x : Listed) → IsHeld o → IsListed true numbering definitions [] (of_list l) x
-      → StandsHeld line_reading (IsListed true numbering definitions []) [] o (of_list l) x
+      → StandsHeld line_reading (IsListed true numbering definitions []) AnyList [] o (of_list l) x
   held_stands None l x h listed = listed
   held_stands (Some (Ok read)) l x h listed = listed
   held_stands (Some (Err Finished)) l x h listed = listed
@@ -205,7 +205,7 @@ module _ (numbering : Numbering) (definitions : List Defined) where
   held_stands (Some (Err (Error fault))) l x h listed = absurd h
 
   stands_held : (o : Option (PlacedStep Read)) (l : Listing) (x : Listed) → IsHeld o
-      → StandsHeld line_reading (IsListed true numbering definitions []) [] o (of_list l) x → IsListed true numbering definitions [] (of_list l) x
+      → StandsHeld line_reading (IsListed true numbering definitions []) AnyList [] o (of_list l) x → IsListed true numbering definitions [] (of_list l) x
   stands_held None l x h listed = listed
   stands_held (Some (Ok read)) l x h listed = listed
   stands_held (Some (Err Finished)) l x h listed = listed
@@ -240,8 +240,8 @@ GoesOn levels m l n k = EmitsLater line_reading (answers_at levels) (expander_of
 
 module _ (levels : ℕ) (numbering : Numbering) (definitions : List Defined) (m n : kept.Expander) (l k : Listing) (on : IsOnLine numbering definitions m l) where
   leads : (step : PlacedStep Taken) → TurnsTo m (of_list l) step n (of_list k) → wants_taken step ≡ false
-      → LeadsTo line_reading (IsListed true numbering definitions []) [] (list_simulates true numbering definitions []) (list_shows true numbering definitions
-      []) (list_hides true numbering definitions []) (list_sees true numbering definitions []) (answers_at levels) step (expander_of m l) n (of_list k)
+      → LeadsTo line_reading (IsListed true numbering definitions []) AnyList [] (list_simulates true numbering definitions []) (list_shows true numbering definitions
+      []) (list_hides true numbering definitions []) (list_keeps true numbering definitions []) (list_sees true numbering definitions []) (answers_at levels) step (expander_of m l) n (of_list k)
   leads step turns reported = listed_leads true numbering definitions [] (answers_at levels) m n l k step (expander_of m l)
       (stands_here numbering definitions m l on) turns reported
 
@@ -304,8 +304,8 @@ module _ (levels : ℕ) (numbering : Numbering) (definitions : List Defined) (m 
     pending : IsPending levels m (of_list l) c n (of_list k)
     pending = turn_falls levels m (of_list l) on.sound (Ok (taken.Call c)) n (of_list k) turns refl
 
-    led : LeadsTo line_reading (IsListed true numbering definitions []) [] (list_simulates true numbering definitions []) (list_shows true numbering definitions
-        []) (list_hides true numbering definitions []) (list_sees true numbering definitions []) (answers_at levels) (Ok (taken.Call c)) (expander_of m l) n (of_list k)
+    led : LeadsTo line_reading (IsListed true numbering definitions []) AnyList [] (list_simulates true numbering definitions []) (list_shows true numbering definitions
+        []) (list_hides true numbering definitions []) (list_keeps true numbering definitions []) (list_sees true numbering definitions []) (answers_at levels) (Ok (taken.Call c)) (expander_of m l) n (of_list k)
     led = leads (Ok (taken.Call c)) turns refl
 
     site : site_of line_reading led.0 c.paren c.tokens ≡ site_at c numbering definitions (names_of n.frames ++ [])
@@ -351,8 +351,8 @@ module _ (levels : ℕ) (numbering : Numbering) (definitions : List Defined) (m 
       let r = of_list l in
       let s = of_list k in
       let level = frame_steps_level (most_bodies r) (most_open r) levels in
-      let h = next_simulates line_reading (IsListed true numbering definitions []) [] (list_simulates true numbering definitions []) (list_shows true numbering definitions
-      []) (list_hides true numbering definitions []) m n r s step (expander_of m l) (stands_here numbering definitions m l on) next reported in
+      let h = next_simulates line_reading (IsListed true numbering definitions []) AnyList [] (list_simulates true numbering definitions []) (list_shows true numbering definitions
+      []) (list_hides true numbering definitions []) (list_keeps true numbering definitions []) m n r s step (expander_of m l) (stands_here numbering definitions m l on) next reported in
       let quiet = next_quiet m n r s step tt on.holds next reported in
       let sound : IsSound n s = next_sound None step m n r s next reported on.sound in
       let free : n.held ≡ None = (next_spends (frame_of levels r) (most_open r) level step m n r s next reported).free in

@@ -3,7 +3,7 @@ use Rattle.std.proofs.Common.{ℕ, ◌≡◌, Bool, true, false, List, [], ◌�
 use Rattle.pp_lexer.specs.declared.token.Location.{Location}
 use Rattle.pp_macros.specs.Item.{Fault, PlacedStep}
 use Rattle.pp_macros.specs.LexerErrors.{ErrorAt, AreLeft, none, kept, passed, PassesErrors}
-use Rattle.pp_macros.specs.inner.Unreported.{Unreported, with_read, IsMet, IsMetOrPassed, Reports, ExitReports, StepReports}
+use Rattle.pp_macros.specs.inner.Unreported.{Unreported, with_read, IsMet, IsMetOrPassed, ReportsNone, Reports, ExitReports, StepReports}
 use Rattle.pp_macros.specs.Halting.{exit_of, placed_halt_of}
 use Rattle.pp_macros.specs.declared.halt.Halt.{Halt}
 use Rattle.pp_macros.specs.declared.halt.Halt.TheVariants as halt
@@ -29,6 +29,14 @@ front_passed (e ∷ front) before after is = passed e before (front ++ after) af
 -- a fault is met, and no error is passed
 pub met_or_passed : (passes : Bool) (fault : Fault) (old new : Unreported) → IsMet fault old new → IsMetOrPassed passes fault old new
 met_or_passed passes fault old new met = λ none. passes_none passes _ _ (sym (met none))
+
+-- where none is reported, some may be passed, and no fault is met among them
+pub none_met : (passes : Bool) (fault : Fault) (old new : Unreported) → ReportsNone passes old new → IsMetOrPassed passes fault old new
+none_met false fault old new same = met_or_passed false fault old new (nothing_met fault old new same)
+none_met true fault old new nothing = λ unread.
+    let after = nothing unread in
+    let front = after.1 in
+    rw after.0 (front_passed front.0 old.later new.later front.1)
 
 -- an exit after which no error was read
 pub exit_same : (passes : Bool) (exit : PlacedExit) (old new : Unreported) → new ≡ old → ExitReports passes exit old new

@@ -1,5 +1,5 @@
 -- A word of plain text that comes next is passed.
-use Rattle.std.proofs.Common.{drop, sym, ◌∙◌, ap, Option}
+use Rattle.std.proofs.Common.{drop, sym, ◌∙◌, ap}
 use Rattle.pp_lexer.specs.Kept.{CanPass}
 use Rattle.pp_lexer.specs.Lexed.{Lexed, comments_before}
 use Rattle.pp_lexer.specs.PlainItems.{IsNextWord}
@@ -8,18 +8,6 @@ use Rattle.pp_lexer.specs.declared.token.Location.{Location}
 use Rattle.pp_macros.specs.inner.LineReading.{next_token}
 use Rattle.pp_macros.specs.inner.SourceLexed.{SourceLexed, unreported_at}
 use Rattle.pp_directives.specs.inner.PlainText.{PassesBlanks, PassesWord}
-
--- the state of a source's lexer
-abbrev pub source_lexed : Lexed → Option Location → SourceLexed
-source_lexed l error_place = record {
-  rest = l.rest;
-  places = l.places;
-  error_place = error_place;
-  had_comments = l.had_comments;
-  at_end = l.at_end;
-  spent = l.spent;
-  rules = l.rules;
-}
 
 -- the place that was noted last makes no difference
 pub next_anywhere : (l : Lexed) (place : Location) (word : PlainItem) → IsNextWord l word → IsNextWord (record l { place = place }) word

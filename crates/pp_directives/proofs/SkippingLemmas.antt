@@ -1,11 +1,11 @@
 -- What is left of a directive's line after a fault is skipped.
-use Rattle.std.proofs.Common.{◌≡◌, ◌∙◌, ◌≤◌, ℕ, Bool, true, false, if◌then◌else◌, List, length, drop, ap, subst, arith, length-drop, Option, Result, Ok, Err}
+use Rattle.std.proofs.Common.{◌≡◌, ◌∙◌, ◌≤◌, ℕ, Bool, true, false, if◌then◌else◌, List, length, drop, ap, subst, arith, length-drop, Result, Ok, Err}
 use Rattle.std.specs.Prelude.{MatchBool}
 use Rattle.pp_lexer.specs.Lexed.{Seen}
 use Rattle.pp_lexer.specs.declared.rules.Rules.{Rules}
 use Rattle.pp_lexer.specs.declared.token.Location.{Location}
 use Rattle.pp_lexer.specs.declared.token.Token.{Token}
-use Rattle.pp_model.specs.Places.{Fault, PlacedFault, placed, unplaced}
+use Rattle.pp_model.specs.Places.{Fault, PlacedFault, placed, unasked, unplaced}
 use Rattle.pp_model.specs.Lines.{first_token, line_length}
 use Rattle.pp_model.specs.Moves.{Move}
 use Rattle.pp_macros.specs.Halting.{exit_of, placed_halt_of}
@@ -18,12 +18,12 @@ use Rattle.pp_macros.specs.inner.Defined.{names_in, body_tokens}
 use Rattle.pp_macros.specs.inner.LineReading.{Meets}
 use Rattle.pp_macros.specs.inner.OpenBlocks.{BlockChange, facts_among, is_live_among}
 use Rattle.pp_macros.specs.inner.SourceMoves.{Note}
-use Rattle.pp_macros.specs.inner.Turns.{as_pause}
 use Rattle.pp_macros.specs.inner.Source.{Source, unreported_of}
 use Rattle.pp_macros.specs.inner.Unreported.{Unreported, Reports, IsMet, IsMetOrPassed}
 use Rattle.pp_directives.specs.inner.Skipping.{LeavesLine, IsSkipped, SkipsRest}
 use Rattle.pp_directives.specs.inner.SourceActs.{HasKept, Stops, DoesMove, SkipsAfter, GivesDirective, StepsDirective, word_move}
-use Rattle.pp_directives.specs.inner.DirectiveHalts.{placed_at, result_at, unplaced_halt}
+use Rattle.pp_directives.specs.inner.DirectiveHalts.{placed_at, result_at, shown, unplaced_halt}
+use Rattle.pp_directives.specs.declared.given.Given.{Given}
 use Rattle.pp_directives.specs.declared.directive_halt.DirectiveHalt.{DirectiveHalt}
 use Rattle.pp_directives.specs.declared.directive_halt.DirectiveHalt.TheVariants as directive_halt
 use Rattle.pp_directives.proofs.PassedErrorsLemmas.{met_or_passed, met_then_passed}
@@ -41,6 +41,7 @@ skipped_keeps old mid new kept skipped =
     let same = skipped.others in
     record {
       rules = ap (λ (s : Source). s.rules) same ∙ kept.rules;
+      around = ap (λ (s : Source). s.around) same ∙ kept.around;
       left = omega (arith, kept.left, fewer, ap (λ (s : Source). length s.blocks) same);
       names = ap (λ (s : Source). names_in s.definitions) same ∙ kept.names;
       tokens = omega (arith, kept.tokens, ap (λ (s : Source). body_tokens s.definitions) same);
@@ -66,8 +67,8 @@ rest_passed fault old mid new rules met skips = go old.rules.passes_dead_errors
     go false same = rw same (met_or_passed false fault (unreported_of old) (unreported_of mid) met)
 
 -- what a directive does is the same if what is left of its line is skipped
-pub skips_move : (note : Note) (change : BlockChange) (move : Move) (given : Result (Option Token) DirectiveHalt) (old mid new : Source)
-    → DoesMove as_pause note change move old given mid → SkipsAfter (result_at old.text given) mid new → DoesMove as_pause note change move old given new
+pub skips_move : (note : Note) (change : BlockChange) (move : Move) (given : Result Given DirectiveHalt) (old mid new : Source)
+    → DoesMove (shown old.text) note change move old given mid → SkipsAfter (result_at old.text given) mid new → DoesMove (shown old.text) note change move old given new
 skips_move note change move (Ok token) old mid new does same = rw same does
 skips_move note change move (Err halt) old mid new does skips = go (placed_at old.text halt) does skips
   where
@@ -89,9 +90,9 @@ refused_directive hash old new halt.OutOfMemory step only is = record {
 
 -- a fault with its text is met as it is met without
 pub placed_met : (passes : Bool) (text : ℕ) (h : DirectiveHalt) (fault : PlacedFault) (old new : Unreported) → placed_halt.Fault fault ≡ placed_at text h
-    → Reports {A = Option Token} passes (Err (unplaced_halt h)) old new → IsMet (unplaced fault) old new
+    → Reports {A = Given} passes (Err (unplaced_halt h)) old new → IsMet (unplaced fault) old new
 placed_met passes text (directive_halt.Fault line) fault old new e met = let same : fault ≡ placed text line = cc in rw same met
-placed_met passes text (directive_halt.Expanded found) fault old new e met = let same : fault ≡ found = cc in rw same met
+placed_met passes text (directive_halt.Expanded found) fault old new e met = let same : fault ≡ unasked found = cc in rw same met
 placed_met passes text directive_halt.OutOfMemory fault old new e met = cc
 
 -- so a directive with this fault keeps the rules, and meets the fault

@@ -16,3 +16,5 @@ pub mod ReadingWords
 pub mod Starting
 pub mod TokenTaking
 pub mod Skipping
+pub mod Suspending
+pub mod LineEnds

@@ -5,7 +5,7 @@ ghost use Rattle.pp_directives.specs.inner.DirectiveHalts.{placed_at};
 
 use pp_lexer::token::{Location, PreprocessorError};
 use pp_macros::halt::{Halt, PlacedHalt};
-use pp_model::place::{PlacedFault, placed};
+use pp_model::place::{PlacedFault, placed, unasked};
 use std::alloc::{AllocError, AllocFailed};
 
 /// Why a directive gives nothing.
@@ -70,13 +70,13 @@ impl From<PlacedHalt> for DirectiveHalt {
 }
 
 impl DirectiveHalt {
-    /// The same with the text of the fault, if this is the text that is read.
+    /// The same with the text of the fault, if this is the text that is read. It asks for nothing.
     pub fn placed_at(self, text: u32) -> PlacedHalt
         ensures { result ≡ placed_at text self }
     {
         match self {
             DirectiveHalt::Fault(fault) => PlacedHalt::Fault(placed(text, fault)),
-            DirectiveHalt::Expanded(fault) => PlacedHalt::Fault(fault),
+            DirectiveHalt::Expanded(fault) => PlacedHalt::Fault(unasked(fault)),
             DirectiveHalt::OutOfMemory => PlacedHalt::OutOfMemory,
         }
     }

@@ -1,6 +1,7 @@
 //! The source's reader: directives act, and the tokens between them are given.
 
-ghost use Rattle.std.specs.Prelude.{◌≡◌, ◌-◌, ◌^◌, ◌<◌, ◌&&◌, not, [], length, false, Ok, Err, IsTrue, IfOk, None};
+ghost use Rattle.std.specs.Prelude.{◌≡◌, ◌-◌, ◌^◌, ◌<◌, ◌&&◌, not, [], length, false, Ok, Err, IsTrue, None};
+ghost use Rattle.std.specs.Prelude.{IfOk, OnOk, OnErr};
 ghost use Rattle.std.specs.Str.{chars};
 ghost use Rattle.pp_model.specs.Numbering.{list_numbering, text_number};
 ghost use Rattle.pp_model.specs.Run.{items_by, content_tokens};
@@ -13,6 +14,9 @@ ghost use Rattle.pp_macros.specs.inner.LineReading.{Meets};
 ghost use Rattle.pp_macros.specs.inner.Source.{StepsSource, unreported_of};
 ghost use Rattle.pp_directives.specs.inner.SourceActs.{StepsDirective};
 ghost use Rattle.pp_directives.specs.inner.Starting.{source_start};
+ghost use Rattle.pp_directives.specs.inner.Suspending.{LeavesText, including};
+ghost use Rattle.pp_macros.specs.inner.Reader.{ReadsSource};
+ghost use Rattle.pp_macros.specs.inner.Reading.{unpainted_step};
 ghost use Rattle.pp_macros.specs.inner.Unreported.{ExitReports, StepReports};
 
 mod acting;
@@ -21,9 +25,11 @@ mod plain_text;
 
 use crate::content::content_tokens;
 use crate::convert::placed_token;
+use crate::given::Given;
 use crate::lines::pass_rest;
 use crate::source_lexer::SourceLexer;
-use pp_lexer::lexer::{self, Form};
+use crate::suspended::Suspended;
+use pp_lexer::lexer::{self, Form, Lexer};
 use pp_lexer::rules::Rules;
 use pp_lexer::token::{Integer, Location, PreprocessorError, Text, Token};
 use pp_macros::blocks::Blocks;
@@ -34,9 +40,10 @@ use pp_macros::macro_processor::SpareCounts;
 use pp_macros::names::Definitions;
 use pp_macros::step::{PlacedExit, PlacedStep, no_memory};
 use pp_model::numbering::{Numbering, text_number};
-use pp_model::place::{SOURCE_TEXT, placed};
+use pp_model::place::{Place, SOURCE_TEXT, placed};
 use std::alloc::{AllocError, Global};
 use std::marker::Model;
+use std::mem;
 
 /// A reader of the source after the lexer, with its directives.
 #[derive(Drop)]
@@ -45,6 +52,11 @@ pub struct DirectiveProcessor<'a> {
     rules: Rules,
     // the number of the text
     text: u32,
+    // Whether a live token of other texts was read before, and whether a directive was.
+    earlier_text: bool,
+    earlier_directive: bool,
+    // The texts around, the innermost last.
+    around: Vec<Suspended<'a>>,
     lexer: SourceLexer<'a>,
     definitions: Definitions,
     blocks: Blocks,
@@ -60,6 +72,7 @@ pub struct DirectiveProcessor<'a> {
 }
 
 impl<'a> Model for DirectiveProcessor<'a> {
+    ghost use Rattle.std.specs.Prelude.{reverse};
     ghost use Rattle.pp_macros.specs.inner.Source.{Source};
 
     ghost Value = { Source };
@@ -67,6 +80,8 @@ impl<'a> Model for DirectiveProcessor<'a> {
     ghost view = { λ p. record {
       rules = p.rules;
       text = p.text;
+      earlier = record { text = p.earlier_text; directive = p.earlier_directive };
+      around = reverse p.around.items;
       rest = p.lexer.rest;
       places = p.lexer.places;
       error_place = p.lexer.error_place;
@@ -93,6 +108,9 @@ impl<'a> DirectiveProcessor<'a> {
             alloc,
             rules,
             text: SOURCE_TEXT,
+            earlier_text: false,
+            earlier_directive: false,
+            around: Vec::new(alloc),
             lexer: SourceLexer::new(alloc, input, rules),
             definitions: Definitions::new(alloc),
             blocks: Blocks::new(alloc),
@@ -240,8 +258,12 @@ impl<'a> DirectiveProcessor<'a> {
     {
         let text = self.text();
         match self.read_directive(hash) {
-            Ok(Some(item)) => Ok(item),
-            Ok(None) => Err(PlacedExit::Continue),
+            Ok(Given::Item(item)) => Ok(item),
+            Ok(Given::Nothing) => Err(PlacedExit::Continue),
+            Ok(Given::Include(line)) => Err(PlacedExit::Error((
+                PreprocessorError::UnknownDirective,
+                Place::asking(text, line),
+            ))),
             Err(halt) => match halt.placed_at(text) {
                 PlacedHalt::OutOfMemory => Err(PlacedExit::from(PlacedHalt::OutOfMemory)),
                 PlacedHalt::Fault(fault) => {
@@ -301,17 +323,88 @@ impl<'a> DirectiveProcessor<'a> {
         }
     }
 
-    /// Reads one token, or one line of a directive.
-    ///
-    /// A newline, a directive that acts, and each token of dead text is a pause. These directives act: `#define`,
-    /// `#undef`, `#if`, `#ifdef`, `#ifndef`, `#elif`, `#else`, `#endif` and `#line`. In live text `#version`,
-    /// `#extension` and `#pragma` are tokens at their word, which hold the tokens of their line; `#error` is
-    /// `ErrorDirective` at its word, and a number sign that begins no line is `UnexpectedHash` at its place. The
-    /// lexer's errors are given as they are, and in dead text passed if the rules say so. After an error of a directive
-    /// what is left of its line is skipped if the rules say so. At the end `UnfinishedBlock` is reported for each block
-    /// that is open, the innermost first.
+    // Goes on in the text around after the end of an included one, which is a pause. In the outermost text, or if an
+    // allocation failed, it is the end.
+    #[inline(never)]
+    fn leave(&mut self) -> PlacedExit
+        ensures { LeavesText self.old result self.new }
+    {
+        if self.lexer.is_spent() {
+            return PlacedExit::Finished;
+        }
+        let Some(outer) = self.around.pop() else {
+            return PlacedExit::Finished;
+        };
+        let Suspended {
+            text,
+            lexer,
+            blocks,
+            line_offset,
+            has_text,
+            has_directive,
+            dead_for_good,
+        } = outer;
+        drop(self.lexer.replace(lexer));
+        self.text = text;
+        self.earlier_text |= self.has_text;
+        self.earlier_directive |= self.has_directive;
+        self.blocks = blocks;
+        self.line_offset = line_offset;
+        self.has_text = has_text;
+        self.has_directive = has_directive;
+        self.dead_for_good = dead_for_good;
+        PlacedExit::Continue
+    }
+
+    /// Suspends the text that is read, and reads this text of fewer than 2^32 - 1 bytes, which is the next content, up
+    /// to its end. With 2^32 - 1 contents before it the error is that of an allocation that failed. After an error
+    /// nothing is changed. No allocation may have failed before.
+    pub fn include(&mut self, text: &'a str) -> Result<(), AllocError>
+        requires size { length text.now < 2 ^ 32 - 1 }
+        requires unspent { self.old.spent ≡ false }
+        ensures ok { OnOk result (self.new ≡ including text.now self.old) }
+        ensures err { OnErr result (self.new ≡ self.old) }
+    {
+        let Some(number) = self.contents.checked_add(1) else {
+            return Err(AllocError);
+        };
+        self.around.reserve(1)?;
+        let lexer = self
+            .lexer
+            .replace(Lexer::with_rules(self.alloc, text, self.rules));
+        let outer = Suspended {
+            text: self.text,
+            lexer,
+            blocks: mem::replace(&mut self.blocks, Blocks::new(self.alloc)),
+            line_offset: self.line_offset,
+            has_text: self.has_text,
+            has_directive: self.has_directive,
+            dead_for_good: self.dead_for_good,
+        };
+        let Ok(()) = self.around.push(outer) else {
+            unreachable!();
+        };
+        self.text = number;
+        self.contents = number;
+        self.earlier_text |= self.has_text;
+        self.earlier_directive |= self.has_directive;
+        self.line_offset = 0;
+        self.has_text = false;
+        self.has_directive = false;
+        self.dead_for_good = false;
+        Ok(())
+    }
+
+    /// How many texts are around the one that is read: each of them includes the next.
+    pub fn depth(&self) -> usize
+        ensures { result ≡ length self.now.around }
+    {
+        self.around.len()
+    }
+
+    // Reads one token, or one line of a directive, of the text that is read.
     #[inline(always)]
-    pub fn step(&mut self) -> PlacedStep<Token>
+    fn step_in_text(&mut self) -> PlacedStep<Token>
         ensures reads { StepsSource self.old result self.new }
         ensures holds { IfOk result (λ token. HoldsOrdinary token.value) }
         ensures errors { StepReports self.old.rules.passes_dead_errors result
@@ -342,5 +435,30 @@ impl<'a> DirectiveProcessor<'a> {
         };
         self.has_text = true;
         Ok(token)
+    }
+
+    /// Reads one token, or one line of a directive.
+    ///
+    /// A newline, a directive that acts, and each token of dead text is a pause. These directives act: `#define`,
+    /// `#undef`, `#if`, `#ifdef`, `#ifndef`, `#elif`, `#else`, `#endif` and `#line`. In live text `#version`,
+    /// `#extension` and `#pragma` are tokens at their word, which hold the tokens of their line; `#error` is
+    /// `ErrorDirective` at its word, and a number sign that begins no line is `UnexpectedHash` at its place. The
+    /// lexer's errors are given as they are, and in dead text passed if the rules say so. After an error of a directive
+    /// what is left of its line is skipped if the rules say so. At the end `UnfinishedBlock` is reported for each block
+    /// that is open, the innermost first.
+    ///
+    /// If the rules ask for texts, an `#include` line in live text is the error `UnknownDirective` at its word, which
+    /// asks for its text. At the end of an included text reading goes on in the text around it, which is a pause.
+    #[inline(always)]
+    pub fn step(&mut self) -> PlacedStep<Token>
+        ensures reads { ReadsSource self.old (unpainted_step self.old.text result) self.new }
+        ensures holds { IfOk result (λ token. HoldsOrdinary token.value) }
+    {
+        match self.step_in_text() {
+            Ok(token) => Ok(token),
+            Err(PlacedExit::Finished) => Err(self.leave()),
+            Err(PlacedExit::Continue) => Err(PlacedExit::Continue),
+            Err(PlacedExit::Error(fault)) => Err(PlacedExit::Error(fault)),
+        }
     }
 }

@@ -5,7 +5,8 @@ ghost use Rattle.pp_lexer.specs.Lexed.{comments_before};
 ghost use Rattle.pp_lexer.specs.TokenValue.{is_ordinary};
 ghost use Rattle.pp_model.specs.DefineLines.{is_attached_paren, definition_at, defined_on};
 ghost use Rattle.pp_model.specs.Lines.{first_token, first_name, ended_line, only_name, line_tokens};
-ghost use Rattle.pp_model.specs.Lines.{comments_before_end};
+ghost use Rattle.pp_model.specs.Lines.{comments_before_end, line_length};
+ghost use Rattle.pp_directives.specs.inner.LineEnds.{goes_on_by, first_end, passed_end};
 ghost use Rattle.pp_directives.specs.inner.LineEntries.{line_entries};
 ghost use Rattle.pp_directives.specs.inner.DefineReading.{opens_list};
 ghost use Rattle.pp_macros.specs.Held.{is_ordinary_leaf};
@@ -184,6 +185,47 @@ pub fn skip_line(passes: bool, lexer: &mut SourceLexer<'_>) -> Result<(), Halt>
     } else {
         skip_tokens(lexer)
     }
+}
+
+// Passes an item of a line, and returns whether the line continues after it. If it is the line's newline, `end` becomes
+// where it begins. An error of the lexer is passed too, or else returned.
+fn pass_to_end(passes: bool, end: &mut u32, lexer: &mut SourceLexer<'_>) -> Result<bool, Halt>
+    requires { lexer.old.spent ≡ false }
+    ensures reads { ReadsPart passes (λ t. t) (goes_on_by passes lexer.old.rest) 1 lexer.old result lexer.new }
+    ensures end { IfOk result (λ _. end.new ≡ first_end end.old lexer.old.rest) }
+{
+    if let Some(word) = lexer.peek_word() {
+        lexer.pass_word(&word);
+        return Ok(true);
+    }
+    match lexer.next_token() {
+        Ok(None) => Ok(false),
+        Ok(Some(token)) => match token.value {
+            lexer::TokenValue::NewLine => {
+                *end = token.location.start;
+                Ok(false)
+            }
+            _ => Ok(true),
+        },
+        Err(Halt::Fault(fault)) if passes => {
+            drop(fault);
+            lexer.take_error_place();
+            Ok(true)
+        }
+        Err(halt) => Err(halt),
+    }
+}
+
+/// Passes the rest of the line, and returns where its newline begins, or `from` if it has none. An error of the lexer
+/// on it is passed too, or else returned.
+pub fn line_end(passes: bool, from: u32, lexer: &mut SourceLexer<'_>) -> Result<u32, Halt>
+    requires { lexer.old.spent ≡ false }
+    ensures { ReadsPart passes (λ t. t) (passed_end passes from lexer.old.rest) (line_length lexer.old.rest)
+        lexer.old result lexer.new }
+{
+    let mut end = from;
+    'line: while pass_to_end(passes, &mut end, lexer)? {}
+    Ok(end)
 }
 
 /// Reads the end of an `#endif` line, or skips it if the block's surroundings are dead.

@@ -7,6 +7,7 @@ ghost use Rattle.pp_lexer.specs.declared.lexer.plain.Form.TheVariants.{Hash};
 ghost use Rattle.pp_directives.specs.inner.PlainText.{IsPeeked, PassesBlanks, PassesWord, TakesWordToken};
 ghost use Rattle.pp_directives.specs.inner.PlainText.{PassesNewline};
 ghost use Rattle.pp_directives.specs.inner.Skipping.{IsOver};
+ghost use Rattle.pp_directives.specs.inner.Suspending.{IsReadable, IsTakenFrom, reading};
 ghost use Rattle.pp_directives.specs.inner.TokenTaking.{TakesToken};
 ghost use Rattle.pp_macros.specs.inner.SourceLexed.{beginning};
 
@@ -19,6 +20,7 @@ use pp_macros::halt::Halt;
 use pp_macros::step::is_out_of_memory;
 use std::alloc::{AllocError, Global};
 use std::marker::Model;
+use std::mem;
 
 /// The lexer of a source. It keeps the place of an error that was read until the error is reported.
 #[derive(Drop)]
@@ -62,6 +64,17 @@ impl<'a> SourceLexer<'a> {
             error_place: None,
             budget: Budget::unbounded(),
         }
+    }
+
+    /// Reads what this lexer gives from now on, and returns the lexer that was read before. The place of an error that
+    /// was read and not reported yet stays, and so does the budget.
+    pub fn replace(&mut self, lexer: Lexer<'a>) -> Lexer<'a>
+        requires unspent { self.old.spent ≡ false }
+        requires readable { IsReadable lexer }
+        ensures before { IsTakenFrom self.old result }
+        ensures after { self.new ≡ reading lexer.entry self.old.error_place }
+    {
+        mem::replace(&mut self.lexer, lexer)
     }
 
     /// Takes its steps from this budget from now on.

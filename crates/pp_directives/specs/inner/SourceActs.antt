@@ -6,7 +6,7 @@ use Rattle.pp_lexer.specs.declared.rules.Rules.{Rules}
 use Rattle.pp_lexer.specs.declared.lexer.item.Token.{Token as LexerToken}
 use Rattle.pp_lexer.specs.declared.token.PreprocessorError.TheVariants.{DefineRedefined}
 use Rattle.pp_lexer.specs.declared.token.Token.{Token}
-use Rattle.pp_model.specs.Places.{Fault, PlacedFault, in_text, placed}
+use Rattle.pp_model.specs.Places.{Fault, PlacedFault, in_text, placed, unasked}
 use Rattle.pp_model.specs.Acts.{defined_in}
 use Rattle.pp_model.specs.Conversions.{is_newline, identifier_of, refused_token}
 use Rattle.pp_model.specs.Definitions.{Definition, IsSameDefinition}
@@ -27,19 +27,21 @@ use Rattle.pp_model.specs.inner.Moves.{taking_more}
 use Rattle.pp_directives.specs.inner.Skipping.{SkipsRest}
 use Rattle.pp_macros.specs.inner.OpenBlocks.{BlockChange, unchanged, block_change_at, facts_among, is_live_among}
 use Rattle.pp_macros.specs.inner.SourceMoves.{Note, unnoted, note_at}
-use Rattle.pp_macros.specs.inner.Turns.{as_pause}
 use Rattle.pp_macros.specs.declared.halt.PlacedHalt.{PlacedHalt}
 use Rattle.pp_macros.specs.declared.halt.PlacedHalt.TheVariants as halt
 use Rattle.pp_macros.specs.declared.step.PlacedExit.TheVariants.{Continue}
-use Rattle.pp_directives.specs.inner.DirectiveHalts.{placed_at, result_at, step_at, unplaced_result}
+use Rattle.pp_directives.specs.inner.DirectiveHalts.{placed_at, result_at, shown, step_at, unplaced_result}
+use Rattle.pp_directives.specs.declared.given.Given.{Given}
+use Rattle.pp_directives.specs.declared.given.Given.TheVariants.{Nothing}
 use Rattle.pp_directives.specs.declared.directive_halt.DirectiveHalt.{DirectiveHalt}
 use Rattle.pp_model.specs.Numbering.{list_numbering}
 use Rattle.pp_model.specs.declared.numbering.Numbering.{Numbering}
 
--- All that is known after a fault: the rules are the same, no more items and open blocks are left, the same names have
--- numbers, no more tokens of bodies are defined, and memory didn't run out.
+-- All that is known after a fault: the rules and the texts around are the same, no more items and open blocks are left,
+-- the same names have numbers, no more tokens of bodies are defined, and memory didn't run out.
 pub record HasKept (old new : Source) : Type 0 where
   pub rules : new.rules ≡ old.rules
+  pub around : new.around ≡ old.around
   pub left : length new.rest + length new.blocks ≤ length old.rest + length old.blocks
   pub names : names_in new.definitions ≡ names_in old.definitions
   pub tokens : body_tokens new.definitions ≤ body_tokens old.definitions
@@ -50,15 +52,19 @@ RedefinesWith text named None fault = ⊥
 RedefinesWith text named (Some before) fault =
     (IsSameDefinition before named.definition → ⊥) × (fault ≡ placed text (DefineRedefined, named.location))
 
--- an effect has this fault in this text, if these names are defined
+-- an effect has this fault in this text, if these names are defined; one of an expansion asks for no text
 abbrev pub FailsWith : Effect → ℕ → Numbering → List Defined → PlacedFault → Type 0
 FailsWith (fails wanted) text numbering definitions fault = fault ≡ placed text wanted
 FailsWith (defines named) text numbering definitions fault =
     RedefinesWith text (defined_in text named) (meaning_of definitions named.name) fault
 FailsWith (decides word tokens) text numbering definitions fault =
-    Condition (in_text text word) tokens numbering definitions (Err fault)
+    (found : PlacedFault)
+    × Condition (in_text text word) tokens numbering definitions (Err found)
+    × (fault ≡ unasked found)
 FailsWith (renumbers word tokens) text numbering definitions fault =
-    LineNumber (in_text text word) tokens numbering definitions (Err fault)
+    (found : PlacedFault)
+    × LineNumber (in_text text word) tokens numbering definitions (Err found)
+    × (fault ≡ unasked found)
 FailsWith _ text numbering definitions fault = ⊥
 
 -- this is why a directive that does what the move says gives nothing; if memory ran out, this says nothing
@@ -83,8 +89,8 @@ pub record ActsAs {A : Type 0} (shows : A → PlacedStep Token) (note : Note) (c
   pub errors : Reports old.rules.passes_dead_errors (unplaced_result result) (unreported_of old) (unreported_of new)
 
 -- a directive that gives nothing, as one that may give an item
-abbrev pub without_item : Result (Unit {0}) DirectiveHalt → Result (Option Token) DirectiveHalt
-without_item (Ok done) = Ok None
+abbrev pub without_item : Result (Unit {0}) DirectiveHalt → Result Given DirectiveHalt
+without_item (Ok done) = Ok Nothing
 without_item (Err halt) = Err halt
 
 -- whether the condition holds of a name that is defined or isn't: that of an `#ifdef` if `wanted` is true, that of an
@@ -99,15 +105,15 @@ ActsAsItem move old result new = ActsAs (λ token. Ok token) unnoted unchanged m
 abbrev pub Acts : BlockChange → Move → Source → Result (Unit {0}) DirectiveHalt → Source → Type 0
 Acts change move old result new = ActsAs (λ done. Err Continue) unnoted change move old result new
 
-abbrev pub Gives : BlockChange → Move → Source → Result (Option Token) DirectiveHalt → Source → Type 0
-Gives change move old result new = ActsAs as_pause unnoted change move old result new
+abbrev pub Gives : BlockChange → Move → Source → Result Given DirectiveHalt → Source → Type 0
+Gives change move old result new = ActsAs (shown old.text) unnoted change move old result new
 
 -- after a directive's number sign, with what is noted: a directive that gives nothing, and any
 abbrev pub ActsNoted : Note → BlockChange → Move → Source → Result (Unit {0}) DirectiveHalt → Source → Type 0
 ActsNoted note change move old result new = ActsAs (λ done. Err Continue) note change move old result new
 
-abbrev pub GivesNoted : Note → BlockChange → Move → Source → Result (Option Token) DirectiveHalt → Source → Type 0
-GivesNoted note change move old result new = ActsAs as_pause note change move old result new
+abbrev pub GivesNoted : Note → BlockChange → Move → Source → Result Given DirectiveHalt → Source → Type 0
+GivesNoted note change move old result new = ActsAs (shown old.text) note change move old result new
 
 -- what is noted, and what becomes of the blocks, if this is the item after the number sign
 abbrev pub word_note : Bool → Result LexerToken Fault → Note
@@ -129,7 +135,7 @@ word_move rules live block (Err fault) after =
     if not live && rules.passes_dead_errors then passing 1 else failing fault
 
 -- what a directive of this source does and gives after its number sign, which is at `hash`
-abbrev pub GivesDirective : Location → Source → Result (Option Token) DirectiveHalt → Source → Type 0
+abbrev pub GivesDirective : Location → Source → Result Given DirectiveHalt → Source → Type 0
 GivesDirective hash old result new =
     let live = is_live_among old.dead_for_good old.blocks in
     let first = first_token hash old.rest in
@@ -137,14 +143,14 @@ GivesDirective hash old result new =
     (word_move old.rules live (facts_among old.blocks) first (drop 1 old.rest)) old result new
 
 -- after a fault of a directive what is left of its line is skipped, if the rules say so
-abbrev pub SkipsAfter : Result (Option Token) PlacedHalt → Source → Source → Type 0
+abbrev pub SkipsAfter : Result Given PlacedHalt → Source → Source → Type 0
 SkipsAfter (Ok given) mid new = new ≡ mid
 SkipsAfter (Err (halt.Fault fault)) mid new = SkipsRest mid new
 SkipsAfter (Err halt.OutOfMemory) mid new = ⊤
 
 -- and all this as a step
 pub record StepsDirective (hash : Location) (old : Source) (step : PlacedStep Token) (new : Source) : Type 0 where
-  pub given : Result (Option Token) DirectiveHalt
+  pub given : Result Given DirectiveHalt
   pub mid : Source
   pub gives : GivesDirective hash old given mid
   pub skips : SkipsAfter (result_at old.text given) mid new

@@ -12,6 +12,8 @@ source_start rules input =
     record {
       rules = rules;
       text = source_text;
+      earlier = record { text = false; directive = false };
+      around = [];
       rest = (start_by rules (spots_of input)).rest;
       places = places_by rules (spots_of input);
       error_place = None;

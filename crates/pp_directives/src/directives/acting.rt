@@ -8,6 +8,7 @@ ghost use Rattle.pp_model.specs.Blocks.{part_of};
 ghost use Rattle.pp_model.specs.declared.directive.Directive.TheVariants as d;
 ghost use Rattle.pp_directives.specs.inner.ReadNames.{as_named};
 ghost use Rattle.pp_macros.specs.inner.OpenBlocks.{facts_among, unchanged, block_change};
+ghost use Rattle.pp_macros.specs.inner.Source.{had_text, is_first_directive};
 ghost use Rattle.pp_directives.specs.inner.LineEntries.{entries_move};
 ghost use Rattle.pp_directives.specs.inner.SourceActs.{Acts, GivesDirective, ActsAsItem, ActsNoted, Gives, GivesNoted};
 ghost use Rattle.pp_directives.specs.inner.SourceActs.{without_item, word_change, word_move, word_note, define_move};
@@ -15,33 +16,37 @@ ghost use Rattle.pp_model.specs.Moves as moves;
 
 use crate::directive_halt::DirectiveHalt;
 use crate::directives::DirectiveProcessor;
+use crate::given::Given;
 use crate::line_value::line_number;
 use crate::lines::{
-    DefineLine, define_line, ended_line, first_token, free_name, line_reads, line_tokens,
+    DefineLine, define_line, ended_line, first_token, free_name, line_end, line_reads, line_tokens,
     only_name, skip_line,
 };
 use pp_lexer::lexer;
+use pp_lexer::rules::Rules;
 use pp_lexer::token::{Extension, Location, Pragma, PreprocessorError, Token, TokenValue, Version};
 use pp_macros::halt::Halt;
 use pp_macros::list_lexer::Scope;
 use pp_model::conversion::refused_token;
 use pp_model::directive::{Directive, directive_of};
+use pp_model::outcome::IncludeLine;
 use pp_model::place::Place;
 
-// Whether the directive is an item in live text.
-fn is_item(directive: Directive) -> bool {
-    matches!(
-        directive,
-        Directive::Version | Directive::Extension | Directive::Pragma
-    )
+// Whether the directive is an item in live text by these rules, or an `#include` line that asks for its text.
+fn is_item(rules: Rules, directive: Directive) -> bool {
+    match directive {
+        Directive::Version | Directive::Extension | Directive::Pragma => true,
+        Directive::Include => rules.asks_includes,
+        _ => false,
+    }
 }
 
-// The result of a directive that gives nothing, as that of one that may give an item.
-fn without_item(acted: Result<(), DirectiveHalt>) -> Result<Option<Token>, DirectiveHalt>
+// The result of a directive that gives nothing, as that of one that may give something.
+fn without_item(acted: Result<(), DirectiveHalt>) -> Result<Given, DirectiveHalt>
     ensures { result ≡ without_item acted }
 {
     acted?;
-    Ok(None)
+    Ok(Given::Nothing)
 }
 
 impl<'a> DirectiveProcessor<'a> {
@@ -137,6 +142,51 @@ impl<'a> DirectiveProcessor<'a> {
         Ok(())
     }
 
+    // Whether a live token was read so far, in this text or in another.
+    fn had_text(&self) -> bool
+        ensures { result ≡ had_text self.now }
+    {
+        self.earlier_text || self.has_text
+    }
+
+    // Whether no live token and no directive was read so far, in this text or in another.
+    fn is_first_directive(&self) -> bool
+        ensures { result ≡ is_first_directive self.now }
+    {
+        let had_directive = self.earlier_directive || self.has_directive;
+        !(had_directive || self.had_text())
+    }
+
+    // An `#include` line, after its word: it asks for its text, if the rules say so. What is on it isn't read.
+    fn include_line(&mut self, word: Location) -> Result<Given, DirectiveHalt>
+        requires { self.old.spent ≡ false }
+        ensures { Gives unchanged (moves.include_move self.old.rules word self.old.rest) self.old result self.new }
+    {
+        if !self.rules.asks_includes {
+            return Err(DirectiveHalt::Fault((PreprocessorError::UnknownDirective, word)));
+        }
+        let end = line_end(self.rules.passes_dead_errors, word.end, &mut self.lexer)?;
+        let rest = Location {
+            start: word.end,
+            end,
+            line: word.line,
+        };
+        Ok(Given::Include(IncludeLine { word, rest }))
+    }
+
+    // Skips an `#include` line in dead text, if the rules ask for texts. Otherwise it is dead text after an unknown
+    // word.
+    fn skip_include(&mut self) -> Result<(), DirectiveHalt>
+        requires { self.old.spent ≡ false }
+        ensures { Acts unchanged (moves.dead_include_move self.old.rules self.old.rest) self.old result self.new }
+    {
+        if self.rules.asks_includes {
+            self.skip()
+        } else {
+            Ok(())
+        }
+    }
+
     // A `#version` line as an item.
     fn version(&mut self, word: Location) -> Result<Token, DirectiveHalt>
         requires unspent { self.old.spent ≡ false }
@@ -148,7 +198,7 @@ impl<'a> DirectiveProcessor<'a> {
         let tokens = line_tokens(self.alloc, &mut self.lexer)?;
         let value = TokenValue::Version(Version {
             tokens,
-            is_first_directive: !(self.has_directive || self.has_text),
+            is_first_directive: self.is_first_directive(),
             has_comments_before: self.lexer.had_comments(),
         });
         Ok(Token {
@@ -167,7 +217,7 @@ impl<'a> DirectiveProcessor<'a> {
         let tokens = line_tokens(self.alloc, &mut self.lexer)?;
         let value = TokenValue::Extension(Extension {
             tokens,
-            has_non_directive_before: self.has_text,
+            has_non_directive_before: self.had_text(),
         });
         Ok(Token {
             value,
@@ -189,12 +239,8 @@ impl<'a> DirectiveProcessor<'a> {
         })
     }
 
-    // Acts on a directive in live text, after its word, and gives its item, if it is one.
-    fn act_live(
-        &mut self,
-        directive: Directive,
-        word: Location,
-    ) -> Result<Option<Token>, DirectiveHalt>
+    // Acts on a directive in live text, after its word, and gives its item, if it is one, or asks for its text.
+    fn act_live(&mut self, directive: Directive, word: Location) -> Result<Given, DirectiveHalt>
         requires unspent { self.old.spent ≡ false }
         requires left { self.old.rest ≢ [] }
         ensures { Gives (block_change (part_of directive) word) (moves.directive_move self.old.rules true
@@ -214,9 +260,10 @@ impl<'a> DirectiveProcessor<'a> {
                 PreprocessorError::ErrorDirective,
                 word,
             ))),
-            Directive::Version => Ok(Some(self.version(word)?)),
-            Directive::Extension => Ok(Some(self.extension(word)?)),
-            Directive::Pragma => Ok(Some(self.pragma(word)?)),
+            Directive::Include => self.include_line(word),
+            Directive::Version => Ok(Given::Item(self.version(word)?)),
+            Directive::Extension => Ok(Given::Item(self.extension(word)?)),
+            Directive::Pragma => Ok(Given::Item(self.pragma(word)?)),
             Directive::Unknown => Err(DirectiveHalt::Fault((
                 PreprocessorError::UnknownDirective,
                 word,
@@ -235,6 +282,7 @@ impl<'a> DirectiveProcessor<'a> {
             Directive::Elif => self.elif_line(word),
             Directive::Else => self.else_line(word),
             Directive::Endif => self.endif_line(word),
+            Directive::Include => self.skip_include(),
             Directive::Unknown => Ok(()),
             Directive::Define
             | Directive::Undef
@@ -246,9 +294,9 @@ impl<'a> DirectiveProcessor<'a> {
         }
     }
 
-    // The item that a directive gives in live text, if it gives one, after its number sign. A number sign alone on its
-    // line gives nothing. A line that would be an item counts as a directive even if it has a fault.
-    fn read_live(&mut self, hash: Location) -> Result<Option<Token>, DirectiveHalt>
+    // What a directive gives in live text, after its number sign. A number sign alone on its line gives nothing. A line
+    // that would be an item, or would ask for its text, counts as a directive even if it has a fault.
+    fn read_live(&mut self, hash: Location) -> Result<Given, DirectiveHalt>
         requires { self.old.spent ≡ false }
         ensures { GivesNoted (word_note true (first_token hash self.old.rest))
             (word_change (first_token hash self.old.rest))
@@ -267,14 +315,14 @@ impl<'a> DirectiveProcessor<'a> {
                         Ok(given)
                     }
                     Err(halt) => {
-                        self.has_directive |= is_item(directive);
+                        self.has_directive |= is_item(self.rules, directive);
                         Err(halt)
                     }
                 }
             }
             lexer::TokenValue::NewLine => {
                 self.has_directive = true;
-                Ok(None)
+                Ok(Given::Nothing)
             }
             _ => Err(DirectiveHalt::Fault(refused_token(token))),
         }
@@ -315,8 +363,8 @@ impl<'a> DirectiveProcessor<'a> {
         }
     }
 
-    // The item that a directive gives, if it gives one, after its number sign.
-    pub(crate) fn read_directive(&mut self, hash: Location) -> Result<Option<Token>, DirectiveHalt>
+    // What a directive gives, after its number sign.
+    pub(crate) fn read_directive(&mut self, hash: Location) -> Result<Given, DirectiveHalt>
         requires { self.old.spent ≡ false }
         ensures { GivesDirective hash self.old result self.new }
     {
@@ -324,6 +372,6 @@ impl<'a> DirectiveProcessor<'a> {
             return self.read_live(hash);
         }
         self.read_dead(hash)?;
-        Ok(None)
+        Ok(Given::Nothing)
     }
 }

@@ -1,4 +1,4 @@
-use Rattle.std.proofs.Common.{arith}
+use Rattle.std.proofs.Common.{reverse, arith}
 use Rattle.pp_directives.specs.inner.DirectiveHalts.{of_line}
 use Rattle.pp_model.specs.DefineLines.{defined_on}
 use Rattle.pp_model.specs.Moves.{defines}
@@ -11,7 +11,7 @@ pub returns-in_err-line : goal.returns-in_err-line
 returns-in_err-line c =
     let p = c.self.inside in
     rw (← c.self.view_is, err_result c.from_residual.result (of_line c.in_err-line.field-0.0) c.from_residual.ensures.1)
-    (acts_failed as_named c.in_err-line.field-0.0 unchanged (defined_on p.rules c.args.word) defines p.rules p.text p.definitions p.blocks
+    (acts_failed as_named c.in_err-line.field-0.0 unchanged (defined_on p.rules c.args.word) defines p.rules p.text (record { text = p.earlier_text; directive = p.earlier_directive }) (reverse p.around.items) p.definitions p.blocks
     p.blocks (omega arith) p.line_offset p.has_text p.has_directive p.dead_for_good p.contents p.lexer c.define_line.new.lexer
     c.in_err-line.ensures)
 
@@ -19,5 +19,5 @@ pub returns : goal.returns
 returns c =
     let p = c.self.inside in
     rw (← c.self.view_is)
-    (define_acts p.rules p.text p.definitions p.blocks p.line_offset p.has_text p.has_directive p.dead_for_good p.contents p.lexer c.define_line.new.lexer c.args.word
+    (define_acts p.rules p.text (record { text = p.earlier_text; directive = p.earlier_directive }) (reverse p.around.items) p.definitions p.blocks p.line_offset p.has_text p.has_directive p.dead_for_good p.contents p.lexer c.define_line.new.lexer c.args.word
     as_named c.in_ok-line.line c.add.result c.add.new.self c.in_ok-line.ensures c.add.ensures)

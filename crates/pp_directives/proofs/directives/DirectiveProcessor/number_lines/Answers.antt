@@ -1,4 +1,4 @@
-use Rattle.std.proofs.Common.{arith, refl, sym}
+use Rattle.std.proofs.Common.{reverse, arith, refl, sym}
 use Rattle.pp_directives.specs.inner.DirectiveHalts.{of_expansion, of_line}
 use Rattle.pp_model.specs.Lines.{line_tokens}
 use Rattle.pp_model.specs.Moves.{renumbers}
@@ -12,14 +12,14 @@ returns-in-Ok c =
     let p = c.self.inside in
     let number = rw (c.in-Ok.is, c.list_numbering.ensures, c.in_ok-tokens.ensures.directive, c.in_text-place.ensures) at c.line_number.ensures in
     rw (← c.self.view_is, c.count_from.ensures)
-    (line_numbers p.rules p.text p.definitions p.blocks p.line_offset p.has_text p.has_directive p.dead_for_good p.contents p.lexer c.line_reads.new.lexer c.args.word
+    (line_numbers p.rules p.text (record { text = p.earlier_text; directive = p.earlier_directive }) (reverse p.around.items) p.definitions p.blocks p.line_offset p.has_text p.has_directive p.dead_for_good p.contents p.lexer c.line_reads.new.lexer c.args.word
     c.in_ok-tokens.tokens c.in_ok-tokens.ensures.reads c.in-Ok.number _ number refl)
 
 pub returns-in_err-tokens : goal.returns-in_err-tokens
 returns-in_err-tokens c =
     let p = c.self.inside in
     rw (← c.self.view_is, err_result c.from_residual.result (of_line c.in_err-tokens.field-0.0) c.from_residual.ensures.1)
-    (acts_failed (λ line. line.tokens) c.in_err-tokens.field-0.0 unchanged line_tokens (renumbers c.args.word) p.rules p.text p.definitions
+    (acts_failed (λ line. line.tokens) c.in_err-tokens.field-0.0 unchanged line_tokens (renumbers c.args.word) p.rules p.text (record { text = p.earlier_text; directive = p.earlier_directive }) (reverse p.around.items) p.definitions
     p.blocks p.blocks (omega arith) p.line_offset p.has_text p.has_directive p.dead_for_good p.contents p.lexer
     c.line_reads.new.lexer c.in_err-tokens.ensures.reads)
 
@@ -28,7 +28,7 @@ returns-in-Some c =
     let p = c.self.inside in
     let number = rw (c.in-Err.is, c.list_numbering.ensures, c.in_ok-tokens.ensures.directive, c.in_text-place.ensures) at c.line_number.ensures in
     rw c.from.ensures (numbering_failed c.args.word (of_expansion c.in-Err.unnumbered.halt) _ _ _ _ c.self.view_is (sym c.count_from-in-Some.ensures)
-    (number_failed p.rules p.text p.definitions p.blocks p.line_offset p.has_text p.has_directive p.dead_for_good p.contents p.lexer
+    (number_failed p.rules p.text (record { text = p.earlier_text; directive = p.earlier_directive }) (reverse p.around.items) p.definitions p.blocks p.line_offset p.has_text p.has_directive p.dead_for_good p.contents p.lexer
     c.line_reads.new.lexer c.args.word c.in_ok-tokens.tokens c.in_ok-tokens.ensures.reads _
     c.in-Err.unnumbered.halt number))
 
@@ -37,6 +37,6 @@ returns-in-None c =
     let p = c.self.inside in
     let number = rw (c.in-Err.is, c.list_numbering.ensures, c.in_ok-tokens.ensures.directive, c.in_text-place.ensures) at c.line_number.ensures in
     rw c.from-in-None.ensures (numbering_failed c.args.word (of_expansion c.in-Err.unnumbered.halt) _ _ _ _ c.self.view_is refl
-    (number_failed p.rules p.text p.definitions p.blocks p.line_offset p.has_text p.has_directive p.dead_for_good p.contents p.lexer
+    (number_failed p.rules p.text (record { text = p.earlier_text; directive = p.earlier_directive }) (reverse p.around.items) p.definitions p.blocks p.line_offset p.has_text p.has_directive p.dead_for_good p.contents p.lexer
     c.line_reads.new.lexer c.args.word c.in_ok-tokens.tokens c.in_ok-tokens.ensures.reads p.line_offset
     c.in-Err.unnumbered.halt number))

@@ -1,4 +1,4 @@
-use Rattle.std.proofs.Common.{◌∙◌, ◌∷◌, ◌++◌, [], ap, arith}
+use Rattle.std.proofs.Common.{reverse, ◌∙◌, ◌∷◌, ◌++◌, [], ap, arith}
 use Rattle.pp_directives.specs.inner.DirectiveHalts.{of_expansion, of_line}
 use Rattle.pp_macros.specs.inner.OpenBlocks.{outer_blocks, elif_change}
 use Rattle.pp_macros.specs.declared.blocks.OpenBlock.{OpenBlock}
@@ -15,7 +15,7 @@ returns c =
     let after = replaced_twice p.blocks c.replace_last.new.self c.replace_last-2.new.self c.skipped.result c.decided.result
     c.replace_last.ensures.is c.replace_last-2.ensures.is in
     rw (← c.self.view_is)
-    (elif_parts p.rules p.text p.definitions p.blocks p.line_offset p.has_text p.has_directive p.dead_for_good p.contents p.lexer c.line_reads.new.lexer c.args.word
+    (elif_parts p.rules p.text (record { text = p.earlier_text; directive = p.earlier_directive }) (reverse p.around.items) p.definitions p.blocks p.line_offset p.has_text p.has_directive p.dead_for_good p.contents p.lexer c.line_reads.new.lexer c.args.word
     c.in_ok-tokens.tokens c.in_ok-tokens.ensures.reads c.args.block holds c.replace_last-2.new.self
     (rw (c.list_numbering.ensures, c.in_ok-tokens.ensures.directive, c.in_text-place.ensures) at c.in_ok-holds.ensures) (rw (← c.self.view_is) at c.requires.innermost) (after ∙ ap (λ (b : OpenBlock). outer_blocks p.blocks ++ b ∷ []) c.decided.ensures))
 
@@ -23,7 +23,7 @@ pub returns-in_err-tokens : goal.returns-in_err-tokens
 returns-in_err-tokens c =
     let p = c.self.inside in
     rw (← c.self.view_is, err_result c.from_residual.result (of_line c.in_err-tokens.field-0.0) c.from_residual.ensures.1)
-    (acts_failed (λ line. line.tokens) c.in_err-tokens.field-0.0 elif_change line_tokens (decides c.args.word) p.rules p.text p.definitions
+    (acts_failed (λ line. line.tokens) c.in_err-tokens.field-0.0 elif_change line_tokens (decides c.args.word) p.rules p.text (record { text = p.earlier_text; directive = p.earlier_directive }) (reverse p.around.items) p.definitions
     p.blocks c.replace_last.new.self (omega (arith, c.replace_last.ensures.count)) p.line_offset p.has_text
     p.has_directive p.dead_for_good p.contents p.lexer c.line_reads.new.lexer c.in_err-tokens.ensures.reads)
 
@@ -31,6 +31,6 @@ pub returns-in_err-holds : goal.returns-in_err-holds
 returns-in_err-holds c =
     let p = c.self.inside in
     rw (← c.self.view_is, err_result c.from_residual-in_err-holds.result (of_expansion c.in_err-holds.field-0.0) c.from_residual-in_err-holds.ensures.1)
-    (condition_failed p.rules p.text p.definitions p.blocks p.line_offset p.has_text p.has_directive p.dead_for_good p.contents p.lexer
+    (condition_failed p.rules p.text (record { text = p.earlier_text; directive = p.earlier_directive }) (reverse p.around.items) p.definitions p.blocks p.line_offset p.has_text p.has_directive p.dead_for_good p.contents p.lexer
     c.line_reads.new.lexer c.args.word c.in_ok-tokens.tokens c.in_ok-tokens.ensures.reads elif_change
     c.replace_last.new.self (omega (arith, c.replace_last.ensures.count)) c.in_err-holds.field-0.0 (rw (c.list_numbering.ensures, c.in_ok-tokens.ensures.directive, c.in_text-place.ensures) at c.in_err-holds.ensures))

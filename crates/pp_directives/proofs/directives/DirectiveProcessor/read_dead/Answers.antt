@@ -1,8 +1,9 @@
-use Rattle.std.proofs.Common.{None, false, rules}
+use Rattle.std.proofs.Common.{reverse, false, rules}
 use Rattle.pp_model.specs.Blocks.{part_of}
 use Rattle.pp_model.specs.Sights.{directive_of}
 use Rattle.pp_model.specs.Moves.{directive_move}
 use Rattle.pp_macros.specs.inner.OpenBlocks.{facts_among, block_change}
+use Rattle.pp_directives.specs.declared.given.Given.TheVariants as given
 use Rattle.pp_directives.proofs.NotedLemmas.{word_read, error_passed}
 use Rattle.pp_directives.proofs.directives.DirectiveProcessor.read_dead.Goals as goal
 
@@ -13,9 +14,9 @@ returns-in-Ident c =
     let acts = rw (c.directive_of-directive.ensures, c.in-Ident.name-is, ← c.self-in-Ident.view_is) at c.in_ok-act_dead-in-Ident.ensures in
     record {
       acts = rw (← c.self.view_is, e.is, c.in-Ident.is, ← e.takes.rest)
-          (word_read p.rules p.text p.definitions p.blocks p.line_offset p.has_text p.has_directive p.dead_for_good p.contents p.lexer c.first_token.new.lexer e.takes.rest
+          (word_read p.rules p.text (record { text = p.earlier_text; directive = p.earlier_directive }) (reverse p.around.items) p.definitions p.blocks p.line_offset p.has_text p.has_directive p.dead_for_good p.contents p.lexer c.first_token.new.lexer e.takes.rest
           (block_change (part_of (directive_of c.in-Ident.name)) c.in-Ok.token.location)
-          (directive_move p.rules false (facts_among p.blocks) (directive_of c.in-Ident.name) c.in-Ok.token.location c.first_token.new.lexer.rest) None _ acts.acts);
+          (directive_move p.rules false (facts_among p.blocks) (directive_of c.in-Ident.name) c.in-Ok.token.location c.first_token.new.lexer.rest) given.Nothing _ acts.acts);
       holds = search rules;
       errors = search rules;
     }
@@ -25,5 +26,5 @@ returns-in-Err-Fault c =
     let p = c.self.inside in
     let e = rw c.in-Err-Fault.field-0-is at c.in-Err-Fault.ensures in
     rw (← c.self.view_is)
-    (error_passed p.rules p.text p.definitions p.blocks p.line_offset p.has_text p.has_directive p.dead_for_good p.contents p.lexer c.first_token.new.lexer
+    (error_passed p.rules p.text (record { text = p.earlier_text; directive = p.earlier_directive }) (reverse p.around.items) p.definitions p.blocks p.line_offset p.has_text p.has_directive p.dead_for_good p.contents p.lexer c.first_token.new.lexer
     c.take_error_place.new.self c.args.hash c.in-Err-Fault.fault e.reads.is e.one e.reads.errors c.take_error_place.ensures.others c.if-self.true)

@@ -1,26 +1,31 @@
-use Rattle.std.proofs.Common.{◌≡◌, true, false, List, ℕ, sym, ◌∙◌, refl}
-use Rattle.pp_lexer.specs.PlainItems.{value_of, token_of}
-use Rattle.pp_lexer.specs.declared.lexer.item.TokenValue.TheVariants.{Hash}
-use Rattle.pp_lexer.specs.declared.lexer.plain.Form.{Form}
-use Rattle.pp_lexer.specs.declared.lexer.plain.Form.TheVariants.{Hash as HashForm}
-use Rattle.pp_directives.proofs.PlainWordLemmas.{passed_before}
-use Rattle.pp_directives.proofs.SourceStepLemmas.{step_directive}
+use Rattle.std.proofs.Common.{◌≡◌, ◌⊎◌, [], Ok, Err, refl, true}
+use Rattle.pp_lexer.specs.declared.token.Token.{Token}
+use Rattle.pp_macros.specs.Item.{PlacedStep}
+use Rattle.pp_macros.specs.declared.step.PlacedExit.TheVariants.{Continue, Error, Finished}
+use Rattle.pp_macros.specs.inner.Reader.{reads}
+use Rattle.pp_directives.proofs.TextEndLemmas.{leaves_text}
 use Rattle.pp_directives.proofs.directives.DirectiveProcessor.step.Goals as goal
-use Rattle.pp_directives.proofs.directives.DirectiveProcessor.step.Goals.{in-Hash, in_default-matches}
 
-hash_value : (form : Form) (w : List ℕ) → form ≡ HashForm → value_of form w ≡ Hash
-hash_value form w e = rw e refl
+pub returns-in-Err-Finished-clause-reads : goal.returns-in-Err-Finished-clause-reads
+returns-in-Err-Finished-clause-reads c =
+    let e = rw c.in-Err-Finished.field-0-is at c.in-Err-Finished.ensures in
+    leaves_text c.args.self.now c.step_in_text.new.self c.leave.new.self c.leave.result e.reads e.errors c.leave.ensures
 
-pub returns-then-matches-clause-reads : goal.returns-then-matches-clause-reads
-returns-then-matches-clause-reads c =
-    let p = c.self.inside in
-    let word = c.in-Some.word in
-    let h = passed_before p.lexer c.peek_word.new.self c.pass_word.new.self word c.peek_word.ensures.same c.pass_word.ensures in
-    let is_hash : word.form ≡ HashForm = elim c.match-matches.branch [
-      | in-Hash w ↦ w.in-Hash.is
-      | in_default-matches w ↦ let bad : true ≡ false = sym c.if-matches.true ∙ w.matches-is in cc
-    ] in
-    rw (← c.self.view_is)
-    (step_directive p.rules p.text p.definitions p.blocks p.line_offset p.has_text p.has_directive p.dead_for_good p.contents p.lexer c.pass_word.new.self (token_of word)
-    (sym c.is_spent.ensures ∙ c.if-is_spent.false) h.is h.takes c.step_directive.result c.step_directive.new.self
-    (hash_value word.form word.spelling.now is_hash) c.if-not-word.false h.left c.step_directive.ensures.reads)
+pub returns-in-Ok-clause-reads : goal.returns-in-Ok-clause-reads
+returns-in-Ok-clause-reads c =
+    let e = c.in-Ok.ensures in
+    let on : ◌≡◌ {A = PlacedStep Token} (Ok c.in-Ok.token) (Err Finished) → (c.args.self.now.spent ≡ true) ⊎ (c.args.self.now.around ≡ []) = λ end. cc in
+    reads (Ok c.in-Ok.token) e.reads e.errors on refl
+
+pub returns-in-Err-Continue-clause-reads : goal.returns-in-Err-Continue-clause-reads
+returns-in-Err-Continue-clause-reads c =
+    let e = rw c.in-Err-Continue.field-0-is at c.in-Err-Continue.ensures in
+    let on : ◌≡◌ {A = PlacedStep Token} (Err Continue) (Err Finished) → (c.args.self.now.spent ≡ true) ⊎ (c.args.self.now.around ≡ []) = λ end. cc in
+    reads (Err Continue) e.reads e.errors on refl
+
+pub returns-in-Err-Error-clause-reads : goal.returns-in-Err-Error-clause-reads
+returns-in-Err-Error-clause-reads c =
+    let e = rw c.in-Err-Error.field-0-is at c.in-Err-Error.ensures in
+    let fault = c.in-Err-Error.fault in
+    let on : ◌≡◌ {A = PlacedStep Token} (Err (Error fault)) (Err Finished) → (c.args.self.now.spent ≡ true) ⊎ (c.args.self.now.around ≡ []) = λ end. cc in
+    reads (Err (Error fault)) e.reads e.errors on refl

@@ -1,4 +1,4 @@
-use Rattle.std.proofs.Common.{◌≡◌, false, Option, Ok, sym, ◌∙◌, ap, subst, rules}
+use Rattle.std.proofs.Common.{reverse, ◌≡◌, false, Option, Ok, sym, ◌∙◌, ap, subst, rules}
 use Rattle.pp_lexer.specs.declared.lexer.item.Token.{Token as LexerToken}
 use Rattle.pp_model.specs.Conversions.{is_newline}
 use Rattle.pp_macros.specs.inner.LineReading.{HasTaken, LeavesSome, next_token}
@@ -18,7 +18,7 @@ returns-in-Hash-clause-reads c =
     let unspent : p.lexer.spent ≡ false = ap (λ s. s.spent) c.self.view_is ∙ c.requires in
     let left : LeavesSome c.in-Ok-Some.field-0 c.next_token.new.self.rest = e.left in
     rw (← c.self.view_is)
-    (step_directive p.rules p.text p.definitions p.blocks p.line_offset p.has_text p.has_directive p.dead_for_good p.contents p.lexer c.next_token.new.self c.in-Ok-Some.token
+    (step_directive p.rules p.text (record { text = p.earlier_text; directive = p.earlier_directive }) (reverse p.around.items) p.definitions p.blocks p.line_offset p.has_text p.has_directive p.dead_for_good p.contents p.lexer c.next_token.new.self c.in-Ok-Some.token
     unspent (ap (λ l. next_token l.rest) (sym same) ∙ e.is ∙ ap Ok c.in-Ok-Some.field-0-is) (subst (λ l. HasTaken 1 l c.next_token.new.self) same e.takes)
     c.step_directive.result c.step_directive.new.self c.in-Hash.is c.if-token.true
     ((rw c.in-Ok-Some.field-0-is at left) (ap is_newline c.in-Hash.is))
@@ -32,7 +32,7 @@ returns-in-Err-Fault-clause-reads c =
     let unspent : p.lexer.spent ≡ false = ap (λ s. s.spent) c.self.view_is ∙ c.requires in
     let one = subst (λ l. HasTaken 1 l c.next_token.new.self) same e.one in
     rw (← c.self.view_is)
-    (step_errs p.rules p.text p.definitions p.blocks p.line_offset p.has_text p.has_directive p.dead_for_good p.contents p.lexer c.take_error_place.new.self
+    (step_errs p.rules p.text (record { text = p.earlier_text; directive = p.earlier_directive }) (reverse p.around.items) p.definitions p.blocks p.line_offset p.has_text p.has_directive p.dead_for_good p.contents p.lexer c.take_error_place.new.self
     c.in-Err-Fault.fault unspent (ap (λ l. next_token l.rest) (sym same) ∙ e.is)
     (rw c.take_error_place.ensures.others (record { rest = one.rest; spent = one.spent }))
     (sym c.passes_errors.ensures ∙ c.if-passes_errors.true))
