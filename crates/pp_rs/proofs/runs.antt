@@ -3,12 +3,13 @@ pub mod PassedErrorsLemmas
 pub mod UnreportedTurnLemmas
 pub mod Leads
 pub mod LeftLemmas
-pub mod UnspentLemmas
 pub mod NextLemmas
 pub mod PausesLemmas
 pub mod StartLemmas
 pub mod RepliesLemmas
 pub mod AddingLemmas
+pub mod AsksLemmas
+pub mod IncludingLemmas
 pub mod ComesLemmas
 pub mod ItemValuesLemmas
 pub mod AfreshLemmas

@@ -1,6 +1,7 @@
 pub mod SkippedLemmas
 pub mod Simulates
-pub mod ItemThereLemmas
+pub mod AroundLemmas
+pub mod AllTextsLemmas
 pub mod EndLemmas
 pub mod DirectivePlaceLemmas
 pub mod DirectiveBeforeLemmas

@@ -1,16 +1,16 @@
 -- One call of `append_all`, `preprocess_all` or `drain` (docs/RULES.md, "Calls").
 use Rattle.std.specs.Prelude.{◌≡◌, Bool, true, false, List, [], ◌∷◌, ◌++◌, Option, Some, None, Ok, Err, MatchBool, All}
+use Rattle.std.specs.Prelude.{option_map}
 use Rattle.pp_lexer.specs.PreprocessorError.{out_of_memory}
+use Rattle.pp_lexer.specs.declared.rules.Rules.{Rules}
 use Rattle.pp_lexer.specs.declared.token.Token.{Token}
-use Rattle.pp_model.specs.declared.outcome.Outcome.{Outcome}
-use Rattle.pp_model.specs.declared.outcome.Outcome.TheVariants as outcome
 use Rattle.pp_rs.specs.Comes.{State, Gives, IsRunFrom}
 use Rattle.pp_macros.specs.Item.{Fault, Item}
 use Rattle.pp_rs.specs.Kept.{Preprocessing, Stands, is_spent, most_items, errors_left, error_place, rules_of}
 use Rattle.pp_macros.specs.Held.{ItemHoldsOrdinary}
 use Rattle.pp_macros.specs.LexerErrors.{ErrorAt, PassesErrors}
 use Rattle.pp_lexer.specs.declared.token.Location.{Location}
-use Rattle.pp_rs.specs.Preprocessing.{IsNextItem}
+use Rattle.pp_rs.specs.Preprocessing.{Asks, IsNextItem, outcome_of}
 
 -- the tokens before the first error item
 abbrev pub tokens_before_error : List Item → List Token
@@ -24,20 +24,24 @@ first_error [] = None
 first_error (Ok token ∷ items) = first_error items
 first_error (Err fault ∷ items) = Some fault
 
--- the error, or the end if there is none
-abbrev pub error_or_end : Option Fault → Outcome
-error_or_end None = outcome.End
-error_or_end (Some fault) = outcome.Fault fault
+-- These tokens come from the state, and then this error or, if there is none, the end. The error may be that of an
+-- `#include` line that asks for its text.
+abbrev pub EndsIn : Rules → State → List Token → Option Fault → Type 0
+EndsIn rules state tokens error =
+    (asked : Option Location)
+    × Asks rules (option_map Err error) asked
+    × IsRunFrom state tokens (outcome_of (option_map Err error) asked)
 
 -- Up to and with the first error item these are the items that come from the state; if none is an error, they are all
 -- of them, up to the end. This says nothing of items after an error.
-abbrev pub AreItemsFrom : State → List Item → Type 0
-AreItemsFrom state items = IsRunFrom state (tokens_before_error items) (error_or_end (first_error items))
+abbrev pub AreItemsFrom : Rules → State → List Item → Type 0
+AreItemsFrom rules state items = EndsIn rules state (tokens_before_error items) (first_error items)
 
 -- all items, or none if memory had run out before
 abbrev pub AreItemsOf : Preprocessing → List Item → Type 0
 AreItemsOf old items =
-    MatchBool (is_spent old) (items ≡ []) ((state : State) → Stands old state → AreItemsFrom state items)
+    MatchBool (is_spent old) (items ≡ [])
+    ((state : State) → Stands old state → AreItemsFrom (rules_of old) state items)
 
 -- How items report the errors of the lexer. An error item is either the first error of the lexer that was not reported
 -- yet, with its true place, or another error, which is at its own place. Errors of dead text are passed, if the rules
@@ -77,10 +81,10 @@ AreReported old items new =
 
 -- Up to and with the first error item these items came from the state. If none of them is an error, the preprocessor
 -- stands for the state after them, unless memory ran out for the next one. This says nothing of items after an error.
-abbrev pub HaveComeFrom : State → List Item → Option Fault → Preprocessing → Type 0
-HaveComeFrom state items None new =
+abbrev pub HaveComeFrom : Rules → State → List Item → Option Fault → Preprocessing → Type 0
+HaveComeFrom rules state items None new =
     (after : State) × Gives state (tokens_before_error items) after × (is_spent new ≡ false → Stands new after)
-HaveComeFrom state items (Some fault) new = IsRunFrom state (tokens_before_error items) (outcome.Fault fault)
+HaveComeFrom rules state items (Some fault) new = EndsIn rules state (tokens_before_error items) (Some fault)
 
 -- `next` was called for these items, one after another, and nothing else was.
 pub data AreNextItems : Preprocessing → List Item → Preprocessing → Type 0 where
@@ -115,7 +119,7 @@ pub record HaveCome (old : Preprocessing) (items : List Item) (new : Preprocessi
   pub none : is_spent old ≡ true → items ≡ []
   pub came : is_spent old ≡ false
       → (state : State) → Stands old state
-      → HaveComeFrom state items (first_error items) new
+      → HaveComeFrom (rules_of old) state items (first_error items) new
   pub holds : All ItemHoldsOrdinary items
   pub reports : is_spent new ≡ false → AreReported old items new
   pub by_next : AreItemsToRefusal old items new

@@ -24,6 +24,7 @@ pub mod Giving
 pub mod LiveBranch
 pub mod Adding
 pub mod Trying
+pub mod Including
 pub mod Afresh
 pub mod Comes
 pub mod Collecting

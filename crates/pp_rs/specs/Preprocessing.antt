@@ -2,7 +2,9 @@
 use Rattle.std.specs.Prelude.{◌≡◌, ◌<◌, ◌⊎◌, Bool, true, false, List, [], ◌∷◌, Option}
 use Rattle.std.specs.Prelude.{Some, None, Ok, Err, MatchBool, IfSome, ⊤}
 use Rattle.pp_lexer.specs.PreprocessorError.{out_of_memory}
+use Rattle.pp_lexer.specs.declared.rules.Rules.{Rules}
 use Rattle.pp_lexer.specs.declared.token.Location.{Location}
+use Rattle.pp_lexer.specs.declared.token.PreprocessorError.TheVariants.{UnknownDirective}
 use Rattle.pp_model.specs.declared.outcome.Outcome.{Outcome}
 use Rattle.pp_model.specs.declared.outcome.Outcome.TheVariants as outcome
 use Rattle.pp_model.specs.ItemCall.{item_call, text_of}
@@ -11,32 +13,43 @@ use Rattle.pp_macros.specs.Held.{AnswerHoldsOrdinary}
 use Rattle.pp_macros.specs.Item.{Fault, Item, is_out_of_memory}
 use Rattle.pp_macros.specs.LexerErrors.{ErrorAt, PassesErrors}
 use Rattle.pp_rs.specs.Kept.{Preprocessing, Stands, is_spent, most_items, errors_left, error_place}
-use Rattle.pp_rs.specs.Kept.{call_place, item_text, rules_of}
+use Rattle.pp_rs.specs.Kept.{asked_line, call_place, item_text, rules_of}
 
 -- the answer is the error that memory ran out
 abbrev pub is_refusal : Option Item → Bool
 is_refusal (Some (Err fault)) = is_out_of_memory fault.0
 is_refusal _ = false
 
--- the outcome of an answer
-abbrev pub outcome_of : Option Item → Outcome
-outcome_of (Some (Ok token)) = outcome.Token token
-outcome_of (Some (Err fault)) = outcome.Fault fault
-outcome_of None = outcome.End
+-- the outcome of an answer that asks for the rest of a line, or for none: an error that asks is an `#include` line
+abbrev pub outcome_of : Option Item → Option Location → Outcome
+outcome_of (Some (Ok token)) asked = outcome.Token token
+outcome_of (Some (Err fault)) (Some rest) = outcome.Include (record { word = fault.1; rest = rest })
+outcome_of (Some (Err fault)) None = outcome.Fault fault
+outcome_of None asked = outcome.End
 
--- the preprocessor stands for this state; after an error this says nothing
-abbrev pub GoesOn : Option Item → Preprocessing → State → Type 0
-GoesOn (Some (Err fault)) new state = ⊤
-GoesOn _ new state = Stands new state
+-- the answer is the error of a directive that isn't known
+abbrev pub is_unknown_directive : Option Item → Bool
+is_unknown_directive (Some (Err (UnknownDirective, place))) = true
+is_unknown_directive _ = false
+
+-- only the error of an unknown directive asks for a text, and only if the rules say so
+abbrev pub Asks : Rules → Option Item → Option Location → Type 0
+Asks rules answer (Some rest) = (rules.asks_includes ≡ true) × (is_unknown_directive answer ≡ true)
+Asks rules answer None = ⊤
+
+-- the preprocessor stands for this state; after an error that asks for no text this says nothing
+abbrev pub GoesOn : Option Item → Option Location → Preprocessing → State → Type 0
+GoesOn (Some (Err fault)) None new state = ⊤
+GoesOn _ _ new state = Stands new state
 
 -- the answer is what comes next in this state, its text and the call from which it comes are kept, and the preprocessor
 -- stands for the state after it
 pub record Emitted (answer : Option Item) (state : State) (new : Preprocessing) : Type 0 where
   pub after : State
-  pub emits : Comes state (outcome_of answer) after
+  pub emits : Comes state (outcome_of answer (asked_line new)) after
   pub text : IfSome (text_of emits.taken) (λ text. item_text new ≡ text)
   pub call : call_place new ≡ item_call emits.emits
-  pub goes_on : GoesOn answer new after
+  pub goes_on : GoesOn answer (asked_line new) new after
 
 -- the bound of the items to come falls with each item, and is 0 after the end
 abbrev pub IsLessLeft : Option Item → Preprocessing → Preprocessing → Type 0
@@ -74,6 +87,7 @@ pub record IsRefusedItem (answer : Option Item) (new : Preprocessing) : Type 0 w
 pub record IsGivenItem (old : Preprocessing) (answer : Option Item) (new : Preprocessing) : Type 0 where
   pub item : (state : State) → Stands old state → Emitted answer state new
   pub no_refusal : is_refusal answer ≡ false
+  pub asks : Asks (rules_of old) answer (asked_line new)
   pub holds : AnswerHoldsOrdinary answer
   pub reports : ReportsError answer old new
   pub spent : is_spent new ≡ false

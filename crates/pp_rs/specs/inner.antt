@@ -1,5 +1,6 @@
 -- Definitions that only say how far a function's body has got: none of them has to be believed.
 pub mod Stands
+pub mod AllTexts
 pub mod ItemValues
 pub mod Answering
 pub mod SourceTurns

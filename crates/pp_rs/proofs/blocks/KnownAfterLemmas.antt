@@ -1,6 +1,6 @@
 -- What is known of the blocks that a reader has met stays known after an item, and after the line of a directive.
 use Rattle.std.proofs.Common.{◌≡◌, ◌∙◌, ℕ, ◌+◌, ◌-◌, Bool, true, false, ◌||◌, not, List, [], ◌∷◌, ◌++◌, length, take, drop, refl, ap, subst, Option, Some, None, arith}
-use Rattle.std.specs.List.{cons_option}
+use Rattle.std.specs.List.{AllByRecursion as Each, cons_option}
 use Rattle.pp_lexer.specs.Lexed.{Seen}
 use Rattle.pp_lexer.specs.declared.token.Location.{Location}
 use Rattle.pp_model.specs.Places.{Fault}
@@ -9,7 +9,7 @@ use Rattle.pp_model.specs.Moves.{error_length}
 use Rattle.pp_model.specs.Sights.{sight_of}
 use Rattle.pp_model.specs.Blocks.{part_of, line_at, block_lines, Block, blocks_at, is_live, are_surroundings_live, has_taken_branch, has_else}
 use Rattle.pp_model.specs.inner.Blocks.{line_with}
-use Rattle.pp_model.specs.SourceReader.{SourceReader}
+use Rattle.pp_model.specs.SourceReader.{Suspended, SourceReader}
 use Rattle.pp_model.specs.Acts.{advanced_by}
 use Rattle.pp_model.specs.inner.Acts.{after_word, after_line, after_condition, block_here}
 use Rattle.pp_model.specs.declared.block.Part.{Part}
@@ -33,6 +33,10 @@ use Rattle.pp_rs.proofs.source.SkippedLemmas.{bare_quiet, quiet_after_word}
 -- it is known at this reader
 abbrev pub HasRead : SourceReader → Type 0
 HasRead r = BranchesRead r.items r.position r.truths
+
+-- it is known of each text around
+abbrev pub HasReadAround : List Suspended → Type 0
+HasReadAround around = Each (λ text. BranchesRead text.items text.position text.truths) around
 
 module _ (r : SourceReader) (b : HasRead r) where
   -- one item that adds no line of a block

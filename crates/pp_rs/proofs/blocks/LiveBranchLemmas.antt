@@ -9,18 +9,19 @@ use Rattle.pp_lexer.specs.Lexed.{Seen}
 use Rattle.pp_model.specs.Blocks.{Truths, Block, blocks_at, has_taken_branch}
 use Rattle.pp_model.specs.Calls.{Answers}
 use Rattle.pp_model.specs.Run.{items_by}
-use Rattle.pp_model.specs.SourceReader.{SourceReader, reader_at_start}
+use Rattle.pp_model.specs.SourceReader.{SourceReader}
 use Rattle.pp_model.proofs.BlockLemmas.{one_branch}
 use Rattle.pp_rs.specs.LiveBranch.{AtMostOneIsChosen, HasLiveBranches, RunHasLiveBranches}
 use Rattle.pp_rs.proofs.blocks.BlockPositionLemmas.{each_weaker, each_after}
-use Rattle.pp_rs.proofs.blocks.BranchActsLemmas.{step_keeps_branches}
+use Rattle.pp_rs.proofs.blocks.BranchActsLemmas.{HasReadAll, step_keeps_branches}
 use Rattle.pp_rs.proofs.blocks.BranchedLemmas.{IsBranched}
+use Rattle.pp_rs.proofs.blocks.BranchesReadLemmas.{BranchesRead}
 use Rattle.pp_rs.proofs.blocks.KnownAfterLemmas.{HasRead}
 use Rattle.pp_rs.proofs.blocks.LastLemmas.{last_split}
 use Rattle.pp_directives.proofs.EndedLemmas.{start_ended}
 use Rattle.pp_directives.proofs.LinedLemmas.{items_lined}
 use Rattle.pp_rs.proofs.blocks.LinesBeforeLemmas.{no_lines_before}
-use Rattle.pp_rs.proofs.source.ReaderInvariantLemmas.{reached_keeps}
+use Rattle.pp_rs.proofs.source.ReaderInvariantLemmas.{IsKept, reached_keeps}
 
 at_most_one : (source : List Seen) (truths : Truths) (block : Block) → IsBranched source truths block → AtMostOneIsChosen truths block
 at_most_one source truths block b mark other one two = one_branch truths block mark other b.else_last one.stands two.stands one.chosen two.chosen
@@ -39,7 +40,8 @@ live_branches r known = record {
       );
 }
 
-known_at_start : (rules : Rules) (text : List ℕ) → HasRead (reader_at_start rules (items_by rules text))
+-- at the start of a text no block was met
+known_at_start : (rules : Rules) (text : List ℕ) → BranchesRead (items_by rules text) 0 []
 known_at_start rules text = record {
   lined = items_lined rules text;
   ended = start_ended rules (spots_of text);
@@ -52,9 +54,16 @@ known_at_start rules text = record {
     none_open zero within = tt
     none_open (suc place) within = absurd (omega (arith, within))
 
+-- it is kept by each step, by a definition and by a text that is included
+branches_kept : (A : Answers) → IsKept A HasReadAll
+branches_kept A = record {
+  by_step = step_keeps_branches A;
+  by_definition = λ name tokens r known. known;
+  by_text = λ text rules r known. (known_at_start rules text, (known.0, known.1));
+}
+
 module _ (A : Answers) where
   -- in each state of a run of a text
   pub run_has_live_branches : RunHasLiveBranches A
   run_has_live_branches rules text e reached =
-      live_branches e.reader (reached_keeps A HasRead (record { by_step = step_keeps_branches A; by_definition = λ name tokens r known. known })
-      rules (items_by rules text) e reached (known_at_start rules text))
+      live_branches e.reader (reached_keeps A HasReadAll (branches_kept A) rules (items_by rules text) e reached (known_at_start rules text, tt)).0

@@ -1,5 +1,5 @@
 -- What adding a definition does to a preprocessor.
-use Rattle.std.proofs.Common.{◌≡◌, ◌∙◌, ℕ, ◌+◌, Bool, true, false, if◌then◌else◌, List, [], ◌∷◌, length, Option, Some, Ok, Err, IsSome, refl, ap, sym, subst}
+use Rattle.std.proofs.Common.{◌≡◌, ◌∙◌, ℕ, ◌+◌, Bool, true, false, if◌then◌else◌, List, [], ◌∷◌, Option, Some, Ok, Err, IsSome, refl, ap, sym, subst}
 use Rattle.std.specs.Str.{chars}
 use Rattle.pp_lexer.specs.PreprocessorError.{out_of_memory}
 use Rattle.pp_lexer.specs.Rules.{pp_rs}
@@ -15,7 +15,7 @@ use Rattle.pp_model.specs.SourceReader.{SourceReader}
 use Rattle.pp_model.specs.Emitting.{expansion_limit}
 use Rattle.pp_rs.specs.Adding.{IsAdded, refused, faulty, added}
 use Rattle.pp_macros.specs.inner.Defined.{Defined, IsChanged, meaning_of, names_in}
-use Rattle.pp_rs.specs.inner.Fit.{EndIsLast, IsFit, IsReported}
+use Rattle.pp_rs.specs.inner.Fit.{EndIsLast, IsFit, IsReported, HoldsAsking}
 use Rattle.pp_macros.specs.inner.Frames.{Frame, names_of}
 use Rattle.pp_macros.specs.Item.{Fault, PlacedStep}
 use Rattle.pp_rs.specs.Kept.{Preprocessing, Stands, is_spent, most_items, errors_left, error_place, call_place, item_text, rules_of}
@@ -23,9 +23,11 @@ use Rattle.pp_macros.specs.inner.Left.{AreDefinedAbove, work_of}
 use Rattle.pp_macros.specs.inner.Expander as kept
 use Rattle.pp_macros.specs.inner.Reader.{of_source}
 use Rattle.pp_directives.specs.inner.SettingContent.{IsSetIn}
-use Rattle.pp_macros.specs.inner.Source.{Source, unreported_of}
+use Rattle.pp_macros.specs.inner.Source.{Source}
+use Rattle.pp_macros.specs.inner.Work.{most_reads}
+use Rattle.pp_rs.specs.inner.AllTexts.{all_unreported}
 use Rattle.pp_macros.specs.inner.Unreported.{unreported_with}
-use Rattle.pp_rs.specs.inner.Stands.{StandsForReader, StandsForHeld, StandsFor}
+use Rattle.pp_rs.specs.inner.Stands.{StandsForReader, StandsForHeld, StandsFor, IsAsDeep}
 use Rattle.pp_macros.specs.declared.step.PlacedExit.TheVariants.{Error, Continue, Finished}
 use Rattle.pp_macros.proofs.open_frames.OpenSoundLemmas.{numbers_more}
 use Rattle.pp_rs.proofs.source.StandsAfterLemmas.{stands_with}
@@ -43,13 +45,17 @@ module _ (name : Name) (tokens : List Token) (old new : Source) (h : IsSetIn nam
       stands_with old r s definitions (with_change r.definitions name (Some (object_like (r.contents + 1) tokens))) (old.contents + 1) (r.contents + 1)
       old.line_offset r.line_offset
       (rw s.contents (ap (λ (m : Definitions). with_change m name (Some (object_like (old.contents + 1) tokens))) s.definitions ∙ sym c.meaning))
-      (ap (λ (n : ℕ). n + 1) s.contents) s.line_offset
+      (ap (λ (n : ℕ). n + 1) s.contents) s.here.line_offset
+
+  added_reader : (r : SourceReader) → StandsForReader old r → StandsForReader new (after_addition name tokens r)
+  added_reader r s = subst (λ (source : Source). StandsForReader source (after_addition name tokens r)) (sym h.others)
+      (reader_added new.definitions h.definitions r s)
 
   held_added : (o : Option (PlacedStep Read)) (r : SourceReader) → StandsForHeld o old r → StandsForHeld o new (after_addition name tokens r)
-  held_added (Some (Err (Error fault))) r s = tt
+  held_added (Some (Err (Error fault))) r s =
+      (λ asks. added_reader r (s.0 asks), subst (λ (source : Source). IsAsDeep source (after_addition name tokens r)) (sym h.others) s.1)
   held_added (Some (Err Continue)) r s = s
-  held_added _ r s = subst (λ (source : Source). StandsForReader source (after_addition name tokens r)) (sym h.others)
-      (reader_added new.definitions h.definitions r s)
+  held_added _ r s = added_reader r s
 
   -- each state is now one in which the definition was added
   pub stands_added : (m : kept.Expander) (e : Expander SourceReader) → StandsFor m old e → StandsFor m new (with_added name tokens e)
@@ -89,6 +95,7 @@ module _ (name : Name) (tokens : List Token) (old new : Source) (h : IsSetIn nam
       numbers = numbers_more (names_in old.definitions) (names_in new.definitions) m.frames h.definitions.kept fit.sound.numbers;
     };
     last = last_added m.held m.frames fit.last;
+    asks = subst (λ (source : Source). HoldsAsking source.rules m.held) (sym h.others) fit.asks;
   }
 
   pub reported_added : (rules : Rules) (m : kept.Expander) → IsReported rules m old → IsReported rules m new
@@ -98,7 +105,7 @@ module _ (name : Name) (tokens : List Token) (old new : Source) (h : IsSetIn nam
   pub none_left_added : (m : kept.Expander) (spent : Bool) → (if spent then 0 else work_of expansion_limit m (of_source old)) ≡ 0
       → (if spent then 0 else work_of expansion_limit m (of_source new)) ≡ 0
   none_left_added m true e = refl
-  none_left_added m false e = no_more_work expansion_limit m old new (ap (λ (s : Source). length s.rest + length s.blocks) h.others) e
+  none_left_added m false e = no_more_work expansion_limit m old new (ap most_reads h.others) e
 
 -- what a call answers, by what was made of the source
 module _ (old : Preprocessing) (name content : List ℕ) (new : Source) where
@@ -109,7 +116,7 @@ module _ (old : Preprocessing) (name content : List ℕ) (new : Source) where
     stands = λ state stands. stands_added (chars name) tokens old.source new h old.expander state stands;
     spent = refl;
     ended = λ none. none_left_added (chars name) tokens old.source new h old.expander old.spent none;
-    errors = ap (λ (s : Source). unreported_with old.expander.held (unreported_of s)) h.others;
+    errors = ap (λ (s : Source). unreported_with old.expander.held (all_unreported s)) h.others;
     place = refl;
     text = refl;
     call = refl;

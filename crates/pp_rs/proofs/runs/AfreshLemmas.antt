@@ -1,5 +1,6 @@
 -- What follows for a text if it is known that it gives these tokens.
-use Rattle.std.proofs.Common.{ℕ, All, ◌≡◌, ◌∙◌, List, [], ◌∷◌, ◌++◌, append-nil, map, refl, ap, sym, subst, Option, Some, None, Ok, false, IsTrue}
+use Rattle.std.proofs.Common.{ℕ, All, ◌≡◌, ◌∙◌, List, [], ◌∷◌, ◌++◌, append-nil, map, refl, ap, sym, subst, Option, Some, None, Ok, Err, false, IsTrue}
+use Rattle.std.specs.Prelude.{option_map}
 use Rattle.std.specs.Str.{IsUtf8, encode_utf8_all, chars}
 use Rattle.std.proofs.lemmas.Str.{encodes-chars}
 use Rattle.pp_lexer.specs.Spelling.{values_of}
@@ -13,9 +14,12 @@ use Rattle.pp_model.specs.declared.outcome.Outcome.TheVariants as outcome
 use Rattle.pp_model.proofs.RespellLemmas.{runs_read_afresh}
 use Rattle.pp_macros.specs.Item.{Fault, Item}
 use Rattle.pp_rs.specs.Afresh.{IsOutput, AreReadAfresh, text_of}
-use Rattle.pp_rs.specs.Collecting.{tokens_before_error, first_error, error_or_end, AreItemsFrom, AreItemsOf}
+use Rattle.pp_lexer.specs.declared.token.Location.{Location}
+use Rattle.pp_lexer.specs.declared.rules.Rules.{Rules}
+use Rattle.pp_rs.specs.Preprocessing.{outcome_of}
+use Rattle.pp_rs.specs.Collecting.{tokens_before_error, first_error, AreItemsFrom, AreItemsOf}
 use Rattle.pp_rs.specs.Comes.{State, Comes, Gives, nothing, first}
-use Rattle.pp_rs.specs.Kept.{Preprocessing, Stands, is_spent}
+use Rattle.pp_rs.specs.Kept.{Preprocessing, Stands, is_spent, rules_of}
 use Rattle.pp_rs.proofs.runs.ComesLemmas.{one_comes}
 use Rattle.pp_rs.proofs.runs.ItemValuesLemmas.{HaveValues, values_are, tokens_are}
 
@@ -63,17 +67,30 @@ record IsWhole (all : List Token) (items : List Item) : Type 0 where
   tokens : all ≡ tokens_before_error items
   ends : first_error items ≡ None
 
-whole_at : (rest : List Token) (error : Option Fault) (f g : State) → RunsThrough f rest → Comes f (error_or_end error) g
-    → (rest ≡ []) × (error ≡ None)
-whole_at [] None f g run comes = (refl, refl)
-whole_at [] (Some fault) f g run comes = let end = end_comes f run in absurd (let bad = (one_comes _ _ f end.0 g end.1 comes).0 in cc)
-whole_at (t ∷ rest) None f g run comes = let h = token_comes f t rest run in absurd (let bad = (one_comes _ _ f h.after g h.comes comes).0 in cc)
-whole_at (t ∷ rest) (Some fault) f g run comes = let h = token_comes f t rest run in absurd (let bad = (one_comes _ _ f h.after g h.comes comes).0 in cc)
+-- an error is no token, and not the end
+no_end : (fault : Fault) (asked : Option Location) → outcome.End ≡ outcome_of (Some (Err fault)) asked → ⊥
+no_end fault (Some rest) e = cc
+no_end fault None e = cc
 
-items_are_whole : (all : List Token) (items : List Item) (e : State) → RunsThrough e all → AreItemsFrom e items → IsWhole all items
+no_token : (token : Token) (fault : Fault) (asked : Option Location) → outcome.Token token ≡ outcome_of (Some (Err fault)) asked → ⊥
+no_token token fault (Some rest) e = cc
+no_token token fault None e = cc
+
+whole_at : (rest : List Token) (error : Option Fault) (asked : Option Location) (f g : State) → RunsThrough f rest
+    → Comes f (outcome_of (option_map Err error) asked) g → (rest ≡ []) × (error ≡ None)
+whole_at [] None asked f g run comes = (refl, refl)
+whole_at [] (Some fault) asked f g run comes = let end = end_comes f run in absurd (no_end fault asked (one_comes _ _ f end.0 g end.1 comes).0)
+whole_at (t ∷ rest) None asked f g run comes =
+    let h = token_comes f t rest run in
+    absurd (let bad = (one_comes _ _ f h.after g h.comes comes).0 in cc)
+whole_at (t ∷ rest) (Some fault) asked f g run comes =
+    let h = token_comes f t rest run in
+    absurd (no_token t fault asked (one_comes _ _ f h.after g h.comes comes).0)
+
+items_are_whole : (all : List Token) (items : List Item) (e : State) → RunsThrough e all → AreItemsFrom pp_rs e items → IsWhole all items
 items_are_whole all items e run from =
-    let left = left_of all (tokens_before_error items) e from.before from.gives run in
-    let end = whole_at left.rest (first_error items) from.before from.after left.run from.ends in
+    let left = left_of all (tokens_before_error items) e from.2.before from.2.gives run in
+    let end = whole_at left.rest (first_error items) from.0 from.2.before from.2.after left.run from.2.ends in
     record { tokens = left.is ∙ ap (λ ts. tokens_before_error items ++ ts) end.0 ∙ append-nil _; ends = end.1 }
 
 -- tokens that come one after another, and then the end, are a run
@@ -90,25 +107,25 @@ bytes_are bytes characters u e = sym (encodes-chars bytes u) ∙ ap encode_utf8_
 
 -- these items come from the start of a text
 abbrev pub AreItemsOfText : List ℕ → List Item → Type 0
-AreItemsOfText text items = AreItemsFrom (start (items_of text)) items
+AreItemsOfText text items = AreItemsFrom pp_rs (start (items_of text)) items
 
 -- they do where a preprocessor that stands for its start gives them
-pub text_gives : (pp : Preprocessing) (items : List Item) (text : List ℕ) → is_spent pp ≡ false → Stands pp (start (items_of text))
-    → AreItemsOf pp items → AreItemsOfText text items
-text_gives pp items text unspent stands all =
-    let from : (state : State) → Stands pp state → AreItemsFrom state items = rw unspent at all in
-    from _ stands
+pub text_gives : (pp : Preprocessing) (items : List Item) (text : List ℕ) → is_spent pp ≡ false → rules_of pp ≡ pp_rs
+    → Stands pp (start (items_of text)) → AreItemsOf pp items → AreItemsOfText text items
+text_gives pp items text unspent usual stands all =
+    let from : (state : State) → Stands pp state → AreItemsFrom (rules_of pp) state items = rw unspent at all in
+    subst (λ (rules : Rules). AreItemsFrom rules (start (items_of text)) items) usual (from _ stands)
 
 -- Where the items of the tokens' text have the tokens' values, the tokens are read afresh.
 pub read_afresh : (tokens : List Token) (items : List Item) → AreItemsOfText (text_of tokens) items → HaveValues items (values_of tokens)
     → AreReadAfresh tokens
 read_afresh tokens items from same =
     let these = tokens_are items (values_of tokens) same in
-    let ends = subst (λ error. Comes from.before (error_or_end error) from.after) these.ends from.ends in
+    let ends = subst (λ error. Comes from.2.before (outcome_of (option_map Err error) from.0) from.2.after) these.ends from.2.ends in
     record {
       tokens = tokens_before_error items;
       same = these.are;
-      run = run_of (tokens_before_error items) _ from.before from.after from.gives ends;
+      run = run_of (tokens_before_error items) _ from.2.before from.2.after from.2.gives ends;
     }
 
 abbrev AreOrdinary : List Token → Type 0

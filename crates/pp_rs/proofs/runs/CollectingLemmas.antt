@@ -3,13 +3,13 @@ use Rattle.std.proofs.Common.{◌≡◌, ◌∙◌, ◌⊎◌, append_assoc, inl
 use Rattle.std.specs.Prelude.{Ok, Err, MatchBool}
 use Rattle.std.proofs.lemmas.List.{append-nil}
 use Rattle.std.proofs.lemmas.List.Elements.{All-nil, All-push}
-use Rattle.pp_rs.specs.Collecting.{tokens_before_error, first_error, error_or_end, AreItemsFrom, AreItemsOf, Reports, AreReported, HaveComeFrom, HaveCome, AreAll, AreAppended, AreAllAppended}
+use Rattle.pp_rs.specs.Collecting.{tokens_before_error, first_error, EndsIn, AreItemsFrom, AreItemsOf, Reports, AreReported, HaveComeFrom, HaveCome, AreAll, AreAppended, AreAllAppended}
 use Rattle.pp_rs.specs.Collecting.{AreNextItems, nothing, one_more, AreItemsToEnd, of_list, of_item, IsDrained}
-use Rattle.pp_rs.specs.Comes.{State, IsRunFrom}
+use Rattle.pp_rs.specs.Comes.{State}
 use Rattle.pp_macros.specs.Held.{ItemHoldsOrdinary}
 use Rattle.pp_macros.specs.Item.{Fault, Item}
-use Rattle.pp_rs.specs.Kept.{Preprocessing, Stands, is_spent, errors_left, error_place, rules_of}
-use Rattle.pp_rs.specs.Preprocessing.{is_refusal, ReportsAnswer, ReportsError, IsRefusedItem, IsGivenItem, IsNextItem}
+use Rattle.pp_rs.specs.Kept.{Preprocessing, Stands, is_spent, errors_left, error_place, asked_line, rules_of}
+use Rattle.pp_rs.specs.Preprocessing.{Asks, is_refusal, ReportsAnswer, ReportsError, IsRefusedItem, IsGivenItem, IsNextItem}
 use Rattle.pp_rs.specs.Preprocessing as error
 use Rattle.pp_rs.specs.Collecting as report
 use Rattle.pp_macros.specs.LexerErrors.{ErrorAt}
@@ -31,13 +31,13 @@ after_no_error [] more e = (refl, refl)
 after_no_error (Ok token ∷ items) more e = let h = after_no_error items more e in (h.0, ap (λ ts. token ∷ ts) h.1)
 after_no_error (Err first ∷ items) more e = cc
 
-module _ (state : State) (items : List Item) (now new : Preprocessing) where
+module _ (rules : Rules) (state : State) (items : List Item) (now new : Preprocessing) (same : rules_of now ≡ rules) where
   -- one item more
-  item_more : (item : Item) (error : Option Fault) → is_spent now ≡ false → first_error items ≡ error → HaveComeFrom state items error now
-      → IsGivenItem now (Some item) new → HaveComeFrom state (items ++ item ∷ []) (first_error (items ++ item ∷ [])) new
+  item_more : (item : Item) (error : Option Fault) → is_spent now ≡ false → first_error items ≡ error → HaveComeFrom rules state items error now
+      → IsGivenItem now (Some item) new → HaveComeFrom rules state (items ++ item ∷ []) (first_error (items ++ item ∷ [])) new
   item_more item (Some fault) ready e h given =
-      let same = error_stays items (item ∷ []) fault e in
-      rw (same.0, same.1) h
+      let stays = error_stays items (item ∷ []) fault e in
+      rw (stays.0, stays.1) h
   item_more (Ok token) None ready e h given =
       let next = given.item h.0 (h.2 ready) in
       let all = after_no_error items (Ok token ∷ []) e in
@@ -49,20 +49,24 @@ module _ (state : State) (items : List Item) (now new : Preprocessing) where
   item_more (Err fault) None ready e h given =
       let next = given.item h.0 (h.2 ready) in
       let all = after_no_error items (Err fault ∷ []) e in
-      rw (all.0, all.1, append-nil) (record { before = h.0; gives = h.1; after = next.after; ends = next.emits })
+      rw (all.0, all.1, append-nil) (
+        asked_line new,
+        subst (λ (rs : Rules). Asks rs (Some (Err fault)) (asked_line new)) same given.asks,
+        record { before = h.0; gives = h.1; after = next.after; ends = next.emits },
+      )
 
   -- memory for the next one was refused
-  item_refused : (error : Option Fault) → is_spent new ≡ true → HaveComeFrom state items error now → HaveComeFrom state items error new
+  item_refused : (error : Option Fault) → is_spent new ≡ true → HaveComeFrom rules state items error now → HaveComeFrom rules state items error new
   item_refused (Some fault) spent h = h
   item_refused None spent h = (h.0, h.1, λ unspent. let bad : true ≡ false = sym spent ∙ unspent in cc)
 
   -- after the last one
-  items_end : (error : Option Fault) → is_spent now ≡ false → first_error items ≡ error → HaveComeFrom state items error now
-      → IsGivenItem now None new → IsRunFrom state (tokens_before_error items) (error_or_end error)
+  items_end : (error : Option Fault) → is_spent now ≡ false → first_error items ≡ error → HaveComeFrom rules state items error now
+      → IsGivenItem now None new → EndsIn rules state (tokens_before_error items) error
   items_end (Some fault) ready e h given = h
   items_end None ready e h given =
       let next = given.item h.0 (h.2 ready) in
-      record { before = h.0; gives = h.1; after = next.after; ends = next.emits }
+      (None, tt, record { before = h.0; gives = h.1; after = next.after; ends = next.emits })
 
 -- what items report, and then what others do
 reports_then : (passes : Bool) (items others : List Item) (left after more : List ErrorAt) (place there last : Location)
@@ -153,7 +157,7 @@ module _ (now new : Preprocessing) (item : Item) (next : IsNextItem now (Some it
         spent = unspent;
         come = record {
           none = λ spent. let bad : true ≡ false = sym spent ∙ fresh in cc;
-          came = λ start state stands. rw e (item_more state items now new item (first_error items) ready.0 refl (g.come.came start state stands) given);
+          came = λ start state stands. rw e (item_more (rules_of old) state items now new g.rules item (first_error items) ready.0 refl (g.come.came start state stands) given);
           holds = rw e (All-push ItemHoldsOrdinary items item g.come.holds given.holds);
           reports = λ unspent. all;
           by_next = of_list chain unspent;
@@ -175,7 +179,7 @@ module _ (now new : Preprocessing) (item : Item) (next : IsNextItem now (Some it
       let spent : is_spent new ≡ true = refused.spent in
       record {
         none = g.come.none;
-        came = λ start state stands. item_refused state items now new (first_error items) spent (g.come.came start state stands);
+        came = λ start state stands. item_refused (rules_of old) state items now new g.rules (first_error items) spent (g.come.came start state stands);
         holds = g.come.holds;
         reports = λ unspent. let bad : true ≡ false = sym spent ∙ unspent in cc;
         by_next = of_item now g.by_next ready.0 (subst (λ answer. IsNextItem now answer new) refused.item next);
@@ -193,10 +197,10 @@ module _ (old : Preprocessing) (items : List Item) (now new : Preprocessing) (g 
   ends_by false e (inl refused) = let bad = refused.item in cc
   ends_by false e (inr given) = ended e given
 
-  items_by : (spent : Bool) → is_spent old ≡ spent → Ends → MatchBool spent (items ≡ []) ((state : State) → Stands old state → AreItemsFrom state items)
+  items_by : (spent : Bool) → is_spent old ≡ spent → Ends → MatchBool spent (items ≡ []) ((state : State) → Stands old state → AreItemsFrom (rules_of old) state items)
   items_by true e h = g.come.none e
   items_by false e (spent_before spent same) = let bad : true ≡ false = sym spent ∙ g.spent ∙ e in cc
-  items_by false e (ended ready given) = λ state stands. items_end state items now new (first_error items) ready refl (g.come.came e state stands) given
+  items_by false e (ended ready given) = λ state stands. items_end (rules_of old) state items now new g.rules (first_error items) ready refl (g.come.came e state stands) given
 
   to_end : AreItemsToEnd old items new
   to_end = record { last = now; given = g.by_next; ended = next }

@@ -54,7 +54,7 @@ module _ {S : Type 0} (takes : S → TokenRef → S → Type 0) where
       token_unspent now new (token_of token) (given_unspent old before now between given fresh) next
 
   -- tokens that are given keep the rules
-  given_rules : (old : Preprocessing) (before : S) (new : Preprocessing) (after : S) → AreGiven takes old before new after → rules_of new ≡ rules_of old
+  pub given_rules : (old : Preprocessing) (before : S) (new : Preprocessing) (after : S) → AreGiven takes old before new after → rules_of new ≡ rules_of old
   given_rules old before new after (nothing p sink e f) = ap rules_of e
   given_rules old before new after (one_more token now p between sink given next line taken) = next.rules ∙ given_rules old before now between given
 

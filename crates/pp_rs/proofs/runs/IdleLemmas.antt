@@ -18,7 +18,7 @@ use Rattle.pp_macros.specs.inner.Idle.{IsHeld, HoldsWord}
 use Rattle.pp_macros.specs.Item.{PlacedStep}
 use Rattle.pp_macros.specs.inner.Expander.{Expander, step_of_outcome, taken_as, StepsFetching, StepsTaking, held, moved}
 use Rattle.pp_macros.specs.inner.Plain.{gives_itself}
-use Rattle.pp_macros.specs.inner.Reader.{Reader, of_source}
+use Rattle.pp_macros.specs.inner.Reader.{Reader, of_source, ReadsSource}
 use Rattle.pp_macros.specs.inner.Reading.{painted_step}
 use Rattle.pp_macros.specs.inner.Source.{Source}
 use Rattle.pp_rs.specs.inner.SourceTurns.{StepsOver}
@@ -29,7 +29,6 @@ use Rattle.pp_macros.specs.declared.step.PlacedExit.{PlacedExit}
 use Rattle.pp_macros.specs.declared.step.PlacedExit.TheVariants.{Continue}
 use Rattle.pp_macros.proofs.taking.PlainLemmas.{itself_apart}
 use Rattle.pp_macros.proofs.taking.ExpanderLemmas.{idle, fetches_step}
-use Rattle.pp_rs.proofs.source.UnpaintedLemmas.{StepsReporting, reads_step}
 
 unopened : (name : Name) (o : Option Definition) → is_none o ≡ true → opened_by name o ≡ None
 unopened name None e = refl
@@ -77,15 +76,15 @@ module _ (levels : ℕ) (r s : Source) where
   takes_first step fetches = record { first = step; fetches = fetches; paints = sym (painted_nothing step) }
 
   -- a step as which the word is taken
-  shown : (word : Token) (step : PlacedStep Read) → StepsReporting r (Ok word) s → step ≡ taken_as (Ok (read_in r.text word)) [] (of_source s)
+  shown : (word : Token) (step : PlacedStep Read) → ReadsSource r (Ok (read_in r.text word)) s → step ≡ taken_as (Ok (read_in r.text word)) [] (of_source s)
       → StepsTaking idle (of_source r) step idle (of_source s)
-  shown word step reads is = takes_first step (fetches_step idle None None [] [] (Ok (read_in r.text word)) step (of_source r) (of_source s)
-      refl refl refl (refl, reads_step r s (Ok word) reads) is)
+  shown word step comes is = takes_first step (fetches_step idle None None [] [] (Ok (read_in r.text word)) step (of_source r) (of_source s)
+      refl refl refl (refl, comes) is)
 
   -- a token that isn't `__LINE__` is taken as it stands there
-  takes_token : (token : Token) → StepsReporting r (Ok token) s → is_identifier line_name token.value ≡ false
+  takes_token : (token : Token) → ReadsSource r (Ok (read_in r.text token)) s → is_identifier line_name token.value ≡ false
       → StepsTaking idle (of_source r) (Ok (read_in r.text token)) idle (of_source s)
-  takes_token token reads apart = shown token (Ok (read_in r.text token)) reads (rw apart refl)
+  takes_token token comes apart = shown token (Ok (read_in r.text token)) comes (rw apart refl)
 
   exits : (exit : PlacedExit) (step : PlacedStep Read) → StepsTaking idle (of_source r) (Err exit) idle (of_source s) → step ≡ Err exit
       → StepsOver levels idle r step idle s
@@ -94,49 +93,49 @@ module _ (levels : ℕ) (r s : Source) where
       inl (record { taken = Err exit; between = idle; turns = turns; follows = (is, refl) })
 
   -- a pause, a fault or the end of the source
-  pub idle_exit : (m : Expander) (exit : PlacedExit) (step : PlacedStep Read) → m ≡ idle → StepsReporting r (Err exit) s
+  pub idle_exit : (m : Expander) (exit : PlacedExit) (step : PlacedStep Read) → m ≡ idle → ReadsSource r (Err exit) s
       → step ≡ Err exit → StepsOver levels m r step m s
-  idle_exit m exit step e reads is =
+  idle_exit m exit step e comes is =
       let fetches = fetches_step idle None None [] [] (Err exit) (Err exit) (of_source r) (of_source s) refl refl refl
-      (refl, reads_step r s (Err exit) reads) refl in
+      (refl, comes) refl in
       rw e (exits exit step (takes_first (Err exit) fetches) is)
 
   -- a token that is given as it stands there
-  pub idle_token : (m : Expander) (token : Token) → m ≡ idle → StepsReporting r (Ok token) s
+  pub idle_token : (m : Expander) (token : Token) → m ≡ idle → ReadsSource r (Ok (read_in r.text token)) s
       → gives_itself s.definitions token.value ≡ true → StepsOver levels m r (Ok (read_in r.text token)) m s
-  idle_token m token e reads itself =
+  idle_token m token e comes itself =
       let read = read_in r.text token in
       let turns = gives read (Ok (taken.Token read)) idle idle (of_source r) (of_source s)
-      (takes_token token reads (itself_apart s.definitions token.value itself)) (opens_none s token.value itself) refl in
+      (takes_token token comes (itself_apart s.definitions token.value itself)) (opens_none s token.value itself) refl in
       rw e (inl (record { taken = Ok (taken.Token read); between = idle; turns = turns; follows = (refl, refl) }))
 
   -- the name of a macro without parentheses, which opens
-  pub idle_opens : (m n : Expander) (token : Token) (opened : Macro) → m ≡ idle → StepsReporting r (Ok token) s
+  pub idle_opens : (m n : Expander) (token : Token) (opened : Macro) → m ≡ idle → ReadsSource r (Ok (read_in r.text token)) s
       → is_identifier line_name token.value ≡ false → Opens (of_source s) (read_in r.text token) opened
       → opened.definition.function_like ≡ false → n ≡ record m { frames = new_frame opened (bare_call r.text token.location) [] ∷ m.frames }
       → StepsOver levels m r (Err Continue) n s
-  idle_opens m n token opened e reads apart opens bare is =
+  idle_opens m n token opened e comes apart opens bare is =
       let after : Expander = record { held = None; frames = new_frame opened (bare_call r.text token.location) [] ∷ [] } in
       let turns = object (read_in r.text token) opened (Err Continue) idle idle after (of_source r) (of_source s)
-      (takes_token token reads apart) opens bare refl refl in
+      (takes_token token comes apart) opens bare refl refl in
       rw (is, e) (inl (record { taken = Err Continue; between = after; turns = turns; follows = (refl, refl) }))
 
   -- `__LINE__` out of range
   pub idle_fault : (m n : Expander) (word : Token) (exit : PlacedExit) (step : PlacedStep Read) → m ≡ idle
-      → StepsReporting r (Ok word) s → HoldsWord r.text word s m (Err exit) n → step ≡ Err exit → StepsOver levels m r step n s
-  idle_fault m n word exit step e reads fault is =
-      rw (fault.2, e) (exits exit step (shown word (Err exit) reads (ap Err fault.0 ∙ ap step_of_outcome (sym fault.1))) is)
+      → ReadsSource r (Ok (read_in r.text word)) s → HoldsWord r.text word s m (Err exit) n → step ≡ Err exit → StepsOver levels m r step n s
+  idle_fault m n word exit step e comes fault is =
+      rw (fault.2, e) (exits exit step (shown word (Err exit) comes (ap Err fault.0 ∙ ap step_of_outcome (sym fault.1))) is)
 
   -- a word that is held goes on to what it goes on to as it is read
   pub idle_word : (m h n : Expander) (t : Source) (word : Token) (step : PlacedStep Read) → m ≡ idle
-      → StepsReporting r (Ok word) s → IsHeld r.text word s m h → StepsOver levels h s step n t → StepsOver levels m r step n t
-  idle_word m h n t word step e reads w steps = rw e (goes (rw (w.holds, e) at steps))
+      → ReadsSource r (Ok (read_in r.text word)) s → IsHeld r.text word s m h → StepsOver levels h s step n t → StepsOver levels m r step n t
+  idle_word m h n t word step e comes w steps = rw e (goes (rw (w.holds, e) at steps))
     where
       kept : Expander
       kept = record { held = Some (Ok w.token); frames = [] }
 
       takes : StepsTaking idle (of_source r) (Ok w.token) idle (of_source s)
-      takes = shown word (Ok w.token) reads (ap step_of_outcome (sym w.taken))
+      takes = shown word (Ok w.token) comes (ap step_of_outcome (sym w.taken))
 
       goes : StepsOver levels kept s step n t → StepsOver levels idle r step n t
       goes (inl x) =

@@ -1,7 +1,7 @@
 -- What a step of a preprocessor means for the runs of the definitions: what they give from the state after the step
 -- they also give from the state before it.
 use Rattle.std.proofs.Common.{◌≡◌, ◌∙◌, sym, Option}
-use Rattle.std.specs.Prelude.{Ok, Err}
+use Rattle.std.specs.Prelude.{Ok, Err, IsSome}
 use Rattle.pp_model.specs.declared.read.Read.{Read}
 use Rattle.pp_model.specs.Reading.{Expander}
 use Rattle.pp_model.specs.Calls.{Answers}
@@ -22,7 +22,7 @@ use Rattle.pp_rs.specs.inner.Stands.{StandsFor}
 use Rattle.pp_macros.specs.declared.step.PlacedExit.TheVariants.{Error, Continue, Finished}
 
 -- What a step of an expander is to the state that it stands for: it gives the next item, or pauses and keeps that. Before
--- the step the outermost macro was called there.
+-- the step the outermost macro was called there. After a fault that asks for a text the expander stands too.
 abbrev pub LeadsFrom : Answers → Expander SourceReader → PlacedStep Read → Option CallPlace → kept.Expander → Source → Type 0
 LeadsFrom A e (Ok read) call expander source = (f : Expander SourceReader) × (emits : Emits source_rules A e (taken.Token read) f)
     × StandsFor expander source f × (kept_call expander.held call expander.frames ≡ item_call emits)
@@ -31,7 +31,7 @@ LeadsFrom A e (Err Finished) call expander source = (f : Expander SourceReader) 
     × StandsFor expander source f × (kept_call expander.held call expander.frames ≡ item_call emits)
 LeadsFrom A e (Err (Error fault)) call expander source =
     (f : Expander SourceReader) × (emits : Emits source_rules A e (taken.Fault (fault_in (outermost_frame_call expander.frames) fault)) f)
-    × (item_call emits ≡ (fault_in (outermost_frame_call expander.frames) fault).1.call)
+    × (item_call emits ≡ (fault_in (outermost_frame_call expander.frames) fault).1.call) × (IsSome fault.1.asks → StandsFor expander source f)
 
 -- the same of each state that the expander and the source stand for; one step, or many that pause before it
 pub record Leads (A : Answers) (expander : kept.Expander) (source : Source) (step : PlacedStep Read) (call : Option CallPlace)
@@ -57,7 +57,7 @@ leads_on A e f (Err Finished) call expander source keeps leads =
     (leads.0, first.0, leads.2, leads.3 ∙ sym first.1)
 leads_on A e f (Err (Error fault)) call expander source keeps leads =
     let first = keeps (taken.Fault (fault_in (outermost_frame_call expander.frames) fault)) leads.0 leads.1 in
-    (leads.0, first.0, first.1 ∙ leads.2)
+    (leads.0, first.0, first.1 ∙ leads.2, leads.3)
 
 -- a pause, and then a step
 pub leads_then : (A : Answers) (expander expander_then expander_last : kept.Expander) (source source_then source_last : Source) (step : PlacedStep Read)

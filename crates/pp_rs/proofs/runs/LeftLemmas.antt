@@ -13,11 +13,11 @@ use Rattle.pp_macros.specs.inner.Left.{work_of, regions, regions_of, most_open, 
 use Rattle.pp_macros.specs.inner.Expander.{Expander, StepsFetching, held, moved, taken_as}
 use Rattle.pp_macros.specs.declared.blocks.OpenBlock.{OpenBlock}
 use Rattle.pp_macros.specs.inner.Reach.{growth, through, total, work_in, frame_steps}
-use Rattle.pp_macros.specs.inner.Reader.{Reader, of_source, of_list, Reads}
-use Rattle.pp_macros.specs.inner.Source.{Source, StepsSource}
+use Rattle.pp_macros.specs.inner.Reader.{Reader, of_source, of_list, Reads, ReadsSource, reads as reads_text, leaves}
+use Rattle.pp_macros.specs.inner.Source.{SuspendedText, Source, StepsSource}
 use Rattle.pp_macros.specs.inner.Reading.{unpainted_step, painted_step}
 use Rattle.pp_macros.specs.inner.Turns.{Moves, masks}
-use Rattle.pp_macros.specs.inner.Work.{is_end, most_reads}
+use Rattle.pp_macros.specs.inner.Work.{is_end, most_reads, reads_around}
 use Rattle.pp_macros.specs.declared.step.PlacedExit.TheVariants.{Finished}
 use Rattle.pp_macros.proofs.open_frames.AdvanceLemmas.{some_steps_left}
 use Rattle.pp_macros.proofs.work.ReachLemmas.{through_up}
@@ -28,53 +28,56 @@ abbrev pub HoldsMore : Option (PlacedStep Read) → Type 0
 HoldsMore None = ⊥
 HoldsMore (Some step) = is_end step ≡ false
 
--- something is held, or a macro is open, or an item is left to read, or an open block to be reported
+-- an item is left to read, or an open block to be reported, or a text around to go back to
+abbrev pub SomethingIn : Source → Type 0
+SomethingIn source = (source.rest ≢ []) ⊎ (source.blocks ≢ []) ⊎ (source.around ≢ [])
+
+-- something is held, or a macro is open, or something is left in the source
 abbrev pub SomethingLeft : Expander → Source → Type 0
-SomethingLeft expander source = HoldsMore expander.held ⊎ (expander.frames ≢ []) ⊎ (source.rest ≢ []) ⊎ (source.blocks ≢ [])
+SomethingLeft expander source = HoldsMore expander.held ⊎ (expander.frames ≢ []) ⊎ SomethingIn source
 
--- a source with nothing left is at its end
-empty_source : (old : Source) (dead : Bool) (new : Source) (step : PlacedStep Token)
+-- a text with nothing left is at its end
+empty_text : (old : Source) (dead : Bool) (new : Source) (step : PlacedStep Token)
     → StepsSource (record old { rest = []; blocks = []; spent = false; dead_for_good = dead }) step new → step ≡ Err Finished
-empty_source old dead new step (inl h) = absurd (h.some_left refl)
-empty_source old true new step (inr h) = h.0
-empty_source old false new step (inr h) = h.0
+empty_text old dead new step (inl h) = absurd (h.some_left refl)
+empty_text old true new step (inr h) = h.0
+empty_text old false new step (inr h) = h.0
 
-read_before : (old : Source) (rest : List Seen) (blocks : List OpenBlock) (s : Reader) (step : PlacedStep Read)
-    → Reads (of_source (record old { rest = rest; blocks = blocks; spent = false })) step s → (step ≡ Err Finished → ⊥)
-    → (rest ≢ []) ⊎ (blocks ≢ [])
-read_before old (x ∷ rest) blocks s step h goes = inl (λ e. cc)
-read_before old [] (block ∷ blocks) s step h goes = inr (λ e. cc)
-read_before old [] [] (of_source new) step h goes =
-    absurd (goes (h.is ∙ ap (unpainted_step old.text) (empty_source old old.dead_for_good new h.given h.steps)))
-read_before old [] [] (of_list new) step h goes = absurd h
+text_before : (old : Source) (rest : List Seen) (blocks : List OpenBlock) (new : Source) (step : PlacedStep Token)
+    → StepsSource (record old { rest = rest; blocks = blocks; spent = false }) step new → (step ≡ Err Finished → ⊥)
+    → (rest ≢ []) ⊎ (blocks ≢ []) ⊎ (old.around ≢ [])
+text_before old (x ∷ rest) blocks new step h goes = inl (λ e. cc)
+text_before old [] (block ∷ blocks) new step h goes = inr (inl (λ e. cc))
+text_before old [] [] new step h goes = absurd (goes (empty_text old old.dead_for_good new step h))
 
-left_in_source : (old : Source) (s : Reader) (step : PlacedStep Read) → old.spent ≡ false → Reads (of_source old) step s → (step ≡ Err Finished → ⊥)
-    → (old.rest ≢ []) ⊎ (old.blocks ≢ [])
-left_in_source old s step unspent h goes =
-    read_before old old.rest old.blocks s step (subst (λ (b : Bool). Reads (of_source (record old { spent = b })) step s) unspent h) goes
+some_around : (outer : SuspendedText) (around texts : List SuspendedText) → texts ≡ outer ∷ around → texts ≢ []
+some_around outer around texts is none = cc
 
-reads_more : (frames : List Frame) (old : Source) → (old.rest ≢ []) ⊎ (old.blocks ≢ []) → (frames ≢ []) ⊎ (old.rest ≢ []) ⊎ (old.blocks ≢ [])
-reads_more frames old (inl h) = inr (inl h)
-reads_more frames old (inr h) = inr (inr h)
+left_in_source : (old new : Source) (step : PlacedStep Read) → old.spent ≡ false → ReadsSource old step new → (step ≡ Err Finished → ⊥)
+    → SomethingIn old
+left_in_source old new step unspent (leaves outer around over is pause at) goes = inr (inr (some_around outer around old.around is))
+left_in_source old new step unspent (reads_text given steps reports ends is) goes =
+    text_before old old.rest old.blocks new given (subst (λ (b : Bool). StepsSource (record old { spent = b }) given new) unspent steps)
+    (λ e. goes (is ∙ ap (unpainted_step old.text) e))
+
+left_in_reader : (old : Source) (s : Reader) (step : PlacedStep Read) → old.spent ≡ false → Reads (of_source old) step s → (step ≡ Err Finished → ⊥)
+    → SomethingIn old
+left_in_reader old (of_source new) step unspent h goes = left_in_source old new step unspent h goes
+left_in_reader old (of_list list) step unspent h goes = absurd h
 
 moved_left : (frames after : List Frame) (old : Source) (s : Reader) (step : PlacedStep Read) → old.spent ≡ false
-    → Moves frames (of_source old) step after s → (step ≡ Err Finished → ⊥) → (frames ≢ []) ⊎ (old.rest ≢ []) ⊎ (old.blocks ≢ [])
+    → Moves frames (of_source old) step after s → (step ≡ Err Finished → ⊥) → (frames ≢ []) ⊎ SomethingIn old
 moved_left (f ∷ fs) after old s step unspent moves goes = inl (λ e. cc)
-moved_left [] after old s step unspent moves goes = reads_more [] old (left_in_source old s step unspent moves.1 goes)
+moved_left [] after old s step unspent moves goes = inr (left_in_reader old s step unspent moves.1 goes)
 
 fetching_left : (m n : Expander) (old : Source) (s : Reader) (step : PlacedStep Read) → old.spent ≡ false → StepsFetching m (of_source old) step n s
     → is_end step ≡ false → SomethingLeft m old
 fetching_left m n old s step unspent (held step1 m1 n1 r1 s1 is at same) goes = inl (subst HoldsMore (sym is) goes)
 fetching_left m n old s step unspent (moved move step1 m1 n1 r1 s1 free moves is none) goes =
-    more (moved_left m.frames n.frames old s move unspent moves (λ e. absurd (ends e)))
+    inr (moved_left m.frames n.frames old s move unspent moves (λ e. absurd (ends e)))
   where
     ends : move ≡ Err Finished → ⊥
     ends e = let bad : is_end step ≡ true = ap is_end (is ∙ ap (λ (x : PlacedStep Read). taken_as x n.frames s) e) in cc
-
-    more : (m.frames ≢ []) ⊎ (old.rest ≢ []) ⊎ (old.blocks ≢ []) → SomethingLeft m old
-    more (inl h) = inr (inl h)
-    more (inr (inl h)) = inr (inr (inl h))
-    more (inr (inr h)) = inr (inr (inr h))
 
 painted_goes : (names : List Name) (first : PlacedStep Read) → is_end (painted_step names first) ≡ is_end first
 painted_goes names (Ok read) = refl
@@ -108,13 +111,20 @@ holding_more (Some step) xs h = go (is_end step) refl
     go true e = rw e h
     go false e = rw e (omega (arith, total_one_more xs))
 
+around_some : (texts : List SuspendedText) → texts ≢ [] → 0 < reads_around texts
+around_some [] left = absurd (left refl)
+around_some (text ∷ texts) left = omega arith
+
+reads_some : (source : Source) → SomethingIn source → 0 < most_reads source
+reads_some source (inl h) = omega (arith, some_there source.rest h)
+reads_some source (inr (inl h)) = omega (arith, some_there source.blocks h)
+reads_some source (inr (inr h)) = omega (arith, around_some source.around h)
+
 regions_some : (m : Expander) (source : Source) → SomethingLeft m source → 0 < total (regions m (of_source source))
 regions_some m source (inl h) = holding_some m.held (regions_of m.frames (most_reads source)) h
 regions_some m source (inr (inl h)) = holding_more m.held (regions_of m.frames (most_reads source)) (frames_some m.frames (most_reads source) (inl h))
-regions_some m source (inr (inr (inl h))) = holding_more m.held (regions_of m.frames (most_reads source)) (frames_some m.frames (most_reads source)
-    (inr (omega (arith, some_there source.rest h))))
-regions_some m source (inr (inr (inr h))) = holding_more m.held (regions_of m.frames (most_reads source)) (frames_some m.frames (most_reads source)
-    (inr (omega (arith, some_there source.blocks h))))
+regions_some m source (inr (inr h)) =
+    holding_more m.held (regions_of m.frames (most_reads source)) (frames_some m.frames (most_reads source) (inr (reads_some source h)))
 
 -- where something is left, there is something to do
 pub left_is_work : (levels : ℕ) (m : Expander) (source : Source) → SomethingLeft m source → 0 < work_of levels m (of_source source)
@@ -125,11 +135,11 @@ left_is_work levels m source left =
     omega (arith, up, regions_some m source left)
 
 -- where nothing is left, there is nothing to do
-pub no_work : (levels : ℕ) (m : Expander) (source : Source) → m.held ≡ None → m.frames ≡ [] → source.rest ≡ [] → source.blocks ≡ []
+pub no_work : (levels : ℕ) (m : Expander) (source : Source) → m.held ≡ None → m.frames ≡ [] → source.rest ≡ [] → source.blocks ≡ [] → source.around ≡ []
     → work_of levels m (of_source source) ≡ 0
-no_work levels m source free closed e f =
+no_work levels m source free closed e f g =
     let r = of_source source in
-    let reads : most_reads source ≡ 0 = omega (arith, ap length e, ap length f) in
+    let reads : most_reads source ≡ 0 = omega (arith, ap length e, ap length f, ap reads_around g) in
     let xs : regions m r ≡ 0 ∷ [] = ap (λ (o : Option (PlacedStep Read)). holding_step o (regions_of m.frames (most_reads source))) free
     ∙ ap (λ (fs : List Frame). regions_of fs (most_reads source)) closed ∙ ap (λ (k : ℕ). k ∷ []) reads in
     ap (work_in (frame_steps (most_bodies r) (most_open r) levels) (most_open r)) xs

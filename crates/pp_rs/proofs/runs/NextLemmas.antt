@@ -1,22 +1,21 @@
 -- What the loop of `next` has reached, and what its result means for the state in which it began.
-use Rattle.std.proofs.Common.{◌≡◌, ◌∙◌, ◌<◌, ◌≤◌, ◌⊎◌, inl, inr, Bool, true, false, if◌then◌else◌, List, [], ◌∷◌, refl, sym, ap, subst, Option, Some, None, arith}
-use Rattle.std.specs.Prelude.{Ok, Err, MatchBool, unwrap_or}
+use Rattle.std.proofs.Common.{ℕ, ◌≡◌, ◌∙◌, ◌<◌, ◌≤◌, ◌⊎◌, inl, inr, Bool, true, false, if◌then◌else◌, List, [], ◌∷◌, refl, sym, ap, subst, Option, Some, None, arith}
+use Rattle.std.specs.Prelude.{Ok, Err, MatchBool, unwrap_or, IsSome}
 use Rattle.pp_lexer.specs.PreprocessorError.{out_of_memory}
 use Rattle.pp_lexer.specs.declared.rules.Rules.{Rules}
 use Rattle.pp_lexer.specs.declared.token.Location.{Location}
+use Rattle.pp_lexer.specs.declared.token.PreprocessorError.{PreprocessorError}
 use Rattle.pp_model.specs.Places.{PlacedFault, fault_in, unplaced}
 use Rattle.pp_model.specs.declared.read.Read.{Read}
 use Rattle.pp_model.specs.Emitting.{Emits, answers_at, expansion_limit}
-use Rattle.pp_model.specs.Painting.{item_of}
+use Rattle.pp_model.specs.Painting.{fault_item, item_of}
 use Rattle.pp_model.specs.declared.read.Taken.{Taken}
 use Rattle.pp_model.specs.declared.read.Taken.TheVariants as taken
-use Rattle.pp_model.specs.declared.outcome.Outcome.TheVariants as outcome
-use Rattle.pp_model.specs.declared.splice.Origin.{Origin}
 use Rattle.pp_model.specs.Reading.{Expander}
 use Rattle.pp_model.specs.SourceReader.{SourceReader}
 use Rattle.pp_model.specs.declared.splice.CallPlace.{CallPlace}
 use Rattle.pp_rs.specs.Comes.{Comes, source_rules}
-use Rattle.pp_rs.specs.inner.Fit.{IsFit, IsReported}
+use Rattle.pp_rs.specs.inner.Fit.{IsFit, IsReported, AsksRightly}
 use Rattle.pp_macros.specs.Held.{HoldsOrdinary}
 use Rattle.pp_macros.specs.Item.{Item, PlacedStep, is_out_of_memory, wants_memory}
 use Rattle.pp_macros.specs.inner.CallTurns.{TakesSomething}
@@ -26,18 +25,20 @@ use Rattle.pp_macros.specs.inner.Expander as kept
 use Rattle.pp_macros.specs.inner.Expander.{kept_call}
 use Rattle.pp_macros.specs.inner.Frames.{outermost_frame_call}
 use Rattle.pp_macros.specs.inner.Reader.{of_source}
-use Rattle.pp_macros.specs.inner.Source.{Source, unreported_of}
+use Rattle.pp_macros.specs.inner.Source.{Source}
+use Rattle.pp_rs.specs.inner.AllTexts.{all_unreported}
 use Rattle.pp_rs.specs.inner.SourceTurns.{TurnsSource, StepsOver}
-use Rattle.pp_rs.specs.inner.Stands.{StandsFor}
-use Rattle.pp_rs.specs.Kept.{Preprocessing, Stands, is_spent, most_items, errors_left, error_place, call_or, call_place, from_text, item_text, rules_of}
-use Rattle.pp_rs.specs.Preprocessing.{IsLessLeft, IsErrorAt, of_lexer, of_its_own, IsRefusedItem, IsGivenItem, IsNextItem}
+use Rattle.pp_rs.specs.inner.Stands.{StandsForReader, StandsForHeld, StandsFor}
+use Rattle.pp_rs.specs.Kept.{LastItem, Preprocessing, Stands, is_spent, most_items, errors_left, error_place, asked_line, call_or, call_place, from_text, last_error, item_text, rules_of}
+use Rattle.pp_rs.specs.Preprocessing.{Asks, GoesOn, outcome_of, is_unknown_directive, IsLessLeft, IsErrorAt, of_lexer, of_its_own, IsRefusedItem, IsGivenItem, IsNextItem}
 use Rattle.pp_macros.specs.inner.Unreported.{with_read}
 use Rattle.pp_macros.specs.declared.step.PlacedExit.TheVariants.{Error, Continue, Finished}
 use Rattle.pp_directives.proofs.PassedErrorsLemmas.{passes_none}
 use Rattle.pp_rs.proofs.runs.CallPlaceLemmas.{free_call}
 use Rattle.pp_rs.proofs.runs.Leads.{LeadsFrom, Leads, leads_then}
 use Rattle.pp_rs.proofs.runs.LeftLemmas.{SomethingLeft, some_left, left_is_work, no_work}
-use Rattle.pp_rs.proofs.runs.UnreportedTurnLemmas.{errors_of, ErrorsLeft, left_then, turn_errors}
+use Rattle.pp_rs.proofs.runs.AsksLemmas.{turn_asks}
+use Rattle.pp_rs.proofs.runs.UnreportedTurnLemmas.{errors_of, ErrorsLeft, left_then, left_rules, turn_errors}
 use Rattle.pp_rs.proofs.runs.SourceTurnLemmas.{turned_source, source_fits, source_lowers, source_ends, source_some, source_turn_leads}
 
 -- what is given next comes next
@@ -49,10 +50,57 @@ unplaced_found : (k : Option CallPlace) (fault : PlacedFault) → unplaced (faul
 unplaced_found (Some call) fault = refl
 unplaced_found None fault = refl
 
--- and so is its text
-text_found : (k : Option CallPlace) (fault : PlacedFault) → (fault_in k fault).1.text ≡ fault.1.text
-text_found (Some call) fault = refl
-text_found None fault = refl
+-- and so is what it asks for
+asks_found : (k : Option CallPlace) (fault : PlacedFault) → (fault_in k fault).1.asks ≡ fault.1.asks
+asks_found (Some call) fault = refl
+asks_found None fault = refl
+
+-- the outcome of an error that asks for this, or for nothing, is its item
+outcome_found : (k : Option CallPlace) (fault : PlacedFault) (asked : Option Location)
+    → outcome_of (Some (Err (unplaced fault))) asked ≡ fault_item (fault_in k fault) asked
+outcome_found (Some call) fault (Some rest) = refl
+outcome_found (Some call) fault None = refl
+outcome_found None fault (Some rest) = refl
+outcome_found None fault None = refl
+
+some_asked : (o : Option Location) (rest : Location) → o ≡ Some rest → IsSome o
+some_asked o rest e = rw e refl
+
+-- a fault that asks rightly is an error item that does
+asks_item : (rules : Rules) (fault : PlacedFault) (asked : Option Location) → asked ≡ fault.1.asks → AsksRightly rules fault
+    → Asks rules (Some (Err (unplaced fault))) asked
+asks_item rules fault None same rightly = tt
+asks_item rules fault (Some rest) same rightly =
+    let h = rightly (some_asked fault.1.asks rest (sym same)) in
+    (h.0, ap (λ (e : PreprocessorError). is_unknown_directive (Some (Err (e, fault.1.location)))) h.1)
+
+-- after an error that asks for a text the preprocessor stands, and of any other error this says nothing
+goes_on_asked : (fault : PlacedFault) (asked : Option Location) (new : Preprocessing) (state : Expander SourceReader) → asked ≡ fault.1.asks
+    → (IsSome fault.1.asks → Stands new state) → GoesOn (Some (Err (unplaced fault))) asked new state
+goes_on_asked fault None new state same stands = tt
+goes_on_asked fault (Some rest) new state same stands = stands (some_asked fault.1.asks rest (sym same))
+
+-- the place of an error that was read says nothing of what stands
+reader_reported : (source : Source) (r : SourceReader) → StandsForReader source r → StandsForReader (record source { error_place = None }) r
+reader_reported source r s = record {
+  rules = s.rules;
+  here = s.here;
+  around = s.around;
+  earlier = s.earlier;
+  definitions = s.definitions;
+  contents = s.contents;
+  unspent = s.unspent;
+}
+
+held_reported : (o : Option (PlacedStep Read)) (source : Source) (r : SourceReader) → StandsForHeld o source r
+    → StandsForHeld o (record source { error_place = None }) r
+held_reported (Some (Err (Error fault))) source r h = (λ asks. reader_reported source r (h.0 asks), h.1)
+held_reported (Some (Err Continue)) source r h = h
+held_reported _ source r h = reader_reported source r h
+
+stands_reported : (m : kept.Expander) (source : Source) (e : Expander SourceReader) → StandsFor m source e
+    → StandsFor m (record source { error_place = None }) e
+stands_reported m source e s = record { held = s.held; list = s.list; reader = held_reported m.held source e.reader s.reader; hidden = s.hidden }
 
 -- a state from which the same comes next as from the first, by these rules
 pub record Reached (rules : Rules) (expander : kept.Expander) (source : Source) (expander_now : kept.Expander) (source_now : Source) : Type 0 where
@@ -77,7 +125,7 @@ reached_first {rules} expander now source source_now e f fit = rw (e, f) (record
 
 module _ {rules : Rules} (expander now after : kept.Expander) (source source_now source_after : Source) (r : Reached rules expander source now source_now) where
   -- what is kept after the turn
-  abbrev pub kept_with : Source → Bool → Location → Origin → Option CallPlace → Preprocessing
+  abbrev pub kept_with : Source → Bool → Location → LastItem → Option CallPlace → Preprocessing
   kept_with source spent place last call =
       record { expander = after; source = source; spent = spent; place = place; last = last; name_call = call; rules = rules }
 
@@ -90,9 +138,6 @@ module _ {rules : Rules} (expander now after : kept.Expander) (source source_now
   falls : (step : PlacedStep Read) → Over step → wants_memory step ≡ false → (step ≡ Err Finished → ⊥)
       → work_of expansion_limit after (of_source source_after) < work_of expansion_limit now (of_source source_now)
   falls step h reported goes = source_lowers expansion_limit now source_now source_after r.fit step after (turned step h reported) reported goes
-
-  fits : (step : PlacedStep Read) → Over step → wants_memory step ≡ false → IsFit after source_after
-  fits step h reported = source_fits expansion_limit now source_now source_after r.fit step after (turned step h reported) reported
 
   -- where a turn isn't the end, something was left at first
   left_now : (step : PlacedStep Read) → Over step → (step ≡ Err Finished → ⊥) → SomethingLeft expander source
@@ -110,6 +155,11 @@ module _ {rules : Rules} (expander now after : kept.Expander) (source source_now
   errors_last step h reported =
       left_then rules step _ _ after source_after r.errors
       (turn_errors rules expansion_limit now after source_now source_after step (turned step h reported) reported r.reported)
+
+  fits : (step : PlacedStep Read) → Over step → wants_memory step ≡ false → IsFit after source_after
+  fits step h reported =
+      source_fits expansion_limit now source_now source_after r.fit step after (turned step h reported) reported
+      (left_rules rules step _ after source_after (errors_last step h reported) ∙ sym r.reported.1)
 
   -- a pause
   pub reached_more : Over (Err Continue) → Reached rules expander source after source_after
@@ -140,7 +190,7 @@ module _ {rules : Rules} (expander now after : kept.Expander) (source source_now
       let fit = fits (Err (Error fault)) h reported in
       let left = errors_last (Err (Error fault)) h reported in
       rw is (
-        record { unspent = fit.unspent; sound = fit.sound; last = rw left.0 tt },
+        record { unspent = fit.unspent; sound = fit.sound; last = rw left.0 tt; asks = fit.asks },
         (rw left.0 refl, left.2),
       )
 
@@ -165,7 +215,7 @@ module _ {rules : Rules} (expander now after : kept.Expander) (source source_now
     }
 
     -- less is left after a token or a fault
-    less_last : (step : PlacedStep Read) (place : Location) (last : Origin) (call : Option CallPlace) → Over step → wants_memory step ≡ false → (step ≡ Err Finished → ⊥)
+    less_last : (step : PlacedStep Read) (place : Location) (last : LastItem) (call : Option CallPlace) → Over step → wants_memory step ≡ false → (step ≡ Err Finished → ⊥)
         → most_items (kept_with source_after false place last call) < most_items old
     unfolding most_items
     less_last step place last call turn reported goes =
@@ -184,20 +234,21 @@ module _ {rules : Rules} (expander now after : kept.Expander) (source source_now
         subst (λ (rs : Rules). PassesErrors rs.passes_dead_errors (errors_left old) left) ruled
         (subst (λ (es : List ErrorAt). PassesErrors rules.passes_dead_errors es left) (sym errors_first) h)
 
-    pub next_token : (read : Read) (spent : Bool) (place : Location) (last : Origin) (call : Option CallPlace) → spent ≡ false → place ≡ old.place
+    pub next_token : (read : Read) (spent : Bool) (place : Location) (last : LastItem) (call : Option CallPlace) → spent ≡ false → place ≡ old.place
         → last ≡ from_text read.text
         → kept_call after.held call after.frames ≡ kept_call after.held (outermost_frame_call now.frames) after.frames → Over (Ok read)
         → HoldsOrdinary read.token.value
         → IsNextItem old (Some (Ok read.token)) (kept_with source_after spent place last call)
-    unfolding Stands is_spent errors_left error_place call_place item_text
+    unfolding Stands is_spent errors_left error_place call_place item_text asked_line
     next_token read true place last call fresh_now same of kept turn holds = cc
     next_token read false place last call fresh_now same of kept turn holds =
         as_next (Some (Ok read.token)) (kept_with source_after false place last call) (inr (record {
           item = λ e stands.
               let leads : LeadsFrom (answers_at expansion_limit) e (Ok read) (outermost_frame_call now.frames) after source_after =
               (leads_last (Ok read) turn refl).from e (stands_first e stands) in
-              record { after = leads.0; emits = comes e leads.0 _ leads.1; text = ap (λ (o : Origin). o.text) of; call = rw of (kept ∙ leads.3); goes_on = leads.2 };
+              record { after = leads.0; emits = comes e leads.0 _ leads.1; text = ap (λ (o : LastItem). o.text) of; call = rw of (kept ∙ leads.3); goes_on = leads.2 };
           no_refusal = refl;
+          asks = rw of tt;
           holds = holds;
           reports = record {
             left = errors_of after source_after;
@@ -217,7 +268,7 @@ module _ {rules : Rules} (expander now after : kept.Expander) (source source_now
         (rw spent (omega (arith, left_is_work expansion_limit expander source left, most_first))) same
 
     -- less is left after a pause
-    pub less_more : (spent : Bool) (place : Location) (last : Origin) (call : Option CallPlace) → spent ≡ false → Over (Err Continue)
+    pub less_more : (spent : Bool) (place : Location) (last : LastItem) (call : Option CallPlace) → spent ≡ false → Over (Err Continue)
         → most_items (record { expander = after; source = source_after; spent = spent; place = place; last = last; name_call = call; rules = rules }) < most_items old
     less_more true place last call fresh_now turn = cc
     less_more false place last call fresh_now turn = less_last (Err Continue) place last call turn refl (λ e. cc)
@@ -226,18 +277,18 @@ module _ {rules : Rules} (expander now after : kept.Expander) (source source_now
     pub some_items : Over (Err Continue) → 0 < most_items old
     some_items turn = omega (arith, falls_more turn, r.less, most_first)
 
-    end_last : (place : Location) (last : Origin) (call : Option CallPlace) → Over (Err Finished)
+    end_last : (place : Location) (last : LastItem) (call : Option CallPlace) → Over (Err Finished)
         → most_items (kept_with source_after false place last call) ≡ 0
     unfolding most_items
     end_last place last call turn =
         let e = source_ends expansion_limit now source_now source_after r.fit after (turned (Err Finished) turn refl) in
-        no_work expansion_limit after source_after e.0 e.1 e.2 e.3
+        no_work expansion_limit after source_after e.0 e.1 e.2 e.3 e.4
 
     -- at the end each error was reported
     none_unreported : Over (Err Finished) → errors_of after source_after ≡ []
     none_unreported turn =
         let e = source_ends expansion_limit now source_now source_after r.fit after (turned (Err Finished) turn refl) in
-        rw (e.0, e.2) refl
+        rw (e.0, e.2, e.4) refl
 
     -- if nothing is held, no call is kept for it
     pub free_kept_call : (o : Option (PlacedStep Read)) (call : Option CallPlace) → o ≡ None
@@ -247,12 +298,12 @@ module _ {rules : Rules} (expander now after : kept.Expander) (source source_now
     end_free : Over (Err Finished) → after.held ≡ None
     end_free turn = (source_ends expansion_limit now source_now source_after r.fit after (turned (Err Finished) turn refl)).0
 
-    pub next_end : (spent : Bool) (place : Location) (last : Origin) (call : Option CallPlace) → spent ≡ false → place ≡ old.place → last.call ≡ None
+    pub next_end : (spent : Bool) (place : Location) (last : LastItem) (call : Option CallPlace) (text : ℕ) → spent ≡ false → place ≡ old.place → last ≡ from_text text
         → Over (Err Finished)
         → IsNextItem old None (kept_with source_after spent place last call)
-    unfolding Stands is_spent errors_left error_place call_place
-    next_end true place last call fresh_now same none turn = cc
-    next_end false place last call fresh_now same none turn =
+    unfolding Stands is_spent errors_left error_place call_place asked_line
+    next_end true place last call text fresh_now same of turn = cc
+    next_end false place last call text fresh_now same of turn =
         as_next None (kept_with source_after false place last call) (inr (record {
           item = λ e stands.
               let leads : LeadsFrom (answers_at expansion_limit) e (Err Finished) (outermost_frame_call now.frames) after source_after =
@@ -261,10 +312,11 @@ module _ {rules : Rules} (expander now after : kept.Expander) (source source_now
                 after = leads.0;
                 emits = comes e leads.0 _ leads.1;
                 text = tt;
-                call = rw none (free_kept_call after.held call (end_free turn) ∙ leads.3);
+                call = rw of (free_kept_call after.held call (end_free turn) ∙ leads.3);
                 goes_on = leads.2;
               };
           no_refusal = refl;
+          asks = rw of tt;
           holds = tt;
           reports = record {
             left = errors_of after source_after;
@@ -275,7 +327,7 @@ module _ {rules : Rules} (expander now after : kept.Expander) (source source_now
         })) (end_last place last call turn) ruled
 
     -- a fault is reported where it stands: the place that was taken is that of an error of the lexer
-    module _ (fault : PlacedFault) (reported_source : Source) (place : Location) (last : Origin) (call : Option CallPlace) (is : reported_source ≡ record source_after { error_place = None }) where
+    module _ (fault : PlacedFault) (reported_source : Source) (place : Location) (last : LastItem) (call : Option CallPlace) (is : reported_source ≡ record source_after { error_place = None }) where
       error_reported : (taken : Option Location) (left : List ErrorAt)
           → place ≡ unwrap_or taken fault.1.location → errors_left (kept_with reported_source false place last call) ≡ left
           → IsErrorAt (unplaced fault) (with_read (unplaced fault) taken left) (kept_with reported_source false place last call)
@@ -286,7 +338,7 @@ module _ {rules : Rules} (expander now after : kept.Expander) (source source_now
       error_reported None left at same = of_its_own at same
 
       errors_now : Over (Err (Error fault)) → is_out_of_memory fault.0 ≡ false
-          → errors_left (kept_with reported_source false place last call) ≡ (unreported_of source_after).later
+          → errors_left (kept_with reported_source false place last call) ≡ (all_unreported source_after).later
       unfolding errors_left
       errors_now turn reported = rw (is, (errors_last (Err (Error fault)) turn reported).0) refl
 
@@ -308,10 +360,19 @@ module _ {rules : Rules} (expander now after : kept.Expander) (source source_now
           none_other (Some own) = refl
           none_other None = refl
 
+      -- what it asks for is kept
+      asked_kept : last ≡ last_error found.1 → last.asks ≡ fault.1.asks
+      asked_kept of = ap (λ (o : LastItem). o.asks) of ∙ asks_found (outermost_frame_call after.frames) fault
+
+      rightly : Over (Err (Error fault)) → is_out_of_memory fault.0 ≡ false → AsksRightly old.rules fault
+      rightly turn reported =
+          subst (λ (rs : Rules). AsksRightly rs fault) (r.reported.1 ∙ ruled)
+          (turn_asks expansion_limit now after source_now source_after (Err (Error fault)) r.fit.asks (turned (Err (Error fault)) turn reported)).0
+
       next_fault : Over (Err (Error fault)) → is_out_of_memory fault.0 ≡ false → place ≡ unwrap_or source_after.error_place fault.1.location
-          → last ≡ record { text = fault.1.text; call = found.1.call }
+          → last ≡ last_error found.1
           → IsNextItem old (Some (Err (unplaced fault))) (kept_with reported_source false place last call)
-      unfolding is_spent call_place item_text
+      unfolding Stands is_spent call_place item_text asked_line rules_of
       next_fault turn reported at of =
           as_next (Some (Err (unplaced fault))) (kept_with reported_source false place last call) (inr (record {
             item = λ e stands.
@@ -319,18 +380,20 @@ module _ {rules : Rules} (expander now after : kept.Expander) (source source_now
                 (leads_last (Err (Error fault)) turn reported).from e (stands_first e stands) in
                 record {
                   after = leads.0;
-                  emits = record { taken = taken.Fault found; emits = leads.1; is = ap outcome.Fault (sym (unplaced_found (outermost_frame_call after.frames) fault)) };
-                  text = ap (λ (o : Origin). o.text) of ∙ sym (text_found (outermost_frame_call after.frames) fault);
+                  emits = record { taken = taken.Fault found; emits = leads.1; is = rw of (outcome_found (outermost_frame_call after.frames) fault found.1.asks) };
+                  text = ap (λ (o : LastItem). o.text) of;
                   call = rw of (found_call (outermost_frame_call after.frames) (kept_call after.held call after.frames)
                       (free_call after.held call after.frames (errors_last (Err (Error fault)) turn reported).0) ∙ sym leads.2);
-                  goes_on = tt;
+                  goes_on = goes_on_asked fault last.asks (kept_with reported_source false place last call) leads.0 (asked_kept of)
+                      (λ asks. rw is (stands_reported after source_after leads.0 (leads.3 asks)));
                 };
             no_refusal = reported;
+            asks = asks_item old.rules fault last.asks (asked_kept of) (rightly turn reported);
             holds = tt;
             reports = record {
-              left = with_read (unplaced fault) source_after.error_place (unreported_of source_after).later;
+              left = with_read (unplaced fault) source_after.error_place (all_unreported source_after).later;
               passes = passes_first _ (errors_last (Err (Error fault)) turn reported).1;
-              reports = error_reported source_after.error_place (unreported_of source_after).later at (errors_now turn reported);
+              reports = error_reported source_after.error_place (all_unreported source_after).later at (errors_now turn reported);
             };
             spent = refl;
           })) (less_now turn reported) ruled
@@ -345,7 +408,7 @@ module _ {rules : Rules} (expander now after : kept.Expander) (source source_now
 
       pub next_error : (want : Bool) → is_out_of_memory fault.0 ≡ want → Over (Err (Error fault))
           → place ≡ unwrap_or source_after.error_place (if want then out_of_memory else unplaced fault).1
-          → last ≡ record { text = fault.1.text; call = found.1.call }
+          → last ≡ last_error found.1
           → IsNextItem old (Some (Err (if want then out_of_memory else unplaced fault)))
           (kept_with reported_source want place last call)
       next_error true e turn at of = next_refusal turn

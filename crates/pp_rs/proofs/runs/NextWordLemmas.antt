@@ -6,9 +6,9 @@ use Rattle.pp_lexer.specs.declared.token.Location.{Location}
 use Rattle.pp_lexer.specs.declared.token.Token.{Token}
 use Rattle.pp_macros.specs.Item.{Item}
 use Rattle.pp_macros.specs.LexerErrors.{ErrorAt, PassesErrors}
-use Rattle.pp_rs.specs.Kept.{Preprocessing, is_spent, most_items, errors_left, error_place, rules_of, item_text}
+use Rattle.pp_rs.specs.Kept.{Preprocessing, is_spent, most_items, errors_left, error_place, asked_line, rules_of, item_text}
 use Rattle.pp_rs.specs.inner.NextWord.{IsPassed}
-use Rattle.pp_rs.specs.Preprocessing.{IsNextItem, IsRefusedItem, IsGivenItem, IsLessLeft, ReportsAnswer, ReportsError}
+use Rattle.pp_rs.specs.Preprocessing.{Asks, IsNextItem, IsRefusedItem, IsGivenItem, IsLessLeft, ReportsAnswer, ReportsError}
 use Rattle.pp_rs.proofs.runs.PassedErrorsLemmas.{passes_then}
 use Rattle.std.specs.Prelude.{IfSome}
 use Rattle.pp_model.specs.ItemCall.{text_of}
@@ -60,6 +60,7 @@ passed_next old mid new answer fresh p next =
             goes_on = emitted.goes_on;
           };
       no_refusal = given.no_refusal;
+      asks = subst (λ (rules : Rules). Asks rules answer (asked_line new)) p.rules given.asks;
       holds = given.holds;
       reports = reports_over old mid new answer p.errors p.place p.rules given.reports;
       spent = given.spent;

@@ -1,5 +1,5 @@
 -- A word of plain text that names a macro without parentheses, while no macro is open.
-use Rattle.std.proofs.Common.{◌≡◌, true, false, ℕ, [], ◌∷◌, refl, ap, sym, Option, Some, None, Err}
+use Rattle.std.proofs.Common.{◌≡◌, true, false, ℕ, [], ◌∷◌, refl, ap, sym, Option, Some, None, Ok, Err}
 use Rattle.std.specs.Prelude.{unwrap_or}
 use Rattle.std.proofs.lemmas.Bool.{not-true}
 use Rattle.pp_model.specs.Definitions.{Definition}
@@ -21,6 +21,7 @@ use Rattle.pp_directives.specs.inner.PlainText.{is_bare, TakesWord}
 use Rattle.pp_rs.specs.inner.NextWord.{OpensNumbered}
 use Rattle.pp_rs.specs.inner.SourceTurns.{StepsOver}
 use Rattle.pp_rs.proofs.runs.IdleLemmas.{idle_opens}
+use Rattle.pp_rs.proofs.source.UnpaintedLemmas.{reads_step}
 
 opened_bare : (w name : Name) (o : Option Definition) (definition : Definition) → is_bare o ≡ true → Some (name, definition) ≡ opened_by w o
     → definition.function_like ≡ false
@@ -50,7 +51,7 @@ module _ (m n : Expander) (r s : Source) (word : PlainItem) (id : ℕ) (takes : 
   opens_over : is_idle m ≡ true → n ≡ record m { frames = new_frame opened (bare_call r.text word.location) [] ∷ m.frames }
       → StepsOver expansion_limit m r (Err Continue) n s
   opens_over idle is =
-      idle_opens expansion_limit r s m n (word_token word) opened (is_idle-idle m idle) (takes.step.reads, takes.step.errors) apart opens
+      idle_opens expansion_limit r s m n (word_token word) opened (is_idle-idle m idle) (reads_step r s (Ok (word_token word)) (takes.step.reads, takes.step.errors) (λ e. cc)) apart opens
       (opened_bare word.spelling.now opened.name _ opened.definition takes.does.1.bare found) is
 
 module _ (m : Expander) (r s : Source) (word : PlainItem) (id : ℕ) (idle : is_idle m ≡ true) (takes : TakesWord r word (Some id) s) where

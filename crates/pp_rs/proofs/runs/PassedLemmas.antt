@@ -14,18 +14,18 @@ use Rattle.pp_macros.specs.inner.Giving.{GivesAhead, passed}
 use Rattle.pp_macros.specs.inner.Idle.{is_idle}
 use Rattle.pp_macros.specs.inner.Reader.{of_source}
 use Rattle.pp_macros.specs.inner.Plain.{gives_itself}
-use Rattle.pp_model.specs.declared.splice.Origin.{Origin}
 use Rattle.pp_macros.specs.inner.Expander.{Expander, kept_call}
 use Rattle.pp_macros.specs.inner.Source.{Source}
 use Rattle.pp_macros.specs.declared.step.PlacedExit.TheVariants.{Continue}
 use Rattle.pp_directives.specs.inner.PlainText.{IsStep}
-use Rattle.pp_rs.specs.Kept.{Preprocessing, Stands, IsAhead, is_spent, most_items, errors_left, error_place, from_text, rules_of}
+use Rattle.pp_rs.specs.Kept.{LastItem, Preprocessing, Stands, IsAhead, is_spent, most_items, errors_left, error_place, from_text, rules_of}
 use Rattle.pp_rs.specs.inner.NextWord.{IsPassed}
 use Rattle.pp_macros.specs.LexerErrors.{PassesErrors}
 use Rattle.pp_rs.specs.Preprocessing.{IsNextItem}
 use Rattle.pp_rs.specs.inner.Fit.{IsFit, IsReported}
 use Rattle.pp_rs.specs.inner.SourceTurns.{StepsOver}
 use Rattle.pp_rs.proofs.runs.IdleLemmas.{idle_exit, idle_token}
+use Rattle.pp_rs.proofs.source.UnpaintedLemmas.{reads_step}
 use Rattle.pp_macros.proofs.taking.ExpanderLemmas.{is_idle-idle}
 use Rattle.pp_rs.proofs.runs.Leads.{LeadsFrom}
 use Rattle.pp_rs.proofs.runs.UnreportedTurnLemmas.{errors_of}
@@ -35,12 +35,14 @@ use Rattle.pp_rs.proofs.runs.NextLemmas.{Reached, reached_first, token_fits, fre
 
 -- a newline is a turn
 pub newline_over : (m : Expander) (r s : Source) → is_idle m ≡ true → IsStep r (Err Continue) s → StepsOver expansion_limit m r (Err Continue) m s
-newline_over m r s idle step = idle_exit expansion_limit r s m Continue (Err Continue) (is_idle-idle m idle) (step.reads, step.errors) refl
+newline_over m r s idle step = idle_exit expansion_limit r s m Continue (Err Continue) (is_idle-idle m idle)
+    (reads_step r s (Err Continue) (step.reads, step.errors) (λ e. cc)) refl
 
 -- so is a word
 pub word_over : (m : Expander) (r s : Source) (token : Token) → is_idle m ≡ true → IsStep r (Ok token) s → gives_itself s.definitions token.value ≡ true
     → StepsOver expansion_limit m r (Ok (read_in r.text token)) m s
-word_over m r s token idle step itself = idle_token expansion_limit r s m token (is_idle-idle m idle) (step.reads, step.errors) itself
+word_over m r s token idle step itself = idle_token expansion_limit r s m token (is_idle-idle m idle)
+    (reads_step r s (Ok token) (step.reads, step.errors) (λ e. cc)) itself
 
 -- while no macro is open, no call is kept
 pub idle_call : (m : Expander) (call other : Option CallPlace) → is_idle m ≡ true → kept_call m.held call m.frames ≡ kept_call m.held other m.frames
@@ -147,7 +149,7 @@ passed_nothing p = record {
 }
 
 -- only pauses were
-pub passed_pauses : (old : Preprocessing) (now : Expander) (source_now : Source) (spent : Bool) (place : Location) (last : Origin) (call : Option CallPlace) (rules : Rules)
+pub passed_pauses : (old : Preprocessing) (now : Expander) (source_now : Source) (spent : Bool) (place : Location) (last : LastItem) (call : Option CallPlace) (rules : Rules)
     → Reached rules old.expander old.source now source_now → old.spent ≡ false → spent ≡ false → place ≡ old.place → rules ≡ old.rules
     → IsPassed old (record { expander = now; source = source_now; spent = spent; place = place; last = last; name_call = call; rules = rules })
 unfolding Stands is_spent errors_left error_place most_items rules_of

@@ -1,7 +1,6 @@
 -- Taking from a reader whose memory didn't run out leaves it so, and the end comes if nothing is left.
 use Rattle.std.proofs.Common.{◌≡◌, ◌∙◌, inl, inr, ℕ, Bool, true, false, if◌then◌else◌, List, [], ◌∷◌, refl, ap, sym, subst, Option, Some, None, Ok, Err}
 use Rattle.std.specs.Prelude.{Result, unwrap_or}
-use Rattle.pp_lexer.specs.declared.token.Token.{Token}
 use Rattle.pp_model.specs.declared.place.Place.{Place}
 use Rattle.pp_model.specs.Places.{PlacedFault, place_of}
 use Rattle.pp_model.specs.Calls.{Gathered}
@@ -14,7 +13,6 @@ use Rattle.pp_macros.specs.inner.CallTurns.{Sought, no_call, refused, gathered, 
 use Rattle.pp_rs.specs.inner.Fit.{NothingIn, IsReady, EndIsLast}
 use Rattle.pp_macros.specs.inner.Frames.{Frame, Advance, advance, outermost_frame_line}
 use Rattle.pp_macros.specs.Item.{PlacedStep, wants_memory}
-use Rattle.pp_macros.specs.inner.Source.{StepsSource}
 use Rattle.pp_macros.specs.inner.Expander.{Expander, StepsFetching, StepsTaking, held, moved, TakesNext, now, later, GathersNext, closed, inside, overfull, ended, failed, step_of_outcome, taken_as}
 use Rattle.pp_macros.specs.inner.Reader.{Reader, of_source, of_list, Reads, shown_line}
 use Rattle.pp_macros.specs.inner.Reading.{painted_step}
@@ -24,20 +22,17 @@ use Rattle.pp_macros.specs.declared.step.PlacedExit.{PlacedExit}
 use Rattle.pp_macros.specs.declared.step.PlacedExit.TheVariants.{Error, Continue, Finished}
 use Rattle.pp_macros.proofs.open_frames.ReportedLemmas.{wants_taken, exit_reported, not_refused, painted_reported, taken_reported}
 use Rattle.pp_rs.proofs.source.EndLemmas.{source_end}
-use Rattle.pp_rs.proofs.source.UnpaintedLemmas.{unpainted_reported, unpainted_end}
-use Rattle.pp_rs.proofs.runs.UnspentLemmas.{steps_unspent}
+use Rattle.pp_rs.proofs.source.RulesLemmas.{reads_unspent}
 use Rattle.pp_lexer.specs.declared.token.Integer.{Integer}
 
 reads_ready : (r s : Reader) (step : PlacedStep Read) → IsReady r → Reads r step s → wants_memory step ≡ false → IsReady s
-reads_ready (of_source old) (of_source new) step ready h reported =
-    steps_unspent old new h.given ready old.spent refl (unpainted_reported old.text h.given (rw h.is at reported)) h.steps
+reads_ready (of_source old) (of_source new) step ready h reported = reads_unspent old new step ready h reported
 reads_ready (of_list old) (of_list new) step ready h reported = tt
 reads_ready (of_source old) (of_list new) step ready h reported = absurd h
 reads_ready (of_list old) (of_source new) step ready h reported = absurd h
 
 reads_end : (r s : Reader) → IsReady r → Reads r (Err Finished) s → NothingIn s
-reads_end (of_source old) (of_source new) ready h =
-    source_end old new old.spent refl ready (subst (λ (x : PlacedStep Token). StepsSource old x new) (unpainted_end old.text h.given (sym h.is)) h.steps)
+reads_end (of_source old) (of_source new) ready h = source_end old new ready h
 reads_end (of_list old) (of_list new) ready h = tt
 reads_end (of_source old) (of_list new) ready h = absurd h
 reads_end (of_list old) (of_source new) ready h = absurd h

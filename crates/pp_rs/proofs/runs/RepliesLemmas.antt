@@ -1,13 +1,14 @@
 -- The replies to a list of calls, one after another.
-use Rattle.std.proofs.Common.{◌≡◌, ◌∙◌, ◌<◌, ◌+◌, ℕ, length, take, drop, get_or, append_assoc, true, false, List, [], ◌∷◌, ◌++◌, map, refl, ap, sym, subst, Ok, Err, Some, None, inl, inr}
+use Rattle.std.proofs.Common.{◌≡◌, ◌∙◌, ◌<◌, ◌+◌, ℕ, length, take, drop, get_or, append_assoc, true, false, List, [], ◌∷◌, ◌++◌, map, refl, ap, sym, subst, Ok, Err, Option, Some, None, inl, inr}
 use Rattle.std.specs.Str.{chars}
 use Rattle.std.proofs.lemmas.List.{take_more, take-append-drop, map-append}
 use Rattle.pp_lexer.specs.declared.rules.Rules.{Rules}
 use Rattle.pp_lexer.specs.PreprocessorError.{out_of_memory}
+use Rattle.pp_lexer.specs.declared.token.Location.{Location}
 use Rattle.pp_lexer.specs.declared.token.Token.{Token}
 use Rattle.pp_model.specs.Places.{Fault}
-use Rattle.pp_model.specs.Run.{Call, call_of, add_define, next, with_added, ends_run}
-use Rattle.pp_model.specs.RunChains.{AnswersIn, adds, refuses, gives, Chain, none, one_more}
+use Rattle.pp_model.specs.Run.{Call, call_of, add_define, include, next, items_by, with_added, with_included, ends_run}
+use Rattle.pp_model.specs.RunChains.{AnswersIn, adds, refuses, includes, refuses_text, gives, Chain, none, one_more}
 use Rattle.pp_model.specs.declared.call.Call.{Call as Called}
 use Rattle.pp_model.specs.declared.call.Reply.{Reply}
 use Rattle.pp_model.specs.declared.call.Reply.TheVariants as reply
@@ -17,8 +18,11 @@ use Rattle.pp_rs.specs.Adding.{IsAdded, refused, faulty, added}
 use Rattle.pp_rs.specs.inner.Answering.{IsAnswered, AreReplies, goes_on, ends}
 use Rattle.pp_rs.specs.Comes.{State, Comes}
 use Rattle.pp_macros.specs.Item.{is_out_of_memory}
-use Rattle.pp_rs.specs.Kept.{Preprocessing, Stands, is_spent, rules_of}
-use Rattle.pp_rs.specs.Preprocessing.{IsNextItem}
+use Rattle.pp_rs.specs.Including.{IsIncluded, too_deep, included}
+use Rattle.pp_rs.specs.Including as including
+use Rattle.pp_rs.specs.Kept.{Preprocessing, Stands, is_spent, asked_line, rules_of}
+use Rattle.pp_rs.specs.Preprocessing.{GoesOn, IsNextItem, outcome_of}
+use Rattle.pp_rs.specs.declared.pp.including.IncludeError.TheVariants.{TooDeep}
 
 module _ (old new : Preprocessing) (ready : is_spent old ≡ false) where
   -- a definition that was added
@@ -60,16 +64,45 @@ module _ (old new : Preprocessing) (ready : is_spent old ≡ false) where
         (item.after, gives outcome.End _ _ state item.after item.emits refl refl refl, item.goes_on))
   ]
 
-  pub fault_answered : (fault : Fault) → is_out_of_memory fault.0 ≡ false → IsNextItem old (Some (Err fault)) new
-      → IsAnswered old next (reply.Given (outcome.Fault fault)) new
-  fault_answered fault reported h = elim (rw ready at h.gives) [
+  -- an error ends the run; an `#include` line that asks for its text doesn't
+  error_answered : (fault : Fault) (asked : Option Location) → is_spent new ≡ false → rules_of new ≡ rules_of old
+      → ((state : State) → Stands old state
+      → (after : State) × Comes state (outcome_of (Some (Err fault)) asked) after × GoesOn (Some (Err fault)) asked new after)
+      → IsAnswered old next (reply.Given (outcome_of (Some (Err fault)) asked)) new
+  error_answered fault None unspent same leads = ends fault refl refl (λ state stands. let item = leads state stands in (item.0, item.1))
+  error_answered fault (Some rest) unspent same leads = goes_on refl unspent same (λ state stands. let item = leads state stands in
+      (item.0, gives (outcome_of (Some (Err fault)) (Some rest)) _ _ state item.0 item.1 refl refl refl, item.2))
+
+  pub fault_answered : (fault : Fault) (asked : Option Location) → is_out_of_memory fault.0 ≡ false → asked ≡ asked_line new
+      → IsNextItem old (Some (Err fault)) new → IsAnswered old next (reply.Given (outcome_of (Some (Err fault)) asked)) new
+  fault_answered fault asked reported is h = elim (rw ready at h.gives) [
     | inl wants ↦
         (let e = wants.item in
         let wanted : fault ≡ out_of_memory = cc in
         let bad : true ≡ false = sym (ap (λ (f : Fault). is_out_of_memory f.0) wanted) ∙ reported in
         cc)
-    | inr given ↦ ends fault refl refl (λ state stands. let item = given.item state stands in (item.after, item.emits))
+    | inr given ↦ rw is (error_answered fault (asked_line new) given.spent h.rules (λ state stands. let item = given.item state stands in
+        (item.after, item.emits, item.goes_on)))
   ]
+
+  -- a text that was included
+  pub text_answered : (text : List ℕ) → IsIncluded old text (Ok tt) new → IsAnswered old (include text) reply.Included new
+  text_answered text (including.refused given same) = cc
+  text_answered text (too_deep full given same) = cc
+  text_answered text (included given h) =
+      goes_on refl (h.spent ∙ ready) h.rules (λ state stands. let after = with_included (items_by (rules_of old) text) state in
+      (after, includes text _ _ state after (h.room state stands) refl refl refl, h.stands state stands))
+
+  -- one that would be inside too many others
+  pub deep_answered : (text : List ℕ) → IsIncluded old text (Err TooDeep) new → IsAnswered old (include text) reply.TooDeep new
+  deep_answered text (including.refused given same) = cc
+  deep_answered text (too_deep full given same) =
+      goes_on refl (ap is_spent same ∙ ready) (ap rules_of same) (λ state stands. (
+        state,
+        refuses_text text _ _ state state (full state stands) refl refl refl,
+        subst (λ (p : Preprocessing). Stands p state) (sym same) stands,
+      ))
+  deep_answered text (included given h) = cc
 
 -- the calls up to one and with it
 pub calls_more : (calls : List Called) (i : ℕ) (other : Called) → i < length calls

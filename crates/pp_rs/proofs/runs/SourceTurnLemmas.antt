@@ -1,6 +1,8 @@
 -- A turn over a source, after which a call is finished: what holds after it, how much is left, and what it means for
 -- the definitions' expander.
 use Rattle.std.proofs.Common.{◌≡◌, ◌∙◌, ◌⊎◌, inl, inr, ℕ, zero, suc, ◌-◌, ◌<◌, ◌≤◌, true, false, List, [], ◌∷◌, ◌++◌, length, refl, ap, sym, subst, arith, Option, Some, None, Ok, Err, All}
+use Rattle.std.specs.Prelude.{IsSome}
+use Rattle.pp_lexer.specs.declared.rules.Rules.{Rules}
 use Rattle.pp_model.specs.Calls.{Site, site_of}
 use Rattle.pp_model.specs.Emitting.{answers_at}
 use Rattle.pp_model.proofs.LevelLemmas.{none_at_limit}
@@ -14,7 +16,7 @@ use Rattle.pp_macros.specs.inner.Calling.{MacroCall}
 use Rattle.pp_macros.specs.inner.CallTurns.{TurnsTo, TurnsOrRefuses, TakesSomething}
 use Rattle.pp_macros.specs.inner.Defined.{Defined}
 use Rattle.pp_macros.specs.inner.Finishing.{site_at, Finishes, IsOpened}
-use Rattle.pp_rs.specs.inner.Fit.{EndIsLast, IsFit}
+use Rattle.pp_rs.specs.inner.Fit.{EndIsLast, IsFit, HoldsAsking}
 use Rattle.pp_macros.specs.inner.Frames.{new_frame, flat, names_of, outermost_frame_call}
 use Rattle.pp_macros.specs.Halting.{exit_of}
 use Rattle.pp_macros.specs.Item.{PlacedStep, wants_memory, no_memory}
@@ -37,9 +39,10 @@ use Rattle.pp_rs.proofs.runs.Leads.{LeadsFrom, Leads}
 use Rattle.pp_macros.proofs.open_frames.OpenSoundLemmas.{sound_rest}
 use Rattle.pp_macros.proofs.open_frames.ReportedLemmas.{wants_taken}
 use Rattle.pp_macros.proofs.work.ReachLemmas.{frame_steps_level}
+use Rattle.pp_rs.proofs.runs.AsksLemmas.{turn_asks}
 use Rattle.pp_rs.proofs.runs.ReadyLemmas.{turn_ready, turn_last, turn_end, turn_some}
 use Rattle.pp_macros.proofs.taking.SearchSimulates.{StandsIn, StandsHeld}
-use Rattle.pp_rs.proofs.runs.SourceLeadsLemmas.{IsSource, sources_simulate, source_shows, source_hides, source_sees, source_leads}
+use Rattle.pp_rs.proofs.runs.SourceLeadsLemmas.{IsSource, KeepsDepth, sources_simulate, source_shows, source_hides, source_keeps, source_sees, source_leads}
 use Rattle.pp_macros.proofs.work.SpendLemmas.{Falls, no_more_falls, one_more_falls}
 use Rattle.pp_model.specs.Emitting.{Emits}
 use Rattle.pp_model.specs.Places.{PlacedFault, fault_in}
@@ -165,74 +168,76 @@ module _ (levels : ℕ) (m : kept.Expander) (old new : Source) (fit : IsFit m ol
     after : IsAfter levels m old step n new
     after = follows_after step h.between n h.taken h.turns h.follows reported
 
-    pub source_fits : IsFit n new
-    source_fits = record {
+    pub source_fits : new.rules ≡ old.rules → IsFit n new
+    source_fits same = record {
       unspent = turn_ready m h.between (of_source old) (of_source new) h.taken fit.unspent h.turns (taken_reported step h.between n h.taken h.follows reported);
       sound = after.sound;
       last = after.last;
+      asks = subst (λ (rules : Rules). HoldsAsking rules n.held) (sym same) (turn_asks levels m n old new step fit.asks h).1;
     }
 
     pub source_lowers : (step ≡ Err Finished → ⊥) → work_of levels n (of_source new) < work_of levels m (of_source old)
     source_lowers goes = after.less goes
 
   -- after the end nothing is left
-  pub source_ends : (n : kept.Expander) → TurnsSource levels m old (Err Finished) n new → (n.held ≡ None) × (n.frames ≡ []) × (new.rest ≡ []) × (new.blocks ≡ [])
+  pub source_ends : (n : kept.Expander) → TurnsSource levels m old (Err Finished) n new → (n.held ≡ None) × (n.frames ≡ []) × (new.rest ≡ []) × (new.blocks ≡ []) × (new.around ≡ [])
   source_ends n h = go h.taken h.between h.turns h.follows
     where
       go : (t : PlacedStep Taken) (k : kept.Expander) → TurnsTo m (of_source old) t k (of_source new) → FollowsTurn levels new t k (Err Finished) n
-          → (n.held ≡ None) × (n.frames ≡ []) × (new.rest ≡ []) × (new.blocks ≡ [])
+          → (n.held ≡ None) × (n.frames ≡ []) × (new.rest ≡ []) × (new.blocks ≡ []) × (new.around ≡ [])
       go (Ok (taken.Token read)) k turns follows = let bad = follows.0 in cc
       go (Ok (taken.Call c)) k turns (opened is o) = cc
       go (Ok (taken.Call c)) k turns (refused fault is answers same) = cc
       go (Err exit) k turns follows =
           let e : exit ≡ Finished = exit_same exit follows.0 in
           let last = turn_end m k (of_source old) (of_source new) (Err exit) (ap (λ (x : PlacedExit). Err x) e) fit.unspent fit.last turns in
-          rw follows.1 (last.0, last.1, last.2.0, last.2.1)
+          rw follows.1 (last.0, last.1, last.2.0, last.2.1, last.2.2)
         where
           exit_same : (exit : PlacedExit) → ◌≡◌ {A = PlacedStep Read} (Err Finished) (Err exit) → exit ≡ Finished
           exit_same exit e = cc
 
 -- the states that are stood for, as the lemmas on all readers say it
-held_in : (o : Option (PlacedStep Read)) (source : Source) (x : SourceReader) → StandsForHeld o source x → StandsHeld source_rules IsSource [] o (of_source source) x
-held_in (Some (Err (Error fault))) source x h = tt
+held_in : (o : Option (PlacedStep Read)) (source : Source) (x : SourceReader) → StandsForHeld o source x → StandsHeld source_rules IsSource KeepsDepth [] o (of_source source) x
+held_in (Some (Err (Error fault))) source x h = h
 held_in _ source x h = h
 
-held_for : (o : Option (PlacedStep Read)) (source : Source) (x : SourceReader) → StandsHeld source_rules IsSource [] o (of_source source) x
+held_for : (o : Option (PlacedStep Read)) (source : Source) (x : SourceReader) → StandsHeld source_rules IsSource KeepsDepth [] o (of_source source) x
     → StandsForHeld o source x
-held_for (Some (Err (Error fault))) source x h = tt
+held_for (Some (Err (Error fault))) source x h = h
 held_for _ source x h = h
 
-stands_in : (m : kept.Expander) (source : Source) (e : Expander SourceReader) → StandsFor m source e → StandsIn source_rules IsSource [] m (of_source source) e
+stands_in : (m : kept.Expander) (source : Source) (e : Expander SourceReader) → StandsFor m source e → StandsIn source_rules IsSource KeepsDepth [] m (of_source source) e
 stands_in m source e h = record { holds = h.held; list = h.list; reader = held_in m.held source e.reader h.reader; names = h.hidden }
 
-stands_for : (m : kept.Expander) (source : Source) (e : Expander SourceReader) → StandsIn source_rules IsSource [] m (of_source source) e → StandsFor m source e
+stands_for : (m : kept.Expander) (source : Source) (e : Expander SourceReader) → StandsIn source_rules IsSource KeepsDepth [] m (of_source source) e → StandsFor m source e
 stands_for m source e h = record { held = h.holds; list = h.list; reader = held_for m.held source e.reader h.reader; hidden = h.names }
 
 -- where a call stands
-site_same : (c : MacroCall) (n : kept.Expander) (source : Source) (f : Expander SourceReader) → StandsIn source_rules IsSource [] n (of_source source) f
+site_same : (c : MacroCall) (n : kept.Expander) (source : Source) (f : Expander SourceReader) → StandsIn source_rules IsSource KeepsDepth [] n (of_source source) f
     → n.held ≡ None → site_of source_rules f c.paren c.tokens ≡ site_at c (list_numbering source.rules source.line_offset) source.definitions (names_of n.frames ++ [])
 site_same c n source f stands free =
-    let reader : StandsForReader source f.reader = subst (λ (o : Option (PlacedStep Read)). StandsHeld source_rules IsSource [] o
+    let reader : StandsForReader source f.reader = subst (λ (o : Option (PlacedStep Read)). StandsHeld source_rules IsSource KeepsDepth [] o
     (of_source source) f.reader) free stands.reader in
     let around : masked_names f ≡ names_of n.frames ++ [] =
     ap (λ (es : List Entry). open_names es ++ f.hidden) stands.list ∙ ap (λ (hs : List Name). open_names (flat n.frames) ++ hs) stands.names
     ∙ ap (λ (ns : List Name). ns ++ []) (open_flat n.frames) in
-    rw (reader.definitions, reader.rules, reader.line_offset, around) refl
+    let offset : f.reader.line_offset ≡ source.line_offset = reader.here.line_offset in
+    rw (reader.definitions, reader.rules, offset, around) refl
 
 module _ (levels : ℕ) (m : kept.Expander) (old new : Source) (fit : IsFit m old) (e : Expander SourceReader) (stands : StandsFor m old e) where
   abbrev LeadsBy : PlacedStep Taken → kept.Expander → Type 0
-  LeadsBy t n = LeadsTo source_rules IsSource [] sources_simulate source_shows source_hides source_sees (answers_at levels) t e n (of_source new)
+  LeadsBy t n = LeadsTo source_rules IsSource KeepsDepth [] sources_simulate source_shows source_hides source_keeps source_sees (answers_at levels) t e n (of_source new)
 
-  -- a fault is in the call of the outermost frame
+  -- a fault is in the call of the outermost frame; if it asks for a text, the expander stands after it
   fault_found : (fault : PlacedFault) (f : Expander SourceReader) (n : kept.Expander) → outermost_call f.list ≡ outermost_frame_call n.frames
       → (emits : Emits source_rules (answers_at levels) e (given.Fault (fault_in (outermost_call f.list) fault)) f)
-      → item_call emits ≡ (fault_in (outermost_call f.list) fault).1.call
+      → item_call emits ≡ (fault_in (outermost_call f.list) fault).1.call → (IsSome fault.1.asks → StandsFor n new f)
       → LeadsFrom (answers_at levels) e (Err (Error fault)) (outermost_frame_call m.frames) n new
-  fault_found fault f n same emits call =
+  fault_found fault f n same emits call asked =
       let Found : Option CallPlace → Type 0 = λ k. (emits : Emits source_rules (answers_at levels) e (given.Fault (fault_in k fault)) f)
       × (item_call emits ≡ (fault_in k fault).1.call) in
       let found : Found (outermost_frame_call n.frames) = subst Found same (emits, call) in
-      (f, found.0, found.1)
+      (f, found.0, found.1, asked)
 
   call_leads : (c : MacroCall) (n p : kept.Expander) (step : PlacedStep Read) → n.held ≡ None → LeadsBy (Ok (taken.Call c)) n
       → FollowsCall levels new c n step p → LeadsFrom (answers_at levels) e step (outermost_frame_call m.frames) p new
@@ -252,7 +257,8 @@ module _ (levels : ℕ) (m : kept.Expander) (old new : Source) (fit : IsFit m ol
       )
   call_leads c n p step free led (refused fault is answers same) =
       let emitted = led.2 fault (subst (λ (x : Site). answers_at levels c.opened.definition x (Err fault)) (sym (site_same c n new led.0 led.1 free)) answers) in
-      rw (is, same) (fault_found fault led.0 n (ap outermost_call led.1.list ∙ outermost_flat n.frames) emitted.0 emitted.1)
+      rw (is, same) (fault_found fault led.0 n (ap outermost_call led.1.list ∙ outermost_flat n.frames) emitted.0 emitted.1
+      (λ asks. stands_for n new led.0 led.1))
 
   follows_lead : (step : PlacedStep Read) (n p : kept.Expander) (t : PlacedStep Taken) → TurnsTo m (of_source old) t n (of_source new) → LeadsBy t n
       → FollowsTurn levels new t n step p → LeadsFrom (answers_at levels) e step (outermost_frame_call m.frames) p new
@@ -276,7 +282,8 @@ module _ (levels : ℕ) (m : kept.Expander) (old new : Source) (fit : IsFit m ol
         free_call_same n.held (outermost_frame_call m.frames) n.frames led.3 led.0.list led.2.list ∙ sym led.4,
       )
   follows_lead step n p (Err (Error fault)) turns led follows =
-      rw (follows.0, follows.1) (fault_found fault led.0 n (ap outermost_call led.2 ∙ outermost_flat n.frames) led.1 led.4)
+      rw (follows.0, follows.1) (fault_found fault led.0 n (ap outermost_call led.2 ∙ outermost_flat n.frames) led.1 led.4
+      (λ asks. stands_for n new led.0 (led.5 asks)))
 
 -- One turn: a token, a fault or the end is the next item, and a pause keeps it.
 pub source_turn_leads : (levels : ℕ) (m n : kept.Expander) (old new : Source) (step : PlacedStep Read) → IsFit m old → TurnsSource levels m old step n new

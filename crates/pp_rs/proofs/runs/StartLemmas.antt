@@ -1,6 +1,7 @@
 -- A preprocessor at the start of a source stands for the start of its run.
 use Rattle.std.proofs.Common.{◌≡◌, ℕ, List, [], None, false, refl, arith}
 use Rattle.std.specs.Prelude.{pos}
+use Rattle.std.proofs.lemmas.List.{append-nil}
 use Rattle.pp_lexer.specs.Location.{nowhere}
 use Rattle.pp_lexer.specs.Items.{places_by}
 use Rattle.pp_lexer.specs.Spots.{spots_of}
@@ -19,6 +20,8 @@ start_by rules text = record {
   source = record {
     rules = rules;
     text = source_text;
+    earlier = record { text = false; directive = false };
+    around = [];
     rest = items_by rules text;
     places = places_by rules (spots_of text);
     error_place = None;
@@ -46,24 +49,28 @@ start_stands rules text = record {
   list = refl;
   reader = record {
     rules = refl;
-    text = refl;
-    rest = refl;
-    within = omega arith;
+    here = record {
+      text = refl;
+      rest = refl;
+      within = omega arith;
+      line_offset = refl;
+      lined = items_lined rules text;
+      ended = start_ended rules (spots_of text);
+      lines = λ after. refl;
+      blocks = tt;
+      truths = tt;
+      unfinished = refl;
+      not_dead = refl;
+      remembers_text = refl;
+      remembers_directive = refl;
+      directives = λ after. refl;
+      off_line = λ live left. refl;
+    };
+    around = tt;
+    earlier = refl;
     definitions = refl;
     contents = refl;
-    line_offset = refl;
-    lined = items_lined rules text;
-    ended = start_ended rules (spots_of text);
-    lines = λ after. refl;
-    blocks = tt;
-    truths = tt;
-    unfinished = refl;
     unspent = refl;
-    not_dead = refl;
-    remembers_text = refl;
-    remembers_directive = refl;
-    directives = λ after. refl;
-    off_line = λ live left. refl;
   };
   hidden = refl;
 }
@@ -71,4 +78,4 @@ start_stands rules text = record {
 -- all errors of its text are still to be reported
 pub start_errors : (rules : Rules) (text : List ℕ) → errors_left (start_by rules text) ≡ lexer_errors_by rules text
 unfolding errors_left
-start_errors rules text = refl
+start_errors rules text = append-nil (lexer_errors_by rules text)

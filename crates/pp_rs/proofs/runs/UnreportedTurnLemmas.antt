@@ -18,6 +18,7 @@ use Rattle.pp_macros.specs.LexerErrors.{ErrorAt, PassesErrors}
 use Rattle.pp_macros.specs.inner.Expander.{Expander, StepsFetching, StepsTaking, held, moved, TakesNext, now, later, GathersNext, closed, inside, overfull, ended, failed, taken_as}
 use Rattle.pp_macros.specs.inner.Reader.{Reader, of_source, of_list, Reads}
 use Rattle.pp_macros.specs.inner.Source.{Source, unreported_of}
+use Rattle.pp_rs.specs.inner.AllTexts.{all_unreported}
 use Rattle.pp_rs.specs.inner.SourceTurns.{FollowsCall, opened, refused as call_refused, FollowsTurn, TurnsSource}
 use Rattle.pp_macros.specs.inner.Reading.{painted_step}
 use Rattle.pp_macros.specs.inner.Turns.{Moves, masks}
@@ -30,11 +31,11 @@ use Rattle.pp_rs.proofs.runs.ReadyLemmas.{step_free, next_free, gather_free}
 use Rattle.pp_directives.proofs.PassedErrorsLemmas.{passes_none, step_same}
 use Rattle.pp_rs.proofs.runs.PassedErrorsLemmas.{passes_then, none_passes}
 use Rattle.pp_rs.proofs.source.RulesLemmas.{reads_by}
-use Rattle.pp_rs.proofs.source.UnpaintedLemmas.{unpainted_tells}
+use Rattle.pp_rs.proofs.source.AllTextsLemmas.{reads_tell as texts_tell}
 
 -- a list of tokens has no errors of the lexer
 abbrev unreported_in : Reader → Unreported
-unreported_in (of_source source) = unreported_of source
+unreported_in (of_source source) = all_unreported source
 unreported_in (of_list list) = record { read = None; later = [] }
 
 abbrev fault_of_exit : PlacedExit → Option Fault
@@ -56,9 +57,18 @@ painted_fault names (Err exit) = refl
 abbrev UnreportedFirst : Expander → Reader → List ErrorAt
 UnreportedFirst m r = unreported_with m.held (unreported_in r)
 
--- the errors that are unreported of a source
+-- the errors that are unreported of a source and of the texts around
 abbrev pub errors_of : Expander → Source → List ErrorAt
-errors_of expander source = unreported_with expander.held (unreported_of source)
+errors_of expander source = unreported_with expander.held (all_unreported source)
+
+-- whether an error was read is a matter of the text that is read
+but_all : (held : Option (PlacedStep Read)) (source : Source) → IsReportedBut held (unreported_of source) → IsReportedBut held (all_unreported source)
+but_all (Some (Err (Error fault))) source h = tt
+but_all _ source h = h
+
+but_own : (held : Option (PlacedStep Read)) (source : Source) → IsReportedBut held (all_unreported source) → IsReportedBut held (unreported_of source)
+but_own (Some (Err (Error fault))) source h = tt
+but_own _ source h = h
 
 module _ (rules : Rules) where
   abbrev passes_dead : Bool
@@ -66,8 +76,8 @@ module _ (rules : Rules) where
 
   reads_tell : (r s : Reader) (step : PlacedStep Read) → Reads r step s → GoesBy rules r → StepReports passes_dead step (unreported_in r) (unreported_in s)
   reads_tell (of_source old) (of_source new) step h by =
-      rw h.is (unpainted_tells old.text passes_dead h.given (unreported_of old) (unreported_of new)
-      (subst (λ (rs : Rules). StepReports rs.passes_dead_errors h.given (unreported_of old) (unreported_of new)) by h.reports))
+      subst (λ (rs : Rules). StepReports rs.passes_dead_errors step (all_unreported old) (all_unreported new)) by
+      (texts_tell old new step h)
   reads_tell (of_list old) (of_list new) step h by = step_same passes_dead step _ _ refl
   reads_tell (of_source old) (of_list new) step h by = absurd h
   reads_tell (of_list old) (of_source new) step h by = absurd h
@@ -77,7 +87,7 @@ module _ (rules : Rules) where
   moves_tell [] gs r s move h by = reads_tell r s move h.1 by
   moves_tell (f ∷ fs) gs r s move h by = step_same passes_dead move (unreported_in r) (unreported_in s) (ap unreported_in h.0)
 
-  moves_by : (fs gs : List Frame) (r s : Reader) (move : PlacedStep Read) → Moves fs r move gs s → GoesBy rules r → wants_memory move ≡ false → GoesBy rules s
+  pub moves_by : (fs gs : List Frame) (r s : Reader) (move : PlacedStep Read) → Moves fs r move gs s → GoesBy rules r → wants_memory move ≡ false → GoesBy rules s
   moves_by [] gs r s move h by reported = reads_by rules r s move h.1 by reported
   moves_by (f ∷ fs) gs r s move h by reported = rw h.0 by
 
@@ -254,7 +264,7 @@ module _ (rules : Rules) where
   -- What a turn leaves of the errors: those that are not passed, but for the fault that it gives.
   abbrev pub ErrorsLeft : PlacedStep Read → List ErrorAt → Expander → Source → Type 0
   ErrorsLeft (Err (Error fault)) errors n new =
-      (n.held ≡ None) × PassesErrors passes_dead errors (with_read (unplaced fault) new.error_place (unreported_of new).later) × (new.rules ≡ rules)
+      (n.held ≡ None) × PassesErrors passes_dead errors (with_read (unplaced fault) new.error_place (all_unreported new).later) × (new.rules ≡ rules)
   ErrorsLeft _ errors n new = IsReported rules n new × PassesErrors passes_dead errors (errors_of n new)
 
   -- the same of errors before those
@@ -263,9 +273,17 @@ module _ (rules : Rules) where
   left_then (Err (Error fault)) errors between n new h k = (k.0, passes_then passes_dead errors between _ h k.1, k.2)
   left_then _ errors between n new h k = (k.0, passes_then passes_dead errors between _ h k.1)
 
+  -- the rules stay
+  pub left_rules : (step : PlacedStep Read) (errors : List ErrorAt) (n : Expander) (new : Source) → ErrorsLeft step errors n new → new.rules ≡ rules
+  left_rules (Err (Error fault)) errors n new h = h.2
+  left_rules _ errors n new h = h.0.1
+
+  reported_own : (n : Expander) (new : Source) → IsReportedFirst n (of_source new) → IsReported rules n new
+  reported_own n new h = (but_own n.held new h.0, h.1)
+
   clear_left : (step : PlacedStep Read) (errors : List ErrorAt) (n : Expander) (new : Source) → IsClear errors n (of_source new) → ErrorsLeft step errors n new
   clear_left (Err (Error fault)) errors n new c = (c.free, rw c.leaves.1 c.leaves.0, c.leaves.2)
-  clear_left _ errors n new c = (clear_reported errors n (of_source new) c, clear_passes errors n (of_source new) c)
+  clear_left _ errors n new c = (reported_own n new (clear_reported errors n (of_source new) c), clear_passes errors n (of_source new) c)
 
   exit_left : (exit : PlacedExit) (errors : List ErrorAt) (n : Expander) (new : Source) → (n.held ≡ None)
       × Leaves (fault_of_exit exit) errors (of_source new) → wants_memory {T = Token} (Err exit) ≡ false → ErrorsLeft (Err exit) errors n new
@@ -283,7 +301,7 @@ module _ (rules : Rules) where
 
   follows_left : (levels : ℕ) (source : Source) (t : PlacedStep Taken) (errors : List ErrorAt) (k n : Expander) (new : Source) (step : PlacedStep Read)
       → FollowsTurn levels source t k step n → TakenLeaves t errors k (of_source new) → wants_memory step ≡ false → ErrorsLeft step errors n new
-  follows_left levels source (Ok (taken.Token read)) errors k n new step f h reported = rw (f.0, f.1) h
+  follows_left levels source (Ok (taken.Token read)) errors k n new step f h reported = rw (f.0, f.1) (reported_own k new h.0, h.1)
   follows_left levels source (Ok (taken.Call call)) errors k n new step f h reported = call_left levels source call errors k n new step f h
   follows_left levels source (Err exit) errors k n new step f h reported = rw (f.0, f.1) (exit_left exit errors k new h (rw f.0 at reported))
 
@@ -292,4 +310,4 @@ module _ (rules : Rules) where
       → wants_memory step ≡ false → IsReported rules m old → ErrorsLeft step (errors_of m old) n new
   turn_errors levels m n old new step h wants reported =
       follows_left levels new h.taken (errors_of m old) h.between n new step h.follows
-      (turn_leaves m h.between (of_source old) (of_source new) h.taken h.turns reported) wants
+      (turn_leaves m h.between (of_source old) (of_source new) h.taken h.turns (but_all m.held old reported.0, reported.1)) wants

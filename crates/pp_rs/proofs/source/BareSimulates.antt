@@ -17,7 +17,7 @@ use Rattle.pp_rs.proofs.source.DirectiveBeforeLemmas.{begins_with_hash, hash_in_
 use Rattle.pp_rs.proofs.blocks.RememberedLemmas.{begins_no_text}
 use Rattle.pp_rs.proofs.source.DirectivePlaceLemmas.{one_after, off_line_after_end}
 use Rattle.pp_macros.proofs.work.QuietLemmas.{is_bare, begins_bare, lone_ends}
-use Rattle.pp_rs.proofs.source.Simulates.{Simulates}
+use Rattle.pp_rs.proofs.source.Simulates.{SimulatesIn}
 use Rattle.pp_rs.proofs.source.SkippedLemmas.{bare_quiet}
 use Rattle.pp_rs.proofs.source.StandsAfterLemmas.{lined_here}
 use Rattle.pp_rs.proofs.source.StepHereLemmas.{pauses_here}
@@ -33,7 +33,7 @@ module _ {old : Source} {r : SourceReader} (s : StandsForReader old r) (move : P
       → {note : Note} → notes_text note ≡ false
       → (is_live_in (last_block old.blocks) ≡ true → is_on_directive_line r.items (suc (suc r.position)) ≡ false)
       → AddsDirective 2 old.rest (notes_directive note) → act r ≡ pause_at (advanced_by 2 r)
-      → Pauses 2 note old.blocks old move new → Simulates move r new
+      → Pauses 2 note old.blocks old move new → SimulatesIn old.text move r new
   bare_passes {shown} e bare none text off adds acts h =
       let b = begins_bare old.rest shown bare e in
       pauses_here s move new acts (
@@ -45,10 +45,10 @@ module _ {old : Source} {r : SourceReader} (s : StandsForReader old r) (move : P
 
   -- a number sign alone on its line
   pub lone_passes : sight_of old.rest ≡ sight.Lone → act r ≡ pause_at (advanced_by 2 r) → Pauses 2 directive_line old.blocks old move new
-      → Simulates move r new
+      → SimulatesIn old.text move r new
   lone_passes e a h =
       let b = begins_bare old.rest sight.Lone refl e in
-      let front = sym s.rest ∙ b.front in
+      let front = sym s.here.rest ∙ b.front in
       bare_passes e refl (λ position. refl) refl
       (λ is. off_line_after_end r.items (suc r.position) b.name b.after (one_after r.items r.position b.hash (b.name ∷ b.after) front)
       (lone_ends b.hash b.name b.after (b.seen b.after)))
@@ -56,7 +56,7 @@ module _ {old : Source} {r : SourceReader} (s : StandsForReader old r) (move : P
 
   -- in dead text one before what is no word
   pub no_word_passes : is_live_in (last_block old.blocks) ≡ false → (fault : Fault) → sight_of old.rest ≡ sight.NoWord fault
-      → act r ≡ pause_at (advanced_by 2 r) → Pauses 2 unnoted old.blocks old move new → Simulates move r new
+      → act r ≡ pause_at (advanced_by 2 r) → Pauses 2 unnoted old.blocks old move new → SimulatesIn old.text move r new
   no_word_passes dead fault e a h =
       bare_passes e refl (λ position. refl) refl (λ alive. let bad : true ≡ false = sym alive ∙ dead in cc)
       (no_word_adds old.rest fault e (lined_here old r s)) a h

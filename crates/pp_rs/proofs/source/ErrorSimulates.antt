@@ -17,7 +17,7 @@ use Rattle.pp_directives.specs.inner.Lined.{AreLined}
 use Rattle.pp_rs.specs.inner.Stands.{StandsForReader}
 use Rattle.pp_rs.proofs.source.DirectiveBeforeLemmas.{AddsDirective, item_adds_none}
 use Rattle.pp_rs.proofs.source.ErrorFrontLemmas.{ErrorInFront, alone, after_hash, error_in_front}
-use Rattle.pp_rs.proofs.source.Simulates.{Simulates}
+use Rattle.pp_rs.proofs.source.Simulates.{SimulatesIn}
 use Rattle.pp_rs.proofs.source.SkippedLemmas.{bare_quiet}
 use Rattle.pp_rs.proofs.source.StandsAfterLemmas.{lined_here, ended_here}
 use Rattle.pp_rs.proofs.source.StandsQuietLemmas.{stands_first, stands_two}
@@ -33,7 +33,7 @@ error_adds fault rest b lined after =
 module _ {old : Source} {r : SourceReader} (s : StandsForReader old r) (move : PlacedStep Token) (new : Source)
     (dead : is_live_in (last_block old.blocks) ≡ false) (fault : Fault) (e : sight_of old.rest ≡ sight.Fault fault) where
   passes_by : ErrorInFront fault old.rest → act r ≡ pause_at (advanced_by (error_length old.rest) r)
-      → Makes unnoted unchanged (passing (error_length old.rest)) old move new → Simulates move r new
+      → Makes unnoted unchanged (passing (error_length old.rest)) old move new → SimulatesIn old.text move r new
   passes_by (alone f one) acts h =
       pauses_here s move new (acts ∙ ap (λ (n : ℕ). pause_at (advanced_by n r)) one) (
         h.0,
@@ -49,6 +49,6 @@ module _ {old : Source} {r : SourceReader} (s : StandsForReader old r) (move : P
 
   -- by the rules an error is passed or given
   pub error_simulates : (passed : Bool) → act r ≡ perform (if passed then passing (error_length old.rest) else failing fault) r
-      → Makes unnoted unchanged (if passed then passing (error_length old.rest) else failing fault) old move new → Simulates move r new
+      → Makes unnoted unchanged (if passed then passing (error_length old.rest) else failing fault) old move new → SimulatesIn old.text move r new
   error_simulates true acts h = passes_by (error_in_front fault old.rest e (ended_here old r s)) acts h
-  error_simulates false acts h = fails_here s move new acts h.0
+  error_simulates false acts h = fails_here s move new acts refl h.0 h.1.around

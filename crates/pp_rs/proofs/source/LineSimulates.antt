@@ -11,8 +11,9 @@ use Rattle.pp_model.specs.Definitions.{Definition, Definitions, with_change}
 use Rattle.pp_model.specs.Emitting.{answers_at, expansion_limit}
 use Rattle.pp_model.specs.Sights.{sight_of}
 use Rattle.pp_model.specs.Blocks.{part_of}
-use Rattle.pp_model.specs.SourceReader.{SourceReader}
-use Rattle.pp_model.specs.Moves.{BlockFacts, Effect, gives_item, passes, defines, undefines, tests, decides, renumbers, directive_move}
+use Rattle.pp_model.specs.SourceReader.{Earlier, SourceReader}
+use Rattle.pp_model.specs.Lines.{include_line}
+use Rattle.pp_model.specs.Moves.{BlockFacts, Effect, gives_item, asks, passes, defines, undefines, tests, decides, renumbers, directive_move}
 use Rattle.pp_model.specs.inner.Moves.{taking_more}
 use Rattle.pp_model.specs.Acts.{defined_in, pause_at, outcome_at, advanced_by, decided, effect_on, perform, act}
 use Rattle.pp_model.specs.inner.Acts.{after_line, after_condition}
@@ -22,6 +23,7 @@ use Rattle.pp_model.specs.declared.block.Part.{Part}
 use Rattle.pp_model.specs.declared.block.Part.TheVariants as part
 use Rattle.pp_model.specs.declared.definition.Named.{Named}
 use Rattle.pp_model.specs.declared.directive.Directive.{Directive}
+use Rattle.pp_model.specs.declared.outcome.IncludeLine.{IncludeLine}
 use Rattle.pp_model.specs.declared.outcome.Outcome.TheVariants as outcome
 use Rattle.pp_model.specs.declared.sight.Sight.TheVariants as sight
 use Rattle.pp_model.specs.declared.step.Step.{Step as Did}
@@ -32,20 +34,21 @@ use Rattle.pp_macros.specs.Item.{PlacedStep}
 use Rattle.pp_macros.specs.inner.Defined.{meaning_of}
 use Rattle.pp_macros.specs.inner.OpenBlocks.{last_block, outer_blocks, with_last, kept_facts, facts_among, is_live_in, block_parted, block_branched, block_change}
 use Rattle.pp_macros.specs.declared.blocks.OpenBlock.{OpenBlock}
-use Rattle.pp_macros.specs.inner.Source.{Source, Pauses, DefinesOver, HasEffect, holds, faulty, numbers, unnumbered as faulty_number, Makes}
+use Rattle.pp_macros.specs.inner.Source.{Source, had_text, is_first_directive, Pauses, DefinesOver, HasEffect, holds, faulty, numbers, unnumbered as faulty_number, Makes}
 use Rattle.pp_macros.specs.inner.SourceMoves.{directive_line}
 use Rattle.pp_rs.specs.inner.Stands.{StandsForReader}
 use Rattle.pp_macros.proofs.work.DirectiveLineLemmas.{begins_directive, quiet_word}
 use Rattle.pp_directives.proofs.ConditionActsLemmas.{with_last_is}
+use Rattle.pp_rs.proofs.source.AroundLemmas.{is_deep, same_earlier}
 use Rattle.pp_rs.proofs.source.DirectiveBeforeLemmas.{hash_in_front, word_adds}
 use Rattle.pp_rs.proofs.blocks.BlockStackLemmas.{mapped_some}
 use Rattle.pp_rs.proofs.blocks.BranchLemmas.{skipped_dead, read_untaken}
-use Rattle.pp_rs.proofs.source.Simulates.{Simulates}
+use Rattle.pp_rs.proofs.source.Simulates.{SimulatesIn}
 use Rattle.pp_rs.proofs.source.StandsAfterLemmas.{stands_with}
 use Rattle.pp_rs.proofs.source.StandsBlockLemmas.{opened_read, opened_unread, closed_last, parted_last, skipped_last, decided_last}
 use Rattle.pp_rs.proofs.source.StandsLineLemmas.{stands_line, line_stays}
 use Rattle.pp_rs.proofs.source.StandsQuietLemmas.{stands_two}
-use Rattle.pp_rs.proofs.source.StepHereLemmas.{whole_line, PausesAt, gives_here, line_here, fails_here, pauses_here, passes_line}
+use Rattle.pp_rs.proofs.source.StepHereLemmas.{whole_line, PausesAt, gives_here, line_here, faulty_here, fails_here, pauses_here, passes_line}
 
 defined_now : {old : Source} {r : SourceReader} (s : StandsForReader old r) (name : Name) {found : Option Definition}
     → meaning_of old.definitions name ≡ found → r.definitions name ≡ found
@@ -80,25 +83,37 @@ module _ {old : Source} {r : SourceReader} (s : StandsForReader old r) (move : P
       subst (λ (blocks : List OpenBlock). Pauses (whole_line old.rest) directive_line blocks old move new) (is ∙ with_last_is change old.blocks block last)
       (changed p its (whole_line old.rest) condition h)
 
-  plain_simulates : part_of directive ≡ None → ActsBy passes → Has passes → Simulates move r new
+  plain_simulates : part_of directive ≡ None → ActsBy passes → Has passes → SimulatesIn old.text move r new
   plain_simulates its a h = let there = changed None its (whole_line old.rest) None h in passes_line s move new a (there.0, line_stays s e its there.1 there.2)
 
   item_simulates : part_of directive ≡ None → (value : Bool → Bool → TokenValue) → ActsBy (gives_item value word) → Has (gives_item value word)
-      → Simulates move r new
+      → SimulatesIn old.text move r new
   item_simulates its value a h =
-      let shown = value old.has_text (not (old.has_directive || old.has_text)) in
+      let shown = value (had_text old) (is_first_directive old) in
       let same : act r ≡ outcome_at (outcome.Token (record { value = shown; location = word })) (advanced_by (whole_line old.rest) r) =
-      rw (s.remembers_text, s.remembers_directive) a in
+      a ∙ ap (λ (before : Earlier). outcome_at (outcome.Token (record { value = value before.text (not (before.directive || before.text)); location = word }))
+      (advanced_by (whole_line old.rest) r)) (sym (same_earlier s)) in
       rw h.0 (record {
         after = after_line r;
         steps = gives_here s (line_here s (λ n. outcome_at (outcome.Token (record { value = shown; location = word })) (advanced_by n r)) same);
         stands = line_stays s e its h.1 h.2;
       })
 
+  -- an `#include` line that asks for its text
+  asking_simulates : part_of directive ≡ None → (line : IncludeLine) → ActsBy (asks line) → Has (asks line) → SimulatesIn old.text move r new
+  asking_simulates its line a h =
+      let stands : StandsForReader new (after_line r) = line_stays s e its h.1 h.2 in
+      rw h.0 (record {
+        after = after_line r;
+        steps = gives_here s (line_here s (λ n. outcome_at (outcome.Include line) (advanced_by n r)) a);
+        asked = λ asked. stands;
+        deep = is_deep stands;
+      })
+
   -- the name stood for nothing, for the same or for something else
   define_over : part_of directive ≡ None → (named : Named) → act r ≡ record { step = step.Defines named; after = after_line r }
       → (before : Option Definition) → meaning_of old.definitions named.name ≡ before
-      → DefinesOver named before (whole_line old.rest) directive_line old move new → Simulates move r new
+      → DefinesOver named before (whole_line old.rest) directive_line old move new → SimulatesIn old.text move r new
   define_over its named a None known h =
       let t = record (after_line r) { definitions = with_change r.definitions named.name (Some named.definition) } in
       rw h.0 (record {
@@ -114,19 +129,17 @@ module _ {old : Source} {r : SourceReader} (s : StandsForReader old r) (move : P
         stands = line_stays s e its h.2 h.3;
       })
   define_over its named a (Some before) known (inr h) =
-      rw h.1 (record {
-        after = after_line r;
-        steps = steps_by (step.Defines named) _ (after_line r) a (rw (defined_now s named.name known, s.text) (refl, inr (h.0, refl)));
-      })
+      rw h.1 (faulty_here s move new (after_line r) refl
+      (steps_by (step.Defines named) _ (after_line r) a (rw (defined_now s named.name known, s.here.text) (refl, inr (h.0, refl)))) refl h.2.around)
 
-  define_simulates : part_of directive ≡ None → (named : Named) → ActsBy (defines named) → Has (defines named) → Simulates move r new
+  define_simulates : part_of directive ≡ None → (named : Named) → ActsBy (defines named) → Has (defines named) → SimulatesIn old.text move r new
   define_simulates its named a h =
       let there = line_here s (λ n. record { step = step.Defines (defined_in r.text named); after = advanced_by n r }) a in
       define_over its (defined_in old.text named)
-      (subst (λ (text : ℕ). act r ≡ record { step = step.Defines (defined_in text named); after = after_line r }) s.text there)
+      (subst (λ (text : ℕ). act r ≡ record { step = step.Defines (defined_in text named); after = after_line r }) s.here.text there)
       (meaning_of old.definitions named.name) refl h
 
-  undefine_simulates : part_of directive ≡ None → (name : Name) → ActsBy (undefines name) → Has (undefines name) → Simulates move r new
+  undefine_simulates : part_of directive ≡ None → (name : Name) → ActsBy (undefines name) → Has (undefines name) → SimulatesIn old.text move r new
   undefine_simulates its name a h =
       pauses_here s move new (line_here s (λ n. pause_at (record (advanced_by n r) { definitions = with_change r.definitions name None })) a) (
         h.0,
@@ -135,39 +148,41 @@ module _ {old : Source} {r : SourceReader} (s : StandsForReader old r) (move : P
       )
 
   number_simulates : part_of directive ≡ None → (tokens : List Token) → ActsBy (renumbers word tokens) → Has (renumbers word tokens)
-      → Simulates move r new
+      → SimulatesIn old.text move r new
   number_simulates its tokens a (numbers n number pauses) =
       let there = line_here s (λ n. record { step = step.LineNumber word tokens; after = advanced_by n r }) a in
       let offset = λ (rules : Rules). pos n -ℤ pos (numbered_line rules word.line) in
       rw pauses.0 (record {
         after = after_line_number r word n;
-        steps = steps_by (step.LineNumber word tokens) None (after_line_number r word n) there (Ok n, rw (s.text, s.definitions, s.rules, s.line_offset) number, (refl, refl));
+        steps = steps_by (step.LineNumber word tokens) None (after_line_number r word n) there (Ok n, rw (s.here.text, s.definitions, s.rules, s.here.line_offset) number, (refl, refl));
         stands = line_stays (stands_with old r s old.definitions r.definitions old.contents r.contents (offset old.rules) (offset r.rules) s.definitions s.contents (ap offset s.rules)) e its pauses.1 pauses.2;
       })
   number_simulates its tokens a (faulty_number fault number failed left) =
       let there = line_here s (λ n. record { step = step.LineNumber word tokens; after = advanced_by n r }) a in
-      rw failed (record { after = r; steps = steps_by (step.LineNumber word tokens) _ r there (Err fault, rw (s.text, s.definitions, s.rules, s.line_offset) number, (refl, refl)) })
+      rw failed (faulty_here s move new r refl
+      (steps_by (step.LineNumber word tokens) _ r there (Err fault, rw (s.here.text, s.definitions, s.rules, s.here.line_offset) number, (refl, refl))) refl left.around)
 
   -- a line whose condition holds or not, or is at fault
   condition_simulates : (tokens : List Token) → ActsBy (decides word tokens)
       → ((value : Bool) → Pauses (whole_line old.rest) directive_line (block_change (part_of directive) word (Some value) old.blocks) old move new
       → PausesAt move new (after_condition r value))
-      → Has (decides word tokens) → Simulates move r new
+      → Has (decides word tokens) → SimulatesIn old.text move r new
   condition_simulates tokens a stands (holds value condition pauses) =
       let acts = line_here s (λ n. record { step = step.Condition word tokens; after = advanced_by n r }) a in
       let there = stands value pauses in
       rw there.0 (record {
         after = after_condition r value;
-        steps = steps_by (step.Condition word tokens) None (after_condition r value) acts (Ok value, rw (s.text, s.definitions, s.rules, s.line_offset) condition, (refl, refl));
+        steps = steps_by (step.Condition word tokens) None (after_condition r value) acts (Ok value, rw (s.here.text, s.definitions, s.rules, s.here.line_offset) condition, (refl, refl));
         stands = there.1;
       })
   condition_simulates tokens a stands (faulty fault condition failed left) =
       let acts = line_here s (λ n. record { step = step.Condition word tokens; after = advanced_by n r }) a in
-      rw failed (record { after = r; steps = steps_by (step.Condition word tokens) _ r acts (Err fault, rw (s.text, s.definitions, s.rules, s.line_offset) condition, (refl, refl)) })
+      rw failed (faulty_here s move new r refl
+      (steps_by (step.Condition word tokens) _ r acts (Err fault, rw (s.here.text, s.definitions, s.rules, s.here.line_offset) condition, (refl, refl))) refl left.around)
 
   -- lines of blocks: a block opens,
   ask_simulates : is_live_in (last_block old.blocks) ≡ true → part_of directive ≡ Some part.Opens → (asked : Bool → Bool) (name : Name)
-      → ActsBy (tests asked name) → Has (tests asked name) → Simulates move r new
+      → ActsBy (tests asked name) → Has (tests asked name) → SimulatesIn old.text move r new
   ask_simulates alive its asked name a h =
       let holds_now = asked (is_some (meaning_of old.definitions name)) in
       pauses_here s move new
@@ -176,24 +191,24 @@ module _ {old : Source} {r : SourceReader} (s : StandsForReader old r) (move : P
       (opened_read s e holds_now alive its (changed (Some part.Opens) its (whole_line old.rest) (Some holds_now) h))
 
   open_simulates : is_live_in (last_block old.blocks) ≡ true → part_of directive ≡ Some part.Opens → (tokens : List Token)
-      → ActsBy (decides word tokens) → Has (decides word tokens) → Simulates move r new
+      → ActsBy (decides word tokens) → Has (decides word tokens) → SimulatesIn old.text move r new
   open_simulates alive its tokens a h =
       condition_simulates tokens a (λ value pauses.
       opened_read s e value alive its (changed (Some part.Opens) its (whole_line old.rest) (Some value) pauses)) h
 
   unread_simulates : is_live_in (last_block old.blocks) ≡ false → part_of directive ≡ Some part.Opens → ActsBy passes
-      → Has passes → Simulates move r new
+      → Has passes → SimulatesIn old.text move r new
   unread_simulates dead its a h = passes_line s move new a (opened_unread s e dead its (changed (Some part.Opens) its (whole_line old.rest) None h))
 
   -- or the innermost one is parted or closes
   part_simulates : part_of directive ≡ Some part.Else → (found : BlockFacts) → facts_among old.blocks ≡ Some found → ActsBy passes → Has passes
-      → Simulates move r new
+      → SimulatesIn old.text move r new
   part_simulates its found is a h =
       let (block, last, facts) = mapped_some kept_facts (last_block old.blocks) found is in
       passes_line s move new a (parted_last s e block last its (last_changed (Some part.Else) its None block_parted refl block last h))
 
   skip_simulates : part_of directive ≡ Some part.Elif → (found : BlockFacts) → facts_among old.blocks ≡ Some found → skips found ≡ true
-      → ActsBy passes → Has passes → Simulates move r new
+      → ActsBy passes → Has passes → SimulatesIn old.text move r new
   skip_simulates its found is skipped a h =
       let (block, last, facts) = mapped_some kept_facts (last_block old.blocks) found is in
       let dead : skips (kept_facts block) ≡ true = ap skips facts ∙ skipped in
@@ -201,7 +216,7 @@ module _ {old : Source} {r : SourceReader} (s : StandsForReader old r) (move : P
       (last_changed (Some part.Elif) its None (block_branched None) refl block last h))
 
   choose_simulates : part_of directive ≡ Some part.Elif → (found : BlockFacts) → facts_among old.blocks ≡ Some found → skips found ≡ false
-      → (tokens : List Token) → ActsBy (decides word tokens) → Has (decides word tokens) → Simulates move r new
+      → (tokens : List Token) → ActsBy (decides word tokens) → Has (decides word tokens) → SimulatesIn old.text move r new
   choose_simulates its found is reads tokens a h =
       let (block, last, facts) = mapped_some kept_facts (last_block old.blocks) found is in
       let live : skips (kept_facts block) ≡ false = ap skips facts ∙ reads in
@@ -210,13 +225,13 @@ module _ {old : Source} {r : SourceReader} (s : StandsForReader old r) (move : P
       (last_changed (Some part.Elif) its (Some value) (block_branched (Some value)) refl block last pauses)) h
 
   close_simulates : part_of directive ≡ Some part.Closes → (found : BlockFacts) → facts_among old.blocks ≡ Some found → ActsBy passes → Has passes
-      → Simulates move r new
+      → SimulatesIn old.text move r new
   close_simulates its found is a h =
       let (block, last, facts) = mapped_some kept_facts (last_block old.blocks) found is in
       passes_line s move new a (closed_last s e block last its (changed (Some part.Closes) its (whole_line old.rest) None h))
 
   passes_simulates : (live : Bool) → is_live_in (last_block old.blocks) ≡ live → Passes live (facts_among old.blocks) directive → ActsBy passes → Has passes
-      → Simulates move r new
+      → SimulatesIn old.text move r new
   passes_simulates live alive (plain its) a h = plain_simulates its a h
   passes_simulates live alive (unread now its) a h = unread_simulates (alive ∙ now) its a h
   passes_simulates live alive (parting its found is none) a h = part_simulates its found is a h
@@ -224,13 +239,13 @@ module _ {old : Source} {r : SourceReader} (s : StandsForReader old r) (move : P
   passes_simulates live alive (closing its found is) a h = close_simulates its found is a h
 
   decides_simulates : (live : Bool) → is_live_in (last_block old.blocks) ≡ live → HasCondition live (facts_among old.blocks) directive
-      → (tokens : List Token) → ActsBy (decides word tokens) → Has (decides word tokens) → Simulates move r new
+      → (tokens : List Token) → ActsBy (decides word tokens) → Has (decides word tokens) → SimulatesIn old.text move r new
   decides_simulates live alive (opening now its) tokens a h = open_simulates (alive ∙ now) its tokens a h
   decides_simulates live alive (choosing its found is none reads) tokens a h = choose_simulates its found is reads tokens a h
 
   -- after an unknown word in dead text the line is dead text
   unknown_simulates : is_live_in (last_block old.blocks) ≡ false → part_of directive ≡ None → act r ≡ pause_at (advanced_by 2 r)
-      → Pauses 2 directive_line (block_change (part_of directive) word None old.blocks) old move new → Simulates move r new
+      → Pauses 2 directive_line (block_change (part_of directive) word None old.blocks) old move new → SimulatesIn old.text move r new
   unknown_simulates dead its a h =
       let b = begins_directive old.rest directive word e in
       let there = changed None its 2 None h in
@@ -246,16 +261,17 @@ module _ {old : Source} {r : SourceReader} (s : StandsForReader old r) (move : P
       → act r ≡ perform (taking_more 2 (directive_move old.rules live (facts_among old.blocks) directive word (drop 2 old.rest))) r
       → Makes directive_line (block_change (part_of directive) word)
       (taking_more 2 (directive_move old.rules live (facts_among old.blocks) directive word (drop 2 old.rest))) old move new
-      → Simulates move r new
+      → SimulatesIn old.text move r new
   directive_simulates live alive =
       directive_holds (λ m. act r ≡ perform (taking_more 2 m) r → Makes directive_line (block_change (part_of directive) word) (taking_more 2 m) old move new
-      → Simulates move r new)
+      → SimulatesIn old.text move r new)
       old.rules (facts_among old.blocks) word (drop 2 old.rest) live directive (record {
-        failing = λ fault a h. fails_here s move new a h.0;
-        refusing = λ fault a h. fails_here s move new a h.0;
+        failing = λ fault a h. fails_here s move new a refl h.0 h.1.around;
+        refusing = λ fault a h. fails_here s move new a refl h.0 h.1.around;
         unknown = λ now its a h. unknown_simulates (alive ∙ now) its a h;
         passing = λ why a h. passes_simulates live alive why a h;
         items = λ now its value is a h. item_simulates its value a h;
+        asking = λ now its a h. asking_simulates (ap part_of its) (include_line word (drop 2 old.rest)) a h;
         defining = λ now its named is a h. define_simulates its named a h;
         undefining = λ now its name a h. undefine_simulates its name a h;
         numbering = λ now its tokens a h. number_simulates its tokens a h;

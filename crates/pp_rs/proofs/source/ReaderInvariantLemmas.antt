@@ -1,6 +1,6 @@
--- What each step of a source, and each definition that is added, keeps for its reader holds of the reader in each state
--- of a run.
-use Rattle.std.proofs.Common.{List, [], sym, ap, subst, Option, Some, None}
+-- What each step of a source, each definition that is added and each text that is included keep for its reader holds of the
+-- reader in each state of a run.
+use Rattle.std.proofs.Common.{ℕ, true, List, [], sym, ap, subst, Option, Some, None}
 use Rattle.pp_lexer.specs.Lexed.{Seen}
 use Rattle.pp_lexer.specs.declared.rules.Rules.{Rules}
 use Rattle.pp_lexer.specs.declared.token.Token.{Token}
@@ -10,19 +10,20 @@ use Rattle.pp_model.specs.Reading.{Expander}
 use Rattle.pp_model.specs.Taking.{Fetches, held, listed, read, Takes}
 use Rattle.pp_model.specs.Calls.{Answers, Called, Calls}
 use Rattle.pp_model.specs.Emitting.{with_macro, Emits, itself, object, name_alone, call_refused, call}
-use Rattle.pp_model.specs.SourceReader.{SourceReader, reader_at_start}
+use Rattle.pp_model.specs.SourceReader.{SourceReader, reader_at_start, with_text}
 use Rattle.pp_model.specs.Reads.{Steps, Reads, here, later, source_reading}
-use Rattle.pp_model.specs.Run.{start_by}
+use Rattle.pp_model.specs.Run.{items_by, start_by}
 use Rattle.pp_model.specs.inner.Run.{after_addition as with_definition}
 use Rattle.pp_model.specs.RunStates.{IsReached}
 use Rattle.pp_model.specs.declared.read.Taken.{Taken}
 use Rattle.pp_model.proofs.RunLemmas.{each_state}
 use Rattle.pp_model.proofs.SearchLeadsLemmas.{call_leads}
 
--- each step keeps it, and so does a definition that is added
+-- each step keeps it, and so do a definition that is added and a text that is included
 pub record IsKept (A : Answers) (P : SourceReader → Type 0) : Type 0 where
   pub by_step : (o : Option Taken) (r t : SourceReader) → Steps A r o t → P r → P t
   pub by_definition : (name : Name) (tokens : List Token) (r : SourceReader) → P r → P (with_definition name tokens r)
+  pub by_text : (text : List ℕ) (rules : Rules) (r : SourceReader) → P r → P (with_text (items_by rules text) r)
 
 module _ (A : Answers) (P : SourceReader → Type 0) (kept : IsKept A P) where
   reading_keeps : (x : Taken) (r t : SourceReader) → Reads A r x t → P r → P t
@@ -53,4 +54,5 @@ module _ (A : Answers) (P : SourceReader → Type 0) (kept : IsKept A P) where
   pub reached_keeps : (rules : Rules) (source : List Seen) (e : Expander SourceReader) → IsReached A rules source e → P (reader_at_start rules source)
       → P e.reader
   reached_keeps rules source e reached h =
-      each_state A (λ f. P f.reader) (λ name tokens f. kept.by_definition name tokens f.reader) item_keeps (start_by rules source) e reached h
+      each_state A (λ f. P f.reader) (λ name tokens f. kept.by_definition name tokens f.reader) item_keeps true (λ may text rules f. kept.by_text text rules f.reader)
+      (start_by rules source) e reached h

@@ -26,14 +26,14 @@ use Rattle.pp_rs.proofs.source.StepHereLemmas.{whole_line, PausesAt}
 use Rattle.pp_rs.proofs.source.StandsLineLemmas.{block_line, line_adds, block_pauses}
 
 still_before : {old : Source} {r : SourceReader} (s : StandsForReader old r) → AreBefore (r.position + whole_line old.rest) r.truths
-still_before {old} {r} s = before_later r.position (r.position + whole_line old.rest) r.truths (omega arith) s.truths
+still_before {old} {r} s = before_later r.position (r.position + whole_line old.rest) r.truths (omega arith) s.here.truths
 
 module _ {old : Source} {r : SourceReader} (s : StandsForReader old r)
     {directive : Directive} {word : Location} (e : sight_of old.rest ≡ sight.Directive directive word) where
   adds_here : (p : Part) → part_of directive ≡ Some p → AddsLine r.items (block_line r word p) (r.position + whole_line old.rest)
   adds_here p is =
-      adds_one r.items (block_line r word p) (whole_line old.rest) _ s.lines
-      (subst (λ (items : List Seen). AddsLines r.position (whole_line old.rest) items (block_line r word p ∷ [])) s.rest (line_adds s e (Some p) is))
+      adds_one r.items (block_line r word p) (whole_line old.rest) _ s.here.lines
+      (subst (λ (items : List Seen). AddsLines r.position (whole_line old.rest) items (block_line r word p ∷ [])) s.here.rest (line_adds s e (Some p) is))
 
   module _ {move : PlacedStep Token} {new : Source} where
     -- a skipped line that opens a block
@@ -42,7 +42,7 @@ module _ {old : Source} {r : SourceReader} (s : StandsForReader old r)
     opened_unread dead its h =
         block_pauses s e r.truths (old.blocks ++ block_unread word ∷ []) its refl
         (opens_unread r.items (block_line r word part.Opens) (r.position + whole_line old.rest) (adds_here part.Opens its) r.truths
-        (before_unread r.position r.truths s.truths) old.blocks refl (live_now old r s ∙ dead) s.blocks) (still_before s) h
+        (before_unread r.position r.truths s.here.truths) old.blocks refl (live_now old r s ∙ dead) s.here.blocks) (still_before s) h
 
     -- a line whose condition is read in live text, and opens a block
     pub opened_read : (holds : Bool) → is_live_in (last_block old.blocks) ≡ true → part_of directive ≡ Some part.Opens
@@ -51,8 +51,8 @@ module _ {old : Source} {r : SourceReader} (s : StandsForReader old r)
         block_pauses s e (with_truth r.position holds r.truths) (old.blocks ++ block_opened word holds ∷ []) its
         (text_before_truth r.items r.position holds r.truths r.position (omega arith))
         (opens_read r.items (block_line r word part.Opens) (r.position + whole_line old.rest) (adds_here part.Opens its) r.truths holds old.blocks refl
-        (live_now old r s ∙ alive) s.blocks)
-        (before_more r.position (r.position + whole_line old.rest) holds r.truths (omega arith) s.truths) h
+        (live_now old r s ∙ alive) s.here.blocks)
+        (before_more r.position (r.position + whole_line old.rest) holds r.truths (omega arith) s.here.truths) h
 
     -- a line that closes the innermost block
     pub closed_last : (kept : OpenBlock) → last_block old.blocks ≡ Some kept → part_of directive ≡ Some part.Closes
@@ -69,7 +69,7 @@ module _ {old : Source} {r : SourceReader} (s : StandsForReader old r)
     parted_last kept found its h =
         block_pauses s e r.truths (outer_blocks old.blocks ++ block_parted kept ∷ []) its refl
         (parts_else r.items (block_line r word part.Else) (r.position + whole_line old.rest) (adds_here part.Else its) r.truths (outer_blocks old.blocks) kept
-        (split_here old r s kept found) refl (before_unread r.position r.truths s.truths)) (still_before s) h
+        (split_here old r s kept found) refl (before_unread r.position r.truths s.here.truths)) (still_before s) h
 
     -- an `#elif` of the innermost block that is skipped
     pub skipped_last : (kept : OpenBlock) → last_block old.blocks ≡ Some kept → part_of directive ≡ Some part.Elif → kept.live_around && not kept.taken ≡ false
@@ -78,7 +78,7 @@ module _ {old : Source} {r : SourceReader} (s : StandsForReader old r)
         block_pauses s e r.truths (outer_blocks old.blocks ++ block_skipped kept ∷ []) its refl
         (parts_skipped r.items (block_line r word part.Elif) (r.position + whole_line old.rest) (adds_here part.Elif its) r.truths
         (outer_blocks old.blocks) kept
-        (split_here old r s kept found) refl (before_unread r.position r.truths s.truths) skips) (still_before s) h
+        (split_here old r s kept found) refl (before_unread r.position r.truths s.here.truths) skips) (still_before s) h
 
     -- an `#elif` of the innermost block whose condition is read
     pub decided_last : (kept : OpenBlock) → last_block old.blocks ≡ Some kept → part_of directive ≡ Some part.Elif → kept.live_around ≡ true
@@ -90,4 +90,4 @@ module _ {old : Source} {r : SourceReader} (s : StandsForReader old r)
         (text_before_truth r.items r.position holds r.truths r.position (omega arith))
         (parts_read r.items (block_line r word part.Elif) (r.position + whole_line old.rest) (adds_here part.Elif its) r.truths (outer_blocks old.blocks) kept
         (split_here old r s kept found) holds refl around untaken)
-        (before_more r.position (r.position + whole_line old.rest) holds r.truths (omega arith) s.truths) h
+        (before_more r.position (r.position + whole_line old.rest) holds r.truths (omega arith) s.here.truths) h

@@ -62,7 +62,7 @@ module _ {old : Source} {r : SourceReader} (s : StandsForReader old r)
     remembers_line : (truths : Truths) (blocks : List OpenBlock)
         → has_live_text_before r.items truths r.position ≡ has_live_text_before r.items r.truths r.position
         → IsAfter (whole_line old.rest) directive_line blocks old new → IsRemembered new r.items truths (r.position + whole_line old.rest)
-    remembers_line truths blocks same b = line_remembered old new r.items r.truths r.position s.rest
+    remembers_line truths blocks same b = line_remembered old new r.items r.truths r.position s.here.rest
         (remembered_here old r s) directive word e truths same blocks b
 
     -- after a line that is none of a block
@@ -86,8 +86,6 @@ module _ {old : Source} {r : SourceReader} (s : StandsForReader old r)
     block_pauses {p} truths blocks is text stand before h = (
       h.0,
       after_line_is s r.definitions truths (stands_further old r s (whole_line old.rest) r.definitions truths (block_line r word p ∷ []) new
-          (line_there old.rest directive word e) h.1.rules h.1.text h.1.rest h.1.spent h.1.dead_for_good h.1.line_offset h.1.contents (same_meaning s new h.2) (line_adds (Some p) is)
-          (subst (λ (kept : List OpenBlock). StandForBlocks r.items truths kept (blocks_at r.items (r.position + whole_line old.rest)))
-          (sym h.1.blocks) stand) before
+          (line_there old.rest directive word e) h.1 (same_meaning s new h.2) (line_adds (Some p) is) stand before
           (remembers_line truths blocks text h.1)),
     )

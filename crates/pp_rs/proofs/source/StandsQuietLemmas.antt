@@ -3,13 +3,12 @@ use Rattle.std.proofs.Common.{◌≡◌, ◌∙◌, ℕ, suc, ◌+◌, ◌≤◌
 use Rattle.pp_lexer.specs.Lexed.{Seen}
 use Rattle.pp_model.specs.Definitions.{Definitions}
 use Rattle.pp_model.specs.Sights.{sight_of, is_text, is_directive_hash}
-use Rattle.pp_model.specs.Blocks.{block_lines, Block, blocks_at}
+use Rattle.pp_model.specs.Blocks.{block_lines, Block}
 use Rattle.pp_model.specs.SourceReader.{SourceReader, is_on_directive_line}
 use Rattle.pp_model.specs.Acts.{advanced_by}
 use Rattle.pp_model.specs.declared.sight.Sight.{Sight}
 use Rattle.pp_macros.specs.inner.Defined.{meaning_of}
 use Rattle.pp_macros.specs.inner.OpenBlocks.{last_block, is_live_in, StandForBlocks}
-use Rattle.pp_macros.specs.declared.blocks.OpenBlock.{OpenBlock}
 use Rattle.pp_macros.specs.inner.SourceMoves.{Note, notes_text, notes_directive}
 use Rattle.pp_macros.specs.inner.Source.{Source, IsAfter}
 use Rattle.pp_rs.specs.inner.Stands.{StandsForReader}
@@ -31,10 +30,9 @@ module _ {old : Source} {r : SourceReader} (s : StandsForReader old r) {new : So
       → definitions ≡ meaning_of new.definitions → AddsLines r.position n old.rest [] → IsRemembered new r.items r.truths (r.position + n)
       → StandsForReader new (record r { position = r.position + n; definitions = definitions })
   stands_quiet n definitions within b means adds remembered =
-      stands_further old r s n definitions r.truths [] new within b.rules b.text b.rest b.spent b.dead_for_good b.line_offset b.contents means adds
-      (subst (λ (kept : List OpenBlock). StandForBlocks r.items r.truths kept (blocks_at r.items (r.position + n))) (sym b.blocks)
-      (subst (λ (blocks : List Block). StandForBlocks r.items r.truths old.blocks blocks) (sym (blocks_stay old r s n adds)) s.blocks))
-      (before_later r.position (r.position + n) r.truths (omega arith) s.truths) remembered
+      stands_further old r s n definitions r.truths [] new within b means adds
+      (subst (λ (blocks : List Block). StandForBlocks r.items r.truths old.blocks blocks) (sym (blocks_stay old r s n adds)) s.here.blocks)
+      (before_later r.position (r.position + n) r.truths (omega arith) s.here.truths) remembered
 
   -- the same where no definition changes
   stands_same : (n : ℕ) {note : Note} → n ≤ length old.rest → IsAfter n note old.blocks old new → new.definitions ≡ old.definitions
@@ -50,7 +48,7 @@ module _ {old : Source} {r : SourceReader} (s : StandsForReader old r) {new : So
   stands_first {live} alive f {note} noted none b same =
       stands_same 1 (omega (arith, ap length f.front)) b same
       (λ after. ap (λ items. block_lines r.position (take 1 items ++ after)) f.front ∙ quiet_item r.position f.first after f.quiet)
-      (one_remembered old new r.items r.truths r.position s.rest (remembered_here old r s) live alive
+      (one_remembered old new r.items r.truths r.position s.here.rest (remembered_here old r s) live alive
       (live_now old r s ∙ alive) f.first f.later f.front f.quiet note noted none b)
 
   -- so it is after a newline, a token of the text or a number sign that begins no line
@@ -70,5 +68,5 @@ module _ {old : Source} {r : SourceReader} (s : StandsForReader old r) {new : So
       → StandsForReader new (advanced_by 2 r)
   stands_two off {shown} e {note} a b rest hash none text adds front quiet after same =
       stands_same 2 (omega (arith, ap length front)) after same (λ later. ap (λ items. block_lines r.position (take 2 items ++ later)) front ∙ quiet later)
-      (two_remembered old new r.items r.truths r.position s.rest (remembered_here old r s) off shown e a b rest front hash none note text
+      (two_remembered old new r.items r.truths r.position s.here.rest (remembered_here old r s) off shown e a b rest front hash none note text
       (notes_directive note) refl adds after)

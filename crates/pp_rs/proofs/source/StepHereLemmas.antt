@@ -1,10 +1,10 @@
 -- What the reader that a source stands for does at its position: the source's move, and the step for that move.
-use Rattle.std.proofs.Common.{◌≡◌, ◌∙◌, ℕ, ◌+◌, Bool, List, drop, refl, ap, sym, Option, Some, None}
-use Rattle.std.specs.Prelude.{Err, option_map}
+use Rattle.std.proofs.Common.{◌≡◌, ◌∙◌, ℕ, ◌+◌, Bool, true, false, List, length, drop, refl, ap, sym, Option, Some, None}
+use Rattle.std.specs.Prelude.{Err, option_map, is_some}
 use Rattle.pp_lexer.specs.Lexed.{Seen}
 use Rattle.pp_lexer.specs.declared.token.Token.{Token}
 use Rattle.pp_model.specs.Painting.{taken_of}
-use Rattle.pp_model.specs.Places.{Fault, placed}
+use Rattle.pp_model.specs.Places.{Fault, PlacedFault, placed}
 use Rattle.pp_model.specs.Lines.{line_length}
 use Rattle.pp_model.specs.Sights.{sight_of}
 use Rattle.pp_model.specs.Blocks.{Block, innermost, is_live}
@@ -15,6 +15,7 @@ use Rattle.pp_model.specs.inner.Acts.{items_left, after_line}
 use Rattle.pp_model.specs.Emitting.{answers_at, expansion_limit}
 use Rattle.pp_model.specs.Reads.{Steps}
 use Rattle.pp_model.proofs.ReadsLemmas.{act_does}
+use Rattle.pp_model.specs.declared.read.Taken.TheVariants as taken
 use Rattle.pp_model.specs.declared.outcome.Outcome.{Outcome}
 use Rattle.pp_model.specs.declared.outcome.Outcome.TheVariants as outcome
 use Rattle.pp_model.specs.declared.sight.Sight.{Sight}
@@ -25,7 +26,8 @@ use Rattle.pp_macros.specs.declared.blocks.OpenBlock.{OpenBlock}
 use Rattle.pp_macros.specs.inner.Source.{Source}
 use Rattle.pp_rs.specs.inner.Stands.{StandsForReader}
 use Rattle.pp_macros.specs.declared.step.PlacedExit.TheVariants.{Error, Continue}
-use Rattle.pp_rs.proofs.source.Simulates.{Simulates}
+use Rattle.pp_rs.proofs.source.AroundLemmas.{is_deep}
+use Rattle.pp_rs.proofs.source.Simulates.{SimulatedFault, SimulatesIn}
 use Rattle.pp_rs.proofs.source.StandsAfterLemmas.{live_now, block_here, none_here, innermost_here}
 
 -- how many items a directive's line takes, from its number sign to its end
@@ -52,28 +54,41 @@ module _ {old : Source} {r : SourceReader} (s : StandsForReader old r) where
       let same_facts : facts_here r ≡ facts_among old.blocks = facts_with (last_block old.blocks) refl in
       ap (λ now. perform (move_at r.rules now (facts_here r) (sight_of (items_left r)) (items_left r)) r) live_here
       ∙ ap (λ facts. perform (move_at r.rules live facts (sight_of (items_left r)) (items_left r)) r) same_facts
-      ∙ ap (λ rest. perform (move_at r.rules live (facts_among old.blocks) (sight_of rest) rest) r) (sym s.rest)
+      ∙ ap (λ rest. perform (move_at r.rules live (facts_among old.blocks) (sight_of rest) rest) r) (sym s.here.rest)
       ∙ ap (λ sight. perform (move_at r.rules live (facts_among old.blocks) sight old.rest) r) e
       ∙ ap (λ rules. perform (move_at rules live (facts_among old.blocks) shown old.rest) r) s.rules
 
   -- the reader's step gives what is given there
-  pub gives_here : {o : Outcome} {t : SourceReader} → act r ≡ outcome_at o t → Steps (answers_at expansion_limit) r (Some (taken_of r.text o)) t
-  gives_here {o} {t} a = act_does (answers_at expansion_limit) (step.Given o) t r (Some (taken_of r.text o)) t a (refl, refl)
+  pub gives_here : {o : Outcome} {t : SourceReader} → act r ≡ outcome_at o t → Steps (answers_at expansion_limit) r (Some (taken_of old.text o)) t
+  gives_here {o} {t} a =
+      act_does (answers_at expansion_limit) (step.Given o) t r (Some (taken_of old.text o)) t a
+      (ap (λ (text : ℕ). Some (taken_of text o)) (sym s.here.text), refl)
 
   -- what takes the source's whole line takes the reader's
   pub line_here : (next : ℕ → Acted) → act r ≡ next (whole_line old.rest) → act r ≡ next (whole_line (items_left r))
-  line_here next a = a ∙ ap (λ rest. next (whole_line rest)) s.rest
+  line_here next a = a ∙ ap (λ rest. next (whole_line rest)) s.here.rest
 
   module _ (move : PlacedStep Token) (new : Source) where
+    -- a fault that asks for no text is the reader's, where the texts around stay
+    pub faulty_here : {fault : PlacedFault} (t : SourceReader) → fault.1.asks ≡ None → Steps (answers_at expansion_limit) r (Some (taken.Fault fault)) t
+        → t.around ≡ r.around → new.around ≡ old.around → SimulatedFault fault r new
+    faulty_here t quiet steps same kept = record {
+      after = t;
+      steps = steps;
+      asked = λ asks. let bad : true ≡ false = sym asks ∙ ap is_some quiet in cc;
+      deep = ap length kept ∙ is_deep s ∙ ap length (sym same);
+    }
+
     -- where a fault is given, the step that gives it is the reader's
-    pub fails_here : {fault : Fault} {t : SourceReader} → act r ≡ outcome_at (outcome.Fault fault) t → move ≡ Err (Error (placed old.text fault)) → Simulates move r new
-    fails_here {fault} {t} a m = rw (m, ← s.text) (record { after = t; steps = gives_here a })
+    pub fails_here : {fault : Fault} {t : SourceReader} → act r ≡ outcome_at (outcome.Fault fault) t → t.around ≡ r.around
+        → move ≡ Err (Error (placed old.text fault)) → new.around ≡ old.around → SimulatesIn old.text move r new
+    fails_here {fault} {t} a same m kept = rw m (faulty_here t refl (gives_here a) same kept)
 
     -- where nothing is given, a pause is the reader's step
-    pub pauses_here : {t : SourceReader} → act r ≡ pause_at t → PausesAt move new t → Simulates move r new
+    pub pauses_here : {t : SourceReader} → act r ≡ pause_at t → PausesAt move new t → SimulatesIn old.text move r new
     pauses_here {t} a h =
         rw h.0 (record { after = t; steps = act_does (answers_at expansion_limit) step.Passed t r None t a (refl, refl); stands = h.1 })
 
     -- where nothing is given after a line, a pause is the reader's step
-    pub passes_line : act r ≡ pause_at (advanced_by (whole_line old.rest) r) → PausesAt move new (after_line r) → Simulates move r new
+    pub passes_line : act r ≡ pause_at (advanced_by (whole_line old.rest) r) → PausesAt move new (after_line r) → SimulatesIn old.text move r new
     passes_line a h = pauses_here (line_here (λ n. pause_at (advanced_by n r)) a) h

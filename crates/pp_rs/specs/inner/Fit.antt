@@ -1,6 +1,8 @@
 -- What holds of an expander over a source between any two calls, unless memory ran out.
-use Rattle.std.specs.Prelude.{◌≡◌, true, false, Bool, List, [], Option, Some, Err, ⊤}
+use Rattle.std.specs.Prelude.{◌≡◌, true, false, Bool, List, [], Option, Some, None, Err, IsSome, ⊤}
 use Rattle.pp_lexer.specs.declared.rules.Rules.{Rules}
+use Rattle.pp_lexer.specs.declared.token.PreprocessorError.TheVariants.{UnknownDirective}
+use Rattle.pp_model.specs.Places.{PlacedFault}
 use Rattle.pp_model.specs.declared.read.Read.{Read}
 use Rattle.pp_macros.specs.inner.Frames.{Frame}
 use Rattle.pp_macros.specs.Item.{PlacedStep}
@@ -10,12 +12,12 @@ use Rattle.pp_macros.specs.inner.Expander.{Expander}
 use Rattle.pp_macros.specs.inner.Reader.{Reader, of_source, of_list}
 use Rattle.pp_macros.specs.inner.Source.{Source, unreported_of}
 use Rattle.pp_macros.specs.inner.Unreported.{IsReportedBut}
-use Rattle.pp_macros.specs.declared.step.PlacedExit.TheVariants.{Finished}
+use Rattle.pp_macros.specs.declared.step.PlacedExit.TheVariants.{Error, Finished}
 use Rattle.pp_directives.specs.inner.PlainText.{IsInText}
 
--- a source with no item left, and no open block
+-- a source with no item left, no open block, and no text around
 abbrev pub NothingIn : Reader → Type 0
-NothingIn (of_source source) = (source.rest ≡ []) × (source.blocks ≡ [])
+NothingIn (of_source source) = (source.rest ≡ []) × (source.blocks ≡ []) × (source.around ≡ [])
 NothingIn (of_list list) = ⊤
 
 -- memory of the source didn't run out
@@ -28,10 +30,24 @@ abbrev pub EndIsLast : Option (PlacedStep Read) → List Frame → Reader → Ty
 EndIsLast (Some (Err Finished)) frames r = (frames ≡ []) × NothingIn r
 EndIsLast _ frames r = ⊤
 
+-- only the error of an unknown directive asks for a text, and only by rules that say so
+abbrev pub AsksRightly : Rules → PlacedFault → Type 0
+AsksRightly rules fault = IsSome fault.1.asks → (rules.asks_includes ≡ true) × (fault.0 ≡ UnknownDirective)
+
+-- the same of a fault that is given, and of one that is held
+abbrev pub StepAsks : {T : Type 0} → Rules → PlacedStep T → Type 0
+StepAsks rules (Err (Error fault)) = AsksRightly rules fault
+StepAsks rules _ = ⊤
+
+abbrev pub HoldsAsking : Rules → Option (PlacedStep Read) → Type 0
+HoldsAsking rules (Some step) = StepAsks rules step
+HoldsAsking rules None = ⊤
+
 pub record IsFit (expander : Expander) (source : Source) : Type 0 where
   pub unspent : source.spent ≡ false
   pub sound : IsSound expander (of_source source)
   pub last : EndIsLast expander.held expander.frames (of_source source)
+  pub asks : HoldsAsking source.rules expander.held
 
 -- the reader goes by these rules
 abbrev pub GoesBy : Rules → Reader → Type 0

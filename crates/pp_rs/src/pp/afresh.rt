@@ -2,6 +2,7 @@
 
 ghost use Rattle.std.specs.Prelude.{◌≡◌, ◌↔◌, ◌-◌, ◌^◌, ◌<◌, true, length, IfOk, IfErr, IsTrue, All, Ok, map};
 ghost use Rattle.pp_lexer.specs.PreprocessorError.{out_of_memory};
+ghost use Rattle.pp_lexer.specs.Rules.{pp_rs};
 ghost use Rattle.pp_lexer.specs.Spelling.{values_of};
 ghost use Rattle.pp_lexer.specs.TokenValue.{is_ordinary};
 ghost use Rattle.pp_model.specs.Run.{items_of, start};
@@ -43,7 +44,7 @@ fn items_of_text(
     text: &str,
 ) -> Result<Vec<PreprocessorItem>, (PreprocessorError, Location)>
     requires { length text.now < 2 ^ 32 - 1 }
-    ensures items { IfOk result (λ items. AreItemsFrom (start (items_of text.now)) items.items) }
+    ensures items { IfOk result (λ items. AreItemsFrom pp_rs (start (items_of text.now)) items.items) }
     ensures refused { IfErr result (λ fault. fault ≡ out_of_memory) }
 {
     let mut pp = Preprocessor::new(alloc, text);

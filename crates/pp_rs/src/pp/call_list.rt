@@ -1,16 +1,19 @@
 //! The replies to a list of calls.
 
-ghost use Rattle.std.specs.Prelude.{◌≡◌, ◌-◌, ◌^◌, ◌<◌, false, length, map, All, IfOk};
-ghost use Rattle.pp_model.specs.Run.{add_define, next, call_of, HasRoom, IsRun, IsRunBy, ends_run};
+ghost use Rattle.std.specs.Prelude.{◌≡◌, ◌-◌, ◌^◌, ◌<◌, false, length, map, All, IfOk, OnOk, Some, Err};
+ghost use Rattle.pp_model.specs.Run.{add_define, include, next, call_of, HasRoom, IsRun, IsRunBy, ends_run};
 ghost use Rattle.pp_rs.specs.inner.Answering.{IsAnswered, AreReplies};
 ghost use Rattle.pp_macros.specs.Item.{is_out_of_memory};
 ghost use Rattle.pp_rs.specs.Kept.{is_spent};
+ghost use Rattle.pp_rs.specs.Preprocessing.{outcome_of};
 
+use crate::pp::including::IncludeError;
 use crate::pp::preprocessor::Preprocessor;
 use crate::rules::Rules;
+use crate::token::Location;
 use pp_macros::step::is_out_of_memory;
 use pp_model::call::{Call, Reply};
-use pp_model::outcome::{Fault, Outcome};
+use pp_model::outcome::{Fault, IncludeLine, Outcome};
 use std::alloc::{AllocError, Global};
 
 // The error, unless it is `OutOfMemory`.
@@ -40,6 +43,34 @@ fn reply_to_definition(
     }
 }
 
+// The reply to an `include`.
+fn reply_to_text<'a>(pp: &mut Preprocessor<'a>, text: &'a str) -> Result<Reply, AllocError>
+    requires room { length text.now < 2 ^ 32 - 1 }
+    requires unspent { is_spent pp.old ≡ false }
+    ensures { IfOk result (λ reply. IsAnswered pp.old (include text.now) reply pp.new) }
+{
+    match pp.include(text) {
+        Ok(()) => Ok(Reply::Included),
+        Err(IncludeError::TooDeep) => Ok(Reply::TooDeep),
+        Err(IncludeError::TooLong | IncludeError::OutOfMemory) => Err(AllocError),
+    }
+}
+
+// The outcome of an error that is an `#include` line which asks for this, if for any.
+fn error_outcome(fault: Fault, asks: Option<Location>) -> Result<Outcome, AllocError>
+    ensures item { IfOk result (λ outcome. outcome ≡ outcome_of (Some (Err fault)) asks) }
+    ensures reported { OnOk result (is_out_of_memory fault.0 ≡ false) }
+{
+    let fault = reported_fault(fault)?;
+    match asks {
+        Some(rest) => Ok(Outcome::Include(IncludeLine {
+            word: fault.1,
+            rest,
+        })),
+        None => Ok(Outcome::Fault(fault)),
+    }
+}
+
 // The reply to a `next`.
 fn reply_to_next(pp: &mut Preprocessor<'_>) -> Result<Reply, AllocError>
     requires { is_spent pp.old ≡ false }
@@ -47,19 +78,20 @@ fn reply_to_next(pp: &mut Preprocessor<'_>) -> Result<Reply, AllocError>
 {
     match pp.next() {
         Some(Ok(token)) => Ok(Reply::Given(Outcome::Token(token))),
-        Some(Err(fault)) => Ok(Reply::Given(Outcome::Fault(reported_fault(fault)?))),
+        Some(Err(fault)) => Ok(Reply::Given(error_outcome(fault, pp.include_line())?)),
         None => Ok(Reply::Given(Outcome::End)),
     }
 }
 
 // The reply to a call.
-fn reply_to(pp: &mut Preprocessor<'_>, call: &Call<'_>) -> Result<Reply, AllocError>
+fn reply_to<'a>(pp: &mut Preprocessor<'a>, call: &Call<'a>) -> Result<Reply, AllocError>
     requires room { HasRoom call.now }
     requires unspent { is_spent pp.old ≡ false }
     ensures { IfOk result (λ reply. IsAnswered pp.old (call_of call.now) reply pp.new) }
 {
     match call {
         Call::AddDefine(name, content) => reply_to_definition(pp, name, content),
+        Call::Include(text) => reply_to_text(pp, text),
         Call::Next => reply_to_next(pp),
     }
 }
@@ -72,10 +104,10 @@ fn ends_run(reply: &Reply) -> bool
 }
 
 // The replies of a preprocessor to the calls, up to and with the first error item.
-fn replies_to(
+fn replies_to<'a>(
     alloc: Global,
-    pp: &mut Preprocessor<'_>,
-    calls: &[Call<'_>],
+    pp: &mut Preprocessor<'a>,
+    calls: &[Call<'a>],
 ) -> Result<Vec<Reply>, AllocError>
     requires contents { All HasRoom calls.now }
     requires unspent { is_spent pp.old ≡ false }
@@ -98,7 +130,11 @@ fn replies_to(
 ///
 /// The source and each added content must have fewer than 2^32 - 1 bytes. The only error is that an allocation failed,
 /// for a reply or for the list of replies. No replies are returned then.
-pub fn replies(alloc: Global, source: &str, calls: &[Call<'_>]) -> Result<Vec<Reply>, AllocError>
+pub fn replies<'a>(
+    alloc: Global,
+    source: &'a str,
+    calls: &[Call<'a>],
+) -> Result<Vec<Reply>, AllocError>
     requires size { length source.now < 2 ^ 32 - 1 }
     requires contents { All HasRoom calls.now }
     ensures { IfOk result (λ replies. IsRun source.now (map call_of calls.now) replies.items) }
@@ -108,11 +144,11 @@ pub fn replies(alloc: Global, source: &str, calls: &[Call<'_>]) -> Result<Vec<Re
 
 /// Does what `replies` does, by these rules: the source and each content are read by them. `replies` is this at
 /// [`Rules::PP_RS`].
-pub fn replies_by(
+pub fn replies_by<'a>(
     alloc: Global,
-    source: &str,
+    source: &'a str,
     rules: Rules,
-    calls: &[Call<'_>],
+    calls: &[Call<'a>],
 ) -> Result<Vec<Reply>, AllocError>
     requires size { length source.now < 2 ^ 32 - 1 }
     requires contents { All HasRoom calls.now }

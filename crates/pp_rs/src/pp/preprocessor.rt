@@ -16,7 +16,7 @@ ghost use Rattle.pp_macros.specs.Item.{is_out_of_memory};
 ghost use Rattle.pp_rs.specs.Kept.{Stands, IsAhead, is_spent, most_items, errors_left, error_place, call_place};
 ghost use Rattle.pp_model.specs.Places.{fault_in, source_text, unplaced};
 ghost use Rattle.pp_model.specs.declared.read.Read.{Read};
-ghost use Rattle.pp_rs.specs.Kept.{item_text, origin_of, rules_of};
+ghost use Rattle.pp_rs.specs.Kept.{item_text, last_error, origin_of, rules_of};
 ghost use Rattle.pp_macros.specs.inner.Idle.{is_idle};
 ghost use Rattle.pp_macros.specs.LexerErrors.{lexer_errors, lexer_errors_by};
 ghost use Rattle.pp_directives.specs.WordTokens.{word_token};
@@ -26,7 +26,7 @@ ghost use Rattle.pp_rs.specs.inner.NextWord.{IsAheadAs, ReadsText, SomeAhead, So
 ghost use Rattle.pp_rs.specs.Preprocessing.{IsNextItem};
 
 use crate::lexer::PlainItem;
-use crate::pp::last_origin::LastOrigin;
+use crate::pp::last_item::LastItem;
 use crate::pp::source_turn::turn_source;
 use crate::pp::token_ref::TokenRef;
 use crate::rules::Rules;
@@ -53,16 +53,16 @@ pub type PreprocessorItem = Result<Token, (PreprocessorError, Location)>;
 pub struct Preprocessor<'a> {
     alloc: Global,
     rules: Rules,
-    expander: MacroProcessor,
-    source: DirectiveProcessor<'a>,
+    pub(crate) expander: MacroProcessor,
+    pub(crate) source: DirectiveProcessor<'a>,
     spent: bool,
     place: Location,
-    last: LastOrigin,
+    pub(crate) last: LastItem,
     // Where the outermost macro was called that was open before the last turn. If a step is held, that turn gave a
     // name.
     name_call: Option<CallPlace>,
     // Whether the next token is known to be read from live text. Most tokens are, and nothing else is then asked.
-    in_text: bool,
+    pub(crate) in_text: bool,
 }
 
 impl<'a> Model for Preprocessor<'a> {
@@ -108,20 +108,17 @@ fn refused_item(
     source: &mut DirectiveProcessor<'_>,
     spent: &mut bool,
     place: &mut Location,
-    last: &mut LastOrigin,
+    last: &mut LastItem,
 ) -> PreprocessorItem
     ensures item { result ≡ Err (if is_out_of_memory error.0 then out_of_memory else unplaced error) }
     ensures spent { spent.new ≡ is_out_of_memory error.0 }
     ensures place { place.new ≡ unwrap_or source.old.error_place
         (if is_out_of_memory error.0 then out_of_memory else unplaced error).1 }
-    ensures last { last.new ≡ record { text = error.1.text; call = (fault_in call error).1.call } }
+    ensures last { last.new ≡ last_error (fault_in call error).1 }
     ensures source { source.new ≡ record source.old { error_place = None } }
 {
     *spent = is_out_of_memory(&error.0);
-    last.set_error(Origin {
-        text: error.1.text,
-        call: error.1.in_call(call).call,
-    });
+    last.set_error(error.1.in_call(call));
     let error = place_refusal(error);
     *place = source.take_error_place().unwrap_or(error.1);
     Err(error)
@@ -187,7 +184,7 @@ impl<'a> Preprocessor<'a> {
             source: DirectiveProcessor::new(alloc, input, rules),
             spent: false,
             place: NOWHERE,
-            last: LastOrigin::from_text(SOURCE_TEXT),
+            last: LastItem::from_text(SOURCE_TEXT),
             name_call: None,
             in_text: false,
         }

@@ -8,8 +8,8 @@ returns-in-Some-Ok c = token_answered c.args.pp.now c.next.new.self c.requires c
 pub returns-in-None : goal.returns-in-None
 returns-in-None c = end_answered c.args.pp.now c.next.new.self c.requires (c.in-None.ensures {u = tt}).steps
 
-pub returns-in_ok-reported_fault-in-Some-Err : goal.returns-in_ok-reported_fault-in-Some-Err
-returns-in_ok-reported_fault-in-Some-Err c =
-    let reported = c.in_ok-reported_fault-in-Some-Err.ensures {u = tt} in
-    rw reported.0 (fault_answered c.args.pp.now c.next.new.self c.requires c.in-Some-Err.fault (rw reported.0 at reported.1)
+pub returns-in_ok-error_outcome-in-Some-Err : goal.returns-in_ok-error_outcome-in-Some-Err
+returns-in_ok-error_outcome-in-Some-Err c =
+    let outcome = c.in_ok-error_outcome-in-Some-Err.ensures {u = tt} in
+    rw outcome.item (fault_answered c.args.pp.now c.next.new.self c.requires c.in-Some-Err.fault c.include_line.result outcome.reported c.include_line.ensures
     (rw c.in-Some-Err.field-0-is at (c.in-Some-Err.ensures {u = tt}).steps))

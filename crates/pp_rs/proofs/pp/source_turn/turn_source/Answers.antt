@@ -13,22 +13,21 @@ pub returns-in_err-token-clause-turns : goal.returns-in_err-token-clause-turns
 returns-in_err-token-clause-turns c =
     let e = err_from_is_err_and c.from_residual.result c.from_residual.ensures.1 in
     let idle = is_idle-idle _ (sym c.is_idle.ensures ∙ c.if-is_idle.true) in
-    idle_exit expansion_limit c.args.source.now c.step.new.self c.args.expander.now.here c.in_err-token.field-0.0 _ idle
-    ((c.in_err-token.ensures {u = tt}).reads, (c.in_err-token.ensures {u = tt}).errors) (e.1 ∙ ap Err e.2)
+    idle_exit expansion_limit c.args.source.now c.step.new.self c.args.expander.now.here c.in_err-token.field-0.0 _ idle (c.in_err-token.ensures {u = tt}).reads (e.1 ∙ ap Err e.2)
 
 pub returns-then-gives_itself-clause-turns : goal.returns-then-gives_itself-clause-turns
 returns-then-gives_itself-clause-turns c =
     rw (c.of_text.ensures, c.text-text.ensures) (
     let idle = is_idle-idle _ (sym c.is_idle.ensures ∙ c.if-is_idle.true) in
     idle_token expansion_limit c.args.source.now c.step.new.self c.args.expander.now.here c.in_ok-token.token idle
-    ((c.in_ok-token.ensures {u = tt}).reads, (c.in_ok-token.ensures {u = tt}).errors) (rw c.definitions.ensures at (sym c.gives_itself.ensures ∙ c.if-gives_itself.true)))
+    (c.in_ok-token.ensures {u = tt}).reads (rw c.definitions.ensures at (sym c.gives_itself.ensures ∙ c.if-gives_itself.true)))
 
 pub returns-in_err-hold_word-clause-turns : goal.returns-in_err-hold_word-clause-turns
 returns-in_err-hold_word-clause-turns c =
     let e = err_from_is_err_and c.from_residual-in_err-hold_word.result c.from_residual-in_err-hold_word.ensures.1 in
     let idle = is_idle-idle _ (sym c.is_idle.ensures ∙ c.if-is_idle.true) in
     idle_fault expansion_limit c.args.source.now c.step.new.self c.args.expander.now.here c.hold_word.new.expander.here c.in_ok-token.token
-    c.in_err-hold_word.field-0.0 _ idle ((c.in_ok-token.ensures {u = tt}).reads, (c.in_ok-token.ensures {u = tt}).errors)
+    c.in_err-hold_word.field-0.0 _ idle (c.in_ok-token.ensures {u = tt}).reads
     (rw c.text-text.ensures at c.in_err-hold_word.ensures.holds) (e.1 ∙ ap Err e.2)
 
 pub returns-clause-turns : goal.returns-clause-turns
@@ -37,7 +36,7 @@ returns-clause-turns c = elim c.if-is_idle.branch [
       let idle = is_idle-idle _ (sym c.is_idle.ensures ∙ w.if-is_idle.true) in
       idle_word expansion_limit c.args.source.now w.step.new.self c.args.expander.now.here w.hold_word.new.expander.here c.turn_expander.new.expander.here
       c.turn_expander.new.source w.in_ok-token.token c.turn_expander.result idle
-      ((w.in_ok-token.ensures {u = tt}).reads, (w.in_ok-token.ensures {u = tt}).errors) (rw w.text-text.ensures at w.in_ok-hold_word.ensures.holds)
+      (w.in_ok-token.ensures {u = tt}).reads (rw w.text-text.ensures at w.in_ok-hold_word.ensures.holds)
       (rw (w.expander-is, w.source-is) at c.turn_expander.ensures.turns)
   | else-is_idle w ↦ rw (w.expander-is, w.source-is) at c.turn_expander.ensures.turns
 ]

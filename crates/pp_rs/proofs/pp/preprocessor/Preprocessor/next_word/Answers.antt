@@ -1,11 +1,10 @@
 use Rattle.std.proofs.Common.{◌≡◌, ◌∙◌, Bool, true, false, refl, ap, sym, subst}
 use Rattle.std.specs.Prelude.{not}
-use Rattle.pp_model.specs.declared.splice.Origin.{Origin}
 use Rattle.pp_macros.specs.inner.Idle.{is_idle}
 use Rattle.pp_directives.specs.WordTokens.{word_token}
 use Rattle.pp_model.specs.Painting.{read_in}
 use Rattle.pp_directives.specs.inner.PlainText.{IsInText}
-use Rattle.pp_rs.specs.Kept.{Preprocessing, is_spent, rules_of}
+use Rattle.pp_rs.specs.Kept.{LastItem, Preprocessing, is_spent, rules_of}
 use Rattle.pp_rs.proofs.runs.CallPlaceLemmas.{call_outside, text_kept}
 use Rattle.pp_rs.proofs.runs.NextLemmas.{reached_first, reached_more, falls_more, less_more, some_items, token_fits, next_token}
 use Rattle.pp_rs.proofs.runs.OpenWordLemmas.{bare_over, bare_would}
@@ -73,8 +72,8 @@ returns-in-Some-default-None-clause-gives c =
           c.words.self-inside.spent c.words.self-inside.place c.set_text.new.self c.words.self-inside.name_call c.words.invariant.unspent c.words.invariant.placed set
           (idle_call c.words.self-inside.expander.here _ _ c.words.invariant.idle)
           (word_over _ _ _ (word_token c.in-Some-default-None.word) c.words.invariant.idle takes.step takes.does) takes.holds;
-      text = text_kept _ ∙ ap (λ (o : Origin). o.text) c.set_text.ensures ∙ c.text.ensures;
-      call = call_outside _ c.words.invariant.idle (ap (λ (o : Origin). o.call) c.set_text.ensures);
+      text = text_kept _ ∙ ap (λ (o : LastItem). o.text) c.set_text.ensures ∙ c.text.ensures;
+      call = call_outside _ c.words.invariant.idle (ap (λ (o : LastItem). o.call) c.set_text.ensures);
       plain = record { no_hash = takes.no_hash; ascii = takes.ascii };
       reads = record { idle = c.words.invariant.idle; text = c.next_word.ensures.stays; unspent = c.words.invariant.unspent };
     }

@@ -1,7 +1,7 @@
 use Rattle.std.proofs.Common.{◌∙◌, ap, sym}
-use Rattle.pp_model.specs.declared.splice.Origin.{Origin}
 use Rattle.pp_macros.specs.inner.Ahead.{given_next}
 use Rattle.pp_macros.specs.inner.Nesting.{MacroProcessor}
+use Rattle.pp_rs.specs.Kept.{LastItem}
 use Rattle.pp_rs.proofs.runs.CallPlaceLemmas.{ahead_call, text_kept}
 use Rattle.pp_rs.proofs.runs.PassedLemmas.{ahead_given, ahead_passes, fresh_ahead, pass_fits, same_text}
 use Rattle.pp_rs.proofs.pp.preprocessor.Preprocessor.pass.Goals as goal
@@ -34,4 +34,4 @@ returns-clause-call c =
     (ahead_call c.args.self.now c.requires.0 c.requires.1 c.self.inside.expander.here (ap (λ p. p.expander) (sym c.self.view_is)) _ _ _ _ _ _)
 
 pub returns-clause-text : goal.returns-clause-text
-returns-clause-text c = text_kept _ ∙ ap (λ (o : Origin). o.text) c.set_text.ensures
+returns-clause-text c = text_kept _ ∙ ap (λ (o : LastItem). o.text) c.set_text.ensures

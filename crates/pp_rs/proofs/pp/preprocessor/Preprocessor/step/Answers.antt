@@ -2,7 +2,6 @@ use Rattle.std.proofs.Common.{◌≡◌, ◌∙◌, refl, ap, sym, false}
 use Rattle.pp_macros.specs.Item.{is_out_of_memory}
 use Rattle.pp_macros.specs.inner.Frames.{names_of}
 use Rattle.pp_macros.proofs.open_frames.KnownLemmas.{alone_known}
-use Rattle.pp_model.specs.declared.splice.Origin.{Origin}
 use Rattle.pp_macros.specs.inner.Expander.{kept_call}
 use Rattle.pp_rs.specs.Kept.{is_spent}
 use Rattle.pp_rs.proofs.runs.NextLemmas.{reached_first, reached_more, less_more, token_fits, end_fits, fault_fits, next_token, next_end, next_error}
@@ -83,8 +82,8 @@ returns-in-Err-Finished c =
     let fresh : c.args.self.now.spent ≡ false = c.requires in
     let now_fresh = ap (λ p. p.spent) c.self.view_is ∙ fresh in
     let first = reached_first _ _ _ _ (ap (λ p. p.expander) c.self.view_is) (ap (λ p. p.source) c.self.view_is) (c.self.invariant.0 now_fresh) in
-    next_end _ _ _ _ _ _ first c.args.self.now fresh refl refl (ap (λ p. p.rules) c.self.view_is) c.self.inside.spent c.self.inside.place c.set_end.new.self c.outermost_call-self-inside.result now_fresh
-    (ap (λ p. p.place) c.self.view_is) (ap (λ (o : Origin). o.call) c.set_end.ensures) (rw c.in-Err-Finished.field-0-is at c.in-Err-Finished.ensures.turns)
+    next_end _ _ _ _ _ _ first c.args.self.now fresh refl refl (ap (λ p. p.rules) c.self.view_is) c.self.inside.spent c.self.inside.place c.set_end.new.self c.outermost_call-self-inside.result c.self.inside.last.text now_fresh
+    (ap (λ p. p.place) c.self.view_is) c.set_end.ensures (rw c.in-Err-Finished.field-0-is at c.in-Err-Finished.ensures.turns)
 
 pub returns-in-Err-Continue : goal.returns-in-Err-Continue
 unfolding is_spent
