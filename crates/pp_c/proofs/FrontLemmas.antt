@@ -6,7 +6,7 @@ use Rattle.std.proofs.lemmas.List.{append-nil, replicate-append-replicate}
 use Rattle.std.proofs.Math.ListN.{replicate}
 use Rattle.pp_model.specs.Emitting.{answers_at, expansion_limit}
 use Rattle.pp_model.specs.Reading.{Expander}
-use Rattle.pp_model.specs.Run.{Call, add_define, next, items_by, start_by, with_added, by_rules, Comings, Runs}
+use Rattle.pp_model.specs.Run.{Call, add_define, include, next, items_by, start_by, with_added, by_rules, Comings, Runs}
 use Rattle.pp_model.specs.Run as run
 use Rattle.pp_model.specs.RunLaws.{OneReplies}
 use Rattle.pp_model.specs.SourceReader.{SourceReader}
@@ -20,10 +20,11 @@ use Rattle.pp_c.specs.Fronts.{FrontsStay}
 use Rattle.pp_c.specs.Preprocessed.{times_asked, outcomes_of, replies_to_next}
 use Rattle.pp_c.specs.declared.items.Definition.{Definition}
 
--- no call is of `next`
+-- each call adds a definition
 abbrev AreAdding : List Call → Type 0
 AreAdding [] = ⊤
 AreAdding (add_define name content ∷ calls) = AreAdding calls
+AreAdding (include text ∷ calls) = ⊥
 AreAdding (next ∷ calls) = ⊥
 
 -- the calls of a call that stops, and those of another, begin alike; the first only adds definitions after that
@@ -102,6 +103,8 @@ replies_to_next-append [] ys = refl
 replies_to_next-append (reply.Given o ∷ xs) ys = ap (λ os. o ∷ os) (replies_to_next-append xs ys)
 replies_to_next-append (reply.Added ∷ xs) ys = replies_to_next-append xs ys
 replies_to_next-append (reply.Refused fault ∷ xs) ys = replies_to_next-append xs ys
+replies_to_next-append (reply.Included ∷ xs) ys = replies_to_next-append xs ys
+replies_to_next-append (reply.TooDeep ∷ xs) ys = replies_to_next-append xs ys
 
 module _ (C : Comings) (rules : Rules) where
   -- definitions that are added have no reply to `next`
@@ -110,6 +113,8 @@ module _ (C : Comings) (rules : Rules) where
   none_given e calls replies (run.done e1 r p) h = rw p refl
   none_given e calls replies (run.added n c t e1 cs rest r has a p) h = rw p (none_given _ cs rest a h)
   none_given e calls replies (run.refused n c f e1 cs rest r has a p) h = rw p (none_given _ cs rest a h)
+  none_given e calls replies (run.included t e1 cs rest r room a p) h = absurd h
+  none_given e calls replies (run.too_deep t e1 cs rest r full a p) h = absurd h
   none_given e calls replies (run.given o e1 f cs rest r comes not a p) h = absurd h
   none_given e calls replies (run.failed fault e1 f cs r comes p) h = absurd h
 
@@ -161,6 +166,26 @@ module _ (C : Comings) (rules : Rules) where
         rest = s.rest;
         runs = begin_with e _ x front _ it.0 (run.refused n c f e1 front s.firsts _ has s.runs refl);
         is = p ∙ ap (λ rs. reply.Refused f ∷ rs) s.is;
+        only = s.only;
+      }
+  split e calls replies (run.included t e1 cs rest r room a p) (x ∷ front) more same =
+      let it = first_call (include t) x cs front more same in
+      let s = split _ cs rest a front more it.1 in
+      record {
+        firsts = reply.Included ∷ s.firsts;
+        rest = s.rest;
+        runs = begin_with e _ x front _ it.0 (run.included t e1 front s.firsts _ room s.runs refl);
+        is = p ∙ ap (λ rs. reply.Included ∷ rs) s.is;
+        only = s.only;
+      }
+  split e calls replies (run.too_deep t e1 cs rest r full a p) (x ∷ front) more same =
+      let it = first_call (include t) x cs front more same in
+      let s = split _ cs rest a front more it.1 in
+      record {
+        firsts = reply.TooDeep ∷ s.firsts;
+        rest = s.rest;
+        runs = begin_with e _ x front _ it.0 (run.too_deep t e1 front s.firsts _ full s.runs refl);
+        is = p ∙ ap (λ rs. reply.TooDeep ∷ rs) s.is;
         only = s.only;
       }
   split e calls replies (run.given o e1 f cs rest r comes not a p) (x ∷ front) more same =

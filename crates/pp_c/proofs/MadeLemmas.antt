@@ -1,5 +1,6 @@
 -- Calls of the preprocessor, one after another.
-use Rattle.std.proofs.Common.{◌≡◌, ◌∙◌, Bool, true, false, if◌then◌else◌, List, [], ◌∷◌, ◌++◌, map, refl, ap, sym, Option, Some, None}
+use Rattle.std.proofs.Common.{◌≡◌, ◌∙◌, Bool, true, false, if◌then◌else◌, List, [], ◌∷◌, ◌++◌, map, refl, ap, sym, subst, Option, Some, None}
+use Rattle.std.specs.Prelude.{Err}
 use Rattle.std.proofs.lemmas.List.{append-nil}
 use Rattle.std.specs.List.{AllByRecursion as Each}
 use Rattle.std.specs.Str.{chars}
@@ -12,10 +13,12 @@ use Rattle.pp_model.specs.declared.call.Reply.{Reply}
 use Rattle.pp_model.specs.declared.call.Reply.TheVariants as reply
 use Rattle.pp_model.specs.declared.outcome.Outcome.{Outcome}
 use Rattle.pp_model.specs.declared.outcome.Outcome.TheVariants as outcome
-use Rattle.pp_rs.specs.Comes.{State}
-use Rattle.pp_rs.specs.Kept.{Preprocessing, Stands, errors_left, rules_of}
+use Rattle.pp_rs.specs.Comes.{State, Comes}
+use Rattle.pp_rs.specs.Kept.{Preprocessing, Stands, errors_left, asked_line, rules_of}
 use Rattle.pp_rs.specs.declared.rules.Rules.{Rules}
+use Rattle.pp_rs.specs.Preprocessing.{outcome_of}
 use Rattle.pp_rs.specs.Preprocessing as place
+use Rattle.pp_rs.proofs.AskedLemmas.{none_asked}
 use Rattle.pp_c.specs.Preprocessed.{Given, token, error, end_if, outcomes_of, replies_to_next, ErrorsStand, GivenHoldsOrdinary}
 use Rattle.pp_c.specs.Preprocessed as stand
 use Rattle.pp_c.specs.inner.Making.{Made, GivesNext, answers_of}
@@ -72,11 +75,11 @@ pub record HasRun (rules : Rules) (state : State) (calls : List Call) (outcomes 
   pub runs : Runs (by_rules (answers_at expansion_limit)) rules state calls replies
   pub gives : replies_to_next replies ≡ outcomes
 
-run_gave : (rules : Rules) (answer : Option Given) (others : List (Option Given)) (p q : Preprocessing) (rest : List Call) (state : State)
-    → Stands p state → GivesNext p answer q
+run_gave : (rules : Rules) → rules.asks_includes ≡ false → (answer : Option Given) (others : List (Option Given)) (p q : Preprocessing) (rest : List Call) (state : State)
+    → rules_of p ≡ rules → Stands p state → GivesNext p answer q
     → ((after : State) → Stands q after → HasRun rules after rest (outcomes_to_error others)) → HasRun rules state (next ∷ rest) (outcomes_to_error (answer ∷ others))
 unfolding outcomes_to_error
-run_gave rules None others p q rest state stands g go =
+run_gave rules quiet None others p q rest state same stands g go =
     let item = g.given.item state stands in
     let r = go item.after item.goes_on in
     record {
@@ -84,7 +87,7 @@ run_gave rules None others p q rest state stands g go =
       runs = run.given outcome.End state item.after rest r.replies _ item.emits refl r.runs refl;
       gives = ap (λ os. outcome.End ∷ os) r.gives;
     }
-run_gave rules (Some (token t)) others p q rest state stands g go =
+run_gave rules quiet (Some (token t)) others p q rest state same stands g go =
     let item = g.given.item state stands in
     let r = go item.after item.goes_on in
     record {
@@ -92,41 +95,42 @@ run_gave rules (Some (token t)) others p q rest state stands g go =
       runs = run.given (outcome.Token t) state item.after rest r.replies _ item.emits refl r.runs refl;
       gives = ap (λ os. outcome.Token t ∷ os) r.gives;
     }
-run_gave rules (Some (error fault at)) others p q rest state stands g go =
+run_gave rules quiet (Some (error fault at)) others p q rest state same stands g go =
     let item = g.given.item state stands in
+    let asked = none_asked (rules_of p) (Some (Err fault)) (asked_line q) (ap (λ (r : Rules). r.asks_includes) same ∙ quiet) g.given.asks in
     record {
       replies = reply.Given (outcome.Fault fault) ∷ [];
-      runs = run.failed fault state item.after rest _ item.emits refl;
+      runs = run.failed fault state item.after rest _ (subst (λ a. Comes state (outcome_of (Some (Err fault)) a) item.after) asked item.emits) refl;
       gives = refl;
     }
 
-run_made : (rules : Rules) (p q : Preprocessing) (calls : List Call) (answers : List (Option Given)) (state : State) → rules_of p ≡ rules → Stands p state
+run_made : (rules : Rules) → rules.asks_includes ≡ false → (p q : Preprocessing) (calls : List Call) (answers : List (Option Given)) (state : State) → rules_of p ≡ rules → Stands p state
     → Made p calls answers q → HasRun rules state calls (outcomes_to_error answers)
 unfolding outcomes_to_error
-run_made rules p q calls answers state same stands (made.none p1 q1 c a ce ae e) =
+run_made rules quiet p q calls answers state same stands (made.none p1 q1 c a ce ae e) =
     rw (ce, ae) (record { replies = []; runs = run.done state [] refl; gives = refl })
-run_made rules p q calls answers state same stands (made.added name content tokens p1 q1 r1 rest c a has w m e) =
-    let r = run_made rules q1 q rest answers (with_added (chars name) tokens state) (w.rules ∙ same) (w.stands state stands) m in
+run_made rules quiet p q calls answers state same stands (made.added name content tokens p1 q1 r1 rest c a has w m e) =
+    let r = run_made rules quiet q1 q rest answers (with_added (chars name) tokens state) (w.rules ∙ same) (w.stands state stands) m in
     rw e (record {
       replies = reply.Added ∷ r.replies;
       runs = run.added name content tokens state rest r.replies _ (rw same at has) r.runs refl;
       gives = r.gives;
     })
-run_made rules p q calls answers state same stands (made.refused name content fault p1 r1 rest c a has m e) =
-    let r = run_made rules p q rest answers state same stands m in
+run_made rules quiet p q calls answers state same stands (made.refused name content fault p1 r1 rest c a has m e) =
+    let r = run_made rules quiet p q rest answers state same stands m in
     rw e (record {
       replies = reply.Refused fault ∷ r.replies;
       runs = run.refused name content fault state rest r.replies _ (rw same at has) r.runs refl;
       gives = r.gives;
     })
-run_made rules p q calls answers state same stands (made.gave answer p1 q1 r1 rest c others a g m e b) =
-    rw (e, b) (run_gave rules answer others p q1 rest state stands g (λ after there. run_made rules q1 q rest others after (g.rules ∙ same) there m))
+run_made rules quiet p q calls answers state same stands (made.gave answer p1 q1 r1 rest c others a g m e b) =
+    rw (e, b) (run_gave rules quiet answer others p q1 rest state same stands g (λ after there. run_made rules quiet q1 q rest others after (g.rules ∙ same) there m))
 
 -- the run of calls
-pub run_of_calls : (rules : Rules) (p q : Preprocessing) (calls : List Call) (has_ended : Bool) (given : List Given) (state : State) → rules_of p ≡ rules
+pub run_of_calls : (rules : Rules) → rules.asks_includes ≡ false → (p q : Preprocessing) (calls : List Call) (has_ended : Bool) (given : List Given) (state : State) → rules_of p ≡ rules
     → Stands p state → Made p calls (answers_of given has_ended) q → HasRun rules state calls (outcomes_of has_ended given)
-run_of_calls rules p q calls has_ended given state same stands m =
-    rw (← outcomes_are has_ended given, ← answers_then given has_ended) (run_made rules p q calls (answers_of given has_ended) state same stands m)
+run_of_calls rules quiet p q calls has_ended given state same stands m =
+    rw (← outcomes_are has_ended given, ← answers_then given has_ended) (run_made rules quiet p q calls (answers_of given has_ended) state same stands m)
 
 -- the item that was given, and those after it
 same_first : (answer : Option Given) (others end : List (Option Given)) (g : Given) (given : List Given) → Some g ∷ map Some given ++ end ≡ answer ∷ others

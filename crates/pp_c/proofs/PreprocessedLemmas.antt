@@ -21,12 +21,12 @@ use Rattle.pp_c.proofs.TakingLemmas.{room_after-is, sizes_same}
 -- the items of a source, from what was made of it
 pub gives_items : (setting : Setting) (has_ended : Bool) (source words : List ℕ) (definitions : List Definition) (begun new : Preprocessing) (output after : Output)
     → Stands begun (start_by setting.rules (items_by setting.rules source)) → errors_left begun ≡ lexer_errors_by setting.rules source
-    → rules_of begun ≡ setting.rules → HasAll setting.most_items has_ended begun output words definitions new after
+    → setting.rules.asks_includes ≡ false → rules_of begun ≡ setting.rules → HasAll setting.most_items has_ended begun output words definitions new after
     → Gives setting has_ended source words definitions output after
-gives_items setting has_ended source words definitions begun new output after stands errors same h =
+gives_items setting has_ended source words definitions begun new output after stands errors quiet same h =
     let rules = setting.rules in
     let calls = calls_from words (times_asked has_ended h.given) 0 definitions in
-    let r = run_of_calls rules begun new calls has_ended h.given (start_by rules (items_by rules source)) same stands h.made in
+    let r = run_of_calls rules quiet begun new calls has_ended h.given (start_by rules (items_by rules source)) same stands h.made in
     let p = reported rules begun new calls (answers_of h.given has_ended) has_ended h.given (sym (answers_then h.given has_ended)) same h.made in
     record {
       given = h.given;

@@ -52,12 +52,14 @@ outcomes_of has_ended [] = end_if has_ended
 outcomes_of has_ended (token t ∷ given) = outcome.Token t ∷ outcomes_of has_ended given
 outcomes_of has_ended (error fault place ∷ given) = outcome.Fault fault ∷ []
 
--- the replies to `next`, without those to `add_define`
+-- the replies to `next`, without those to other calls
 abbrev pub replies_to_next : List Reply → List Outcome
 replies_to_next [] = []
 replies_to_next (reply.Given o ∷ replies) = o ∷ replies_to_next replies
 replies_to_next (reply.Added ∷ replies) = replies_to_next replies
 replies_to_next (reply.Refused fault ∷ replies) = replies_to_next replies
+replies_to_next (reply.Included ∷ replies) = replies_to_next replies
+replies_to_next (reply.TooDeep ∷ replies) = replies_to_next replies
 
 -- The places of all errors, also after the first, if the errors of the lexer in one list were not given before, and
 -- those in another were not given after. If the rules pass errors in dead text and on lines that are skipped, some may

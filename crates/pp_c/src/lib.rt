@@ -2,7 +2,8 @@
 //! declares the functions and types here, and says what a caller in C has to uphold.
 #![tactic(auto)]
 
-ghost use Rattle.std.specs.Prelude.{◌≡◌, ◌≢◌, ◌↔◌, ◌⊎◌, ◌<◌, ◌≤◌, ◌-◌, ◌^◌, map, length, None, IsUtf8, All, Any};
+ghost use Rattle.std.specs.Prelude.{◌≡◌, ◌≢◌, ◌↔◌, ◌⊎◌, ◌<◌, ◌≤◌, ◌-◌, ◌^◌, false, map, length, None, IsUtf8, All};
+ghost use Rattle.std.specs.Prelude.{Any};
 ghost use Rattle.pp_rs.specs.Positions.{line_column};
 ghost use Rattle.pp_c.specs.Calls.{answered, answered_by, Fits, HasLongContent, LiesOutside};
 ghost use Rattle.pp_c.specs.Ends.{HasRoom};
@@ -55,6 +56,7 @@ fn answer(
     texts: &mut [u8],
     sizes: &mut Sizes,
 ) -> u32
+    requires { setting.rules.asks_includes ≡ false }
     ensures answer { result < 8 }
     ensures given { HasItems result → AnswersBy setting.rules setting.most_items result source.now words.now
         definitions.old items.old items.new texts.old texts.new sizes.new }

@@ -1,6 +1,6 @@
 //! How a caller in C wants a source to be preprocessed.
 
-ghost use Rattle.std.specs.Prelude.{◌≡◌, IfSome, None};
+ghost use Rattle.std.specs.Prelude.{◌≡◌, IfSome, None, false};
 ghost use Rattle.pp_c.specs.Options.{AreOptions, rules_numbered, unless_zero};
 ghost use Rattle.pp_c.specs.inner.Settings.{setting_in};
 
@@ -51,6 +51,7 @@ impl Options {
     pub(crate) fn setting(&self) -> Option<Setting>
         ensures known { IfSome result (λ setting. AreOptions self.now × (setting ≡ setting_in self.now)) }
         ensures unknown { result ≡ None → ¬ (AreOptions self.now) }
+        ensures quiet { IfSome result (λ setting. setting.rules.asks_includes ≡ false) }
     {
         if self.size != SIZE || self.rules > 3 {
             return None;
@@ -65,7 +66,8 @@ impl Options {
 
 // The rules with this number.
 fn rules_numbered(number: u32, version: u32) -> Rules
-    ensures { result ≡ rules_numbered number version }
+    ensures rules { result ≡ rules_numbered number version }
+    ensures quiet { result.asks_includes ≡ false }
 {
     match number {
         1 => Rules::glsl(version as u64, Profile::Core),

@@ -40,6 +40,7 @@ pub(crate) fn preprocess(
     definitions: &mut [Definition],
     output: &mut Output<'_>,
 ) -> Result<bool, Refusal>
+    requires { setting.rules.asks_includes ≡ false }
     ensures given { IfOk result (λ has_ended.
         Gives setting has_ended source.now words.now definitions.old output.old output.new) }
     ensures answered { OnOk result (definitions.new ≡ map (answered_by setting.rules words.now) definitions.old) }

@@ -3,7 +3,8 @@
 ghost use Rattle.std.specs.Prelude.{◌≡◌, true, false, ℕ, List, Option, OnOk, IfOk, IfErr, IsErrOf, string_bytes};
 ghost use Rattle.std.specs.Io.KnownBytes.{Appends};
 ghost use Rattle.pp_rs.specs.TokenValue.{is_ordinary};
-ghost use Rattle.pp_rs.specs.Kept.{is_spent};
+ghost use Rattle.pp_rs.specs.Kept.{is_spent, rules_of};
+ghost use Rattle.pp_rs.specs.Rules.{pp_rs};
 ghost use Rattle.pp_print.specs.inner.Input.{IsDeviceFault};
 ghost use Rattle.pp_rs.specs.Output.{written_lines};
 ghost use Rattle.pp_rs.specs.inner.OutputLines.{begun_line, ended_lines};
@@ -26,6 +27,7 @@ pub fn print_items<W: Sink>(
 ) -> Result<RunEnd, RunFault>
     requires ready { W.failed writer.old ≡ false }
     requires unspent { is_spent items ≡ false }
+    requires rules { rules_of items ≡ pp_rs }
     ensures printed { IfOk result (λ end. ArePrinted items.entry end (W.contents writer.old)
         (W.contents writer.new)) }
     ensures begun { IsErrOf result RunFault.OutOfMemory
@@ -48,6 +50,7 @@ fn print_rest<W: Sink>(
 ) -> Result<RunEnd, RunFault>
     requires ready { W.failed writer.old ≡ false }
     requires unspent { is_spent items.old ≡ false }
+    requires rules { rules_of items.old ≡ pp_rs }
     ensures printed { IfOk result (λ end. ArePrinted items.old end (W.contents writer.old)
         (W.contents writer.new)) }
     ensures begun { IsErrOf result RunFault.OutOfMemory

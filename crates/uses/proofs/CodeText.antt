@@ -4,12 +4,14 @@ use Rattle.std.specs.Prelude.{Ok, Err}
 use Rattle.std.specs.List.{filter}
 use Rattle.std.proofs.lemmas.List.{take_more}
 use Rattle.std.proofs.lemmas.List.Elements.{filter-append, filter_passes}
+use Rattle.pp_lexer.specs.Rules.{pp_rs}
 use Rattle.pp_lexer.specs.TokenValue.{is_ordinary}
 use Rattle.pp_lexer.specs.declared.token.Token.{Token}
 use Rattle.uses.proofs.Item.{Fault, Item}
-use Rattle.pp_rs.specs.Collecting.{tokens_before_error, first_error, error_or_end, AreItemsFrom, AreItemsOf}
+use Rattle.pp_rs.specs.Collecting.{tokens_before_error, first_error, AreItemsFrom, AreItemsOf}
 use Rattle.pp_rs.specs.Comes.{State, IsRunFrom}
-use Rattle.pp_rs.specs.Kept.{Preprocessing, Stands, is_spent}
+use Rattle.pp_rs.specs.Kept.{Preprocessing, Stands, is_spent, rules_of}
+use Rattle.pp_rs.proofs.AskedLemmas.{error_or_end, ends_unasked, quiet_by_pp_rs}
 
 -- the tokens that are no directives
 abbrev pub code_of : List Token → List Token
@@ -52,8 +54,9 @@ error_there (Ok t ∷ all) (suc count) fault e within is = error_there all count
 error_there (Err f ∷ all) (suc count) fault e within is = cc
 
 -- all that a preprocessor gives is a run from its state
-pub items_run : (pp : Preprocessing) (items : List Item) (state : State) (error : Option Fault) → is_spent pp ≡ false → Stands pp state
+pub items_run : (pp : Preprocessing) (items : List Item) (state : State) (error : Option Fault) → is_spent pp ≡ false → rules_of pp ≡ pp_rs → Stands pp state
     → AreItemsOf pp items → first_error items ≡ error → IsRunFrom state (tokens_before_error items) (error_or_end error)
-items_run pp items state error unspent stands all e =
-    let from : (s : State) → Stands pp s → AreItemsFrom s items = rw unspent at all in
-    subst (λ x. IsRunFrom state (tokens_before_error items) (error_or_end x)) e (from state stands)
+items_run pp items state error unspent usual stands all e =
+    let from : (s : State) → Stands pp s → AreItemsFrom (rules_of pp) s items = rw unspent at all in
+    let run = ends_unasked (rules_of pp) state (tokens_before_error items) (first_error items) (quiet_by_pp_rs (rules_of pp) usual) (from state stands) in
+    subst (λ x. IsRunFrom state (tokens_before_error items) (error_or_end x)) e run

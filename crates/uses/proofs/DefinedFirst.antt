@@ -1,17 +1,19 @@
 -- An added definition and the first item after it, as a run.
-use Rattle.std.proofs.Common.{◌≡◌, ◌∙◌, ◌⊎◌, inl, inr, ℕ, Bool, true, false, List, [], ◌∷◌, refl, ap, sym, Option, None, Some}
+use Rattle.std.proofs.Common.{◌≡◌, ◌∙◌, ◌⊎◌, inl, inr, ℕ, Bool, true, false, List, [], ◌∷◌, refl, ap, sym, subst, Option, None, Some}
 use Rattle.std.specs.Prelude.{Ok, Err, MatchBool}
+use Rattle.std.specs.Str.{chars}
 use Rattle.pp_lexer.specs.Rules.{pp_rs}
 use Rattle.pp_lexer.specs.PreprocessorError.{out_of_memory}
 use Rattle.pp_model.specs.Run as run
-use Rattle.pp_model.specs.Run.{IsRun, Runs, add_define, next, items_of, start}
+use Rattle.pp_model.specs.Run.{IsRun, Runs, add_define, next, items_of, start, with_added}
 use Rattle.pp_model.specs.declared.call.Reply.TheVariants.{Added, Refused, Given}
 use Rattle.pp_model.specs.declared.outcome.Outcome.TheVariants as outcome
 use Rattle.uses.proofs.Item.{Fault, Item}
 use Rattle.pp_rs.specs.Adding.{IsAdded, refused, faulty, added}
 use Rattle.pp_rs.specs.Comes.{State, Comes}
-use Rattle.pp_rs.specs.Kept.{Preprocessing, Stands, is_spent, rules_of}
+use Rattle.pp_rs.specs.Kept.{Preprocessing, Stands, is_spent, asked_line, rules_of}
 use Rattle.pp_rs.specs.Preprocessing.{is_refusal, outcome_of, IsNextItem}
+use Rattle.pp_rs.proofs.AskedLemmas.{none_asked, quiet_by_pp_rs}
 use Rattle.pp_rs.proofs.runs.AddingLemmas.{tokens_by_pp_rs}
 
 unspent : (spent : Bool) (A B : Type 0) → spent ≡ false → MatchBool spent A B → B
@@ -19,7 +21,7 @@ unspent true A B e h = cc
 unspent false A B e h = h
 
 -- what comes next is the reply
-comes_run : (item : Option Item) (e f : State) → Comes e (outcome_of item) f → Runs Comes pp_rs e (next ∷ []) (Given (outcome_of item) ∷ [])
+comes_run : (item : Option Item) (e f : State) → Comes e (outcome_of item None) f → Runs Comes pp_rs e (next ∷ []) (Given (outcome_of item None) ∷ [])
 comes_run None e f comes = run.given outcome.End e f [] [] _ comes refl (run.done f [] refl) refl
 comes_run (Some (Ok token)) e f comes = run.given (outcome.Token token) e f [] [] _ comes refl (run.done f [] refl) refl
 comes_run (Some (Err fault)) e f comes = run.failed fault e f [] _ comes refl
@@ -27,14 +29,17 @@ comes_run (Some (Err fault)) e f comes = run.failed fault e f [] _ comes refl
 module _ (old now : Preprocessing) (name content : List ℕ) (usual : rules_of old ≡ pp_rs) where
   pub item_run : (text : List ℕ) (new : Preprocessing) (item : Option Item) → is_spent old ≡ false → Stands old (start (items_of text))
       → IsAdded old name content (Ok tt) now → IsNextItem now item new → is_refusal item ≡ false
-      → IsRun text (add_define name content ∷ next ∷ []) (Added ∷ Given (outcome_of item) ∷ [])
+      → IsRun text (add_define name content ∷ next ∷ []) (Added ∷ Given (outcome_of item None) ∷ [])
   item_run text new item ready stands (refused given same) then plain = cc
   item_run text new item ready stands (faulty fault has given same) then plain = cc
   item_run text new item ready stands (added tokens has given h) then plain =
       elim (unspent (is_spent now) _ _ (h.spent ∙ ready) then.gives) [
         | inl wants ↦ (let bad : true ≡ false = sym (ap is_refusal wants.item) ∙ plain in cc)
         | inr gives ↦ (let emitted = gives.item _ (h.stands _ stands) in
-            run.added name content tokens _ _ _ _ (tokens_by_pp_rs old content usual ∙ has) (comes_run item _ emitted.after emitted.emits) refl)
+            let asked = none_asked (rules_of now) item (asked_line new) (quiet_by_pp_rs (rules_of now) (h.rules ∙ usual)) gives.asks in
+            let state = with_added (chars name) tokens (start (items_of text)) in
+            let comes = subst (λ a. Comes state (outcome_of item a) emitted.after) asked emitted.emits in
+            run.added name content tokens _ _ _ _ (tokens_by_pp_rs old content usual ∙ has) (comes_run item _ emitted.after comes) refl)
       ]
 
   pub refused_run : (fault : Fault) → IsAdded old name content (Err fault) now

@@ -1,21 +1,25 @@
 -- Items that were read, and are at the end of a text.
-use Rattle.std.proofs.Common.{◌≡◌, ◌∙◌, inl, inr, ℕ, Bool, true, false, if◌then◌else◌, ◌==◌, List, [], ◌∷◌, ◌++◌, refl, ap, sym, subst, Option, None, Some}
-use Rattle.std.specs.Prelude.{Ok, slice_get}
+use Rattle.std.proofs.Common.{◌≡◌, ◌∙◌, ◌⊎◌, inl, inr, ℕ, Bool, true, false, if◌then◌else◌, ◌==◌, List, [], ◌∷◌, ◌++◌, refl, ap, sym, subst, Option, None, Some}
+use Rattle.std.specs.Prelude.{Ok, Err, slice_get}
 use Rattle.std.specs.List.{last_or}
 use Rattle.std.specs.Str.{chars, IsUtf8, encode_utf8_all}
 use Rattle.std.proofs.lemmas.Bool.Decides.{eqb_tells}
 use Rattle.std.proofs.lemmas.Str.{chars-append, chars-nil, IsUtf8-append}
 use Rattle.pp_lexer.specs.ItemText.{item_text}
+use Rattle.pp_lexer.specs.PlacedErrors.{placed}
+use Rattle.pp_lexer.specs.PreprocessorError.{out_of_memory}
+use Rattle.pp_lexer.specs.Rules.{pp_rs}
 use Rattle.pp_lexer.specs.TokenValue.{is_ordinary}
 use Rattle.pp_lexer.specs.declared.token.TokenValue.{TokenValue}
 use Rattle.uses.proofs.Texts.{chars_same, chars_of_encoded}
 use Rattle.pp_lexer.specs.declared.token.Token.{Token}
 use Rattle.pp_model.specs.Run.{items_of, start}
-use Rattle.pp_rs.specs.Kept.{Preprocessing, Stands}
+use Rattle.pp_rs.specs.Kept.{Preprocessing, Stands, rules_of}
 use Rattle.pp_rs.specs.Preprocessing.{IsNextItem}
 use Rattle.uses.specs.Minified.{may_join, minified_text, separator, separator_at, separator_of, with_item, with_items}
-use Rattle.uses.specs.Sources.{GivesAll}
-use Rattle.uses.proofs.Reading.{HaveRead, token_read, end_read}
+use Rattle.uses.specs.Sources.{FailsAfter, GivesAll}
+use Rattle.uses.proofs.Item.{Fault}
+use Rattle.uses.proofs.Reading.{HaveRead, token_read, end_read, error_read}
 
 -- what a separator is, by the two characters beside it
 pub separator_is : (text word : List ℕ) (last first : ℕ) → last_or None text ≡ Some last → slice_get word 0 ≡ Some first → separator text word ≡ separator_at last first
@@ -91,6 +95,15 @@ token_pushed old now new text h token more next e = record {
   read = token_read old now new h.tokens h.read token next;
   pushed = e ∙ ap (λ t. with_item t token.value) h.pushed ∙ sym (one_more [] h.tokens token);
 }
+
+-- an error came
+pub error_after_pushed : (old now new : Preprocessing) (text : List ℕ) (h : HavePushed old now text) (fault : Fault) → IsNextItem now (Some (Err fault)) new
+    → rules_of old ≡ pp_rs → (placed fault ≡ placed out_of_memory) ⊎ ((source : List ℕ) → Stands old (start (items_of source))
+    → (tokens : List Token) × FailsAfter source tokens (placed fault))
+error_after_pushed old now new text h fault next usual = elim (error_read old now new h.tokens h.read fault next usual) [
+  | inl same ↦ inl (ap placed same)
+  | inr came ↦ inr (λ source stands. (h.tokens, came (start (items_of source)) stands))
+]
 
 pub all_pushed : (old now new : Preprocessing) (text : List ℕ) (h : HavePushed old now text) → IsNextItem now None new
     → (source : List ℕ) → Stands old (start (items_of source)) → (tokens : List Token) × GivesAll source tokens × (text ≡ minified_text tokens)

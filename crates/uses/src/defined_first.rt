@@ -1,6 +1,6 @@
 //! What a source gives first, once a macro is defined: a proved caller of `add_define` and `next`.
 
-ghost use Rattle.std.specs.Prelude.{◌≡◌, ◌<◌, ◌^◌, ◌-◌, ◌⊎◌, ℕ, false, List, [], ◌∷◌, length, IfOk, IfErr};
+ghost use Rattle.std.specs.Prelude.{◌≡◌, ◌<◌, ◌^◌, ◌-◌, ◌⊎◌, ℕ, false, List, [], ◌∷◌, None, length, IfOk, IfErr};
 ghost use Rattle.pp_lexer.specs.Rules.{pp_rs};
 ghost use Rattle.pp_lexer.specs.PreprocessorError.{out_of_memory};
 ghost use Rattle.pp_model.specs.Run.{IsRun, add_define, next, items_of, start};
@@ -24,7 +24,7 @@ pub fn first_item_with(
     requires content { length content.now < 2 ^ 32 - 1 }
     ensures item { IfOk result (λ item. is_refusal item ≡ false
         → IsRun source.now (add_define name.now content.now ∷ next ∷ [])
-        (Added ∷ Given (outcome_of item) ∷ [])) }
+        (Added ∷ Given (outcome_of item None) ∷ [])) }
     ensures error { IfErr result (λ error. (error ≡ out_of_memory)
         ⊎ IsRun source.now (add_define name.now content.now ∷ []) (Refused error ∷ [])) }
 {
@@ -45,7 +45,7 @@ fn define_and_read(
     requires rules { rules_of pp.old ≡ pp_rs }
     ensures item { IfOk result (λ item. is_refusal item ≡ false
         → (text : List ℕ) → Stands pp.old (start (items_of text))
-        → IsRun text (add_define name.now content.now ∷ next ∷ []) (Added ∷ Given (outcome_of item) ∷ [])) }
+        → IsRun text (add_define name.now content.now ∷ next ∷ []) (Added ∷ Given (outcome_of item None) ∷ [])) }
     ensures error { IfErr result (λ error. (error ≡ out_of_memory)
         ⊎ ((text : List ℕ) → IsRun text (add_define name.now content.now ∷ []) (Refused error ∷ []))) }
 {

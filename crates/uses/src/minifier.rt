@@ -5,9 +5,10 @@ ghost use Rattle.std.specs.Prelude.{IfErr, IfOk, IsOkAnd, OnOk, string_bytes};
 ghost use Rattle.std.specs.Str.{chars};
 ghost use Rattle.pp_lexer.specs.PlacedErrors.{placed};
 ghost use Rattle.pp_lexer.specs.PreprocessorError.{out_of_memory};
+ghost use Rattle.pp_lexer.specs.Rules.{pp_rs};
 ghost use Rattle.pp_lexer.specs.declared.token.Token.{Token as TheToken};
 ghost use Rattle.pp_model.specs.Run.{items_of, start};
-ghost use Rattle.pp_rs.specs.Kept.{Stands, is_spent};
+ghost use Rattle.pp_rs.specs.Kept.{Stands, is_spent, rules_of};
 ghost use Rattle.uses.specs.Minified.{is_alone, is_of_word, may_join, minified_text};
 ghost use Rattle.uses.specs.Minified.{separator, with_item};
 ghost use Rattle.uses.specs.Sources.{FailsAfter, GivesAll};
@@ -35,7 +36,8 @@ pub fn minify(alloc: Global, source: &str) -> Result<String, PlacedError>
 
 // The text of all items, up to the first error.
 fn text_of_items(alloc: Global, pp: &mut Preprocessor<'_>) -> Result<String, PlacedError>
-    requires { is_spent pp.old ≡ false }
+    requires unspent { is_spent pp.old ≡ false }
+    requires rules { rules_of pp.old ≡ pp_rs }
     ensures text { IfOk result (λ text. (source : List ℕ) → Stands pp.old (start (items_of source))
         → (tokens : List TheToken) × GivesAll source tokens × (chars (string_bytes text) ≡ minified_text tokens)) }
     ensures error { IfErr result (λ error. (error ≡ placed out_of_memory)

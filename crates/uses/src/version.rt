@@ -4,9 +4,10 @@ ghost use Rattle.std.specs.Prelude.{◌≡◌, ◌<◌, ◌≤◌, ◌^◌, ◌-
 ghost use Rattle.std.specs.Prelude.{IfErr, IfOk, IsOkAnd};
 ghost use Rattle.pp_lexer.specs.PlacedErrors.{placed};
 ghost use Rattle.pp_lexer.specs.PreprocessorError.{out_of_memory};
+ghost use Rattle.pp_lexer.specs.Rules.{pp_rs};
 ghost use Rattle.pp_lexer.specs.declared.token.Token.{Token as TheToken};
 ghost use Rattle.pp_model.specs.Run.{items_of, start};
-ghost use Rattle.pp_rs.specs.Kept.{Stands, is_spent};
+ghost use Rattle.pp_rs.specs.Kept.{Stands, is_spent, rules_of};
 ghost use Rattle.uses.specs.Sources.{FailsAfter};
 ghost use Rattle.uses.specs.Versions.{AsksFor, first_version_number, version_number, verdict};
 
@@ -40,7 +41,8 @@ pub fn check_version(alloc: Global, source: &str) -> Result<&'static str, Placed
 
 // The number of the first `#version`.
 fn first_version(pp: &mut Preprocessor<'_>) -> Result<Option<u64>, PlacedError>
-    requires { is_spent pp.old ≡ false }
+    requires unspent { is_spent pp.old ≡ false }
+    requires rules { rules_of pp.old ≡ pp_rs }
     ensures asked { IfOk result (λ asked. (source : List ℕ) → Stands pp.old (start (items_of source))
         → AsksFor source asked) }
     ensures error { IfErr result (λ error. (error ≡ placed out_of_memory)

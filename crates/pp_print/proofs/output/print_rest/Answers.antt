@@ -2,9 +2,10 @@ use Rattle.std.proofs.Common.{◌≡◌, ◌∙◌, Err, ap, refl, string_bytes}
 use Rattle.pp_print.specs.declared.ends.RunEnd.TheVariants.{Done, Stopped}
 use Rattle.pp_print.specs.declared.ends.RunFault.TheVariants.{OutOfMemory}
 use Rattle.pp_print.specs.Runs.{IsStoppedBySource}
+use Rattle.pp_rs.proofs.AskedLemmas.{quiet_by_pp_rs}
 use Rattle.pp_rs.proofs.runs.GivingLemmas.{given_unspent, token_unspent}
 use Rattle.pp_print.proofs.TextLemmas.{same_fault, IfOk-one}
-use Rattle.pp_print.proofs.NextLemmas.{next_token, next_error, next_none, no_refusal}
+use Rattle.pp_print.proofs.NextLemmas.{usual_after, usual_next, next_token, next_error, next_none, no_refusal}
 use Rattle.pp_print.proofs.RunLemmas.{text_starts, tokens_taken, directive_printed, printing_ends, printing_begun}
 use Rattle.pp_print.proofs.output.print_rest.Goals as goal
 
@@ -12,6 +13,7 @@ pub items-init : goal.items-init
 items-init g c = record {
   ok = c.requires.ready;
   unspent = c.requires.unspent;
+  rules = c.requires.rules;
   printing = λ start stands. text_starts start _ _ (g.W.Sink.contents c.args.writer.now) stands c.new-line.ensures.bytes;
 }
 
@@ -30,6 +32,7 @@ items-preserved g c =
     record {
       ok = printed.ok;
       unspent = token_unspent _ _ c.in-Ok.token fresh gives.next;
+      rules = usual_next _ _ _ gives.next (usual_after _ _ _ _ _ gives.given before.rules);
       printing = λ start stands.
           let text = tokens_taken start _ _ _ _ before.unspent (before.printing start stands) _ _ gives.given in
           let next = next_token _ _ fresh c.in-Ok.token gives.next text.printing.state text.printing.now in
@@ -54,7 +57,8 @@ returns-in-Err-clause-printed g c = IfOk-one c.print_stop.result IsStoppedBySour
     let gives = rw c.in-Err.is at c.in-Some.ensures in
     let fresh = given_unspent _ _ _ _ _ gives.given before.unspent in
     let text = tokens_taken start _ _ _ _ before.unspent (before.printing start stands) _ _ gives.given in
-    let next = next_error _ _ fresh c.in-Err.refusal gives.next stopped text.printing.state text.printing.now in
+    let quiet = quiet_by_pp_rs _ (usual_after _ _ _ _ _ gives.given before.rules) in
+    let next = next_error _ _ fresh c.in-Err.refusal gives.next stopped quiet text.printing.state text.printing.now in
     printing_ends start _ _ _ _ _ text.printing (Stopped c.in-Err.refusal.0 c.in-Err.refusal.1) next.0 next.1
     (written text.line (ap string_bytes (gives.sink (no_refusal _ _ fresh c.in-Err.refusal gives.next stopped)) ∙ text.is)))
 
