@@ -78,9 +78,9 @@ def unescaped(text):
     return re.sub(r"\\(.)", lambda it: ESCAPES.get(it.group(1), it.group(1)), text, flags=re.S)
 
 
-# What a binding can't do, or what changes what comes after it.
-OTHERS = ("all", "drain")
-BOUND = "at-most-"
+# What a binding can't do, or what changes what comes after it: a bound of the steps, and included texts, among others.
+OTHERS = ("all", "drain", "includes")
+BEGUN = re.compile(r"at-most-|\d*\+|:")
 
 
 def calls_of(case, answers):
@@ -92,7 +92,7 @@ def calls_of(case, answers):
             case.is_glsl = True
         elif word == "lexer":
             case.lexed = lines[:-1]
-        elif word in OTHERS or word == "glsl" or word.startswith(BOUND):
+        elif word in OTHERS or word == "glsl" or BEGUN.match(word):
             is_open = False
         elif not is_open:
             continue

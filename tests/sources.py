@@ -251,6 +251,41 @@ def case(seed, number):
     return name, source, [*calls(r), "rest"]
 
 
+TEXTS = 8
+
+
+def with_includes(r, number):
+    """The name of a style, and a source with up to two `#include` lines of later texts, mostly between its lines."""
+    name, source = style(r)
+    if source.count("(") > 90:
+        # A macro of another text that doubles its argument would be called inside itself a hundred times.
+        return name, "#undef F\n#undef G\n" + source
+    lines = source.split("\n")
+    for _ in range(r.choice([0, 1, 1, 2]) if number < TEXTS else 0):
+        later = r.randint(number + 1, TEXTS)
+        line = r.choice(["#include ", "#include ", "# include", "#include//\n#include "]) + f'"{later}"' + r.choice(["", "", " // c", " @", " x"])
+        at = r.randint(0, len(lines))
+        lines.insert(at, line)
+    source = "\n".join(lines)
+    if r.random() < 0.05:
+        source = source.replace("\n#include", " #include", 1)
+    return name, source
+
+
+def tree(seed, number):
+    """The name of a style, a source that includes texts, which include others, and the words that name these texts."""
+    r = random.Random(f"{seed} {number} tree")
+    name, source = with_includes(r, 0)
+    texts = [f":{k}:{with_includes(r, k)[1]}" for k in range(1, TEXTS + 1)]
+    if r.random() < 0.02:
+        texts[-1] = f':{TEXTS}:#include "{TEXTS}"'
+    made = calls(r)
+    if r.random() < 0.2:
+        made.insert(r.randint(0, len(made)), "+" + with_includes(r, TEXTS)[1])
+    # No word of a command line holds a NUL.
+    return name, source, ["includes", *[it.replace("\x00", "") for it in [*texts, *made]], "rest"]
+
+
 CHARACTERS = [
     "a", "b", "x", "e", "E", "u", "U", "l", "L", "h", "H", "s", "S", "f", "F", "_", "0", "1", "8", "9", ".", "+", "-",
     "0x", "08", "1.0", "0x1F", "1e5", "18446744073709551616", "01777777777777777777777", "\\\n", "\\\r\n", "\\", "\n",

@@ -6,6 +6,10 @@
 //! | word | what is called |
 //! |---|---|
 //! | `glsl` | all is done anew, by GLSL's rules |
+//! | `includes` | all is done anew, by rules that ask for the texts of `#include` lines too |
+//! | `+TEXT` | `include` |
+//! | `N+TEXT` | `include`, N times: only the last answer is printed |
+//! | `:NAME:TEXT` | nothing: from here on `next` includes the text where an `#include "NAME"` line asks for it |
 //! | `NAME=CONTENT` | `add_define` |
 //! | `at-most-N` | `set_budget`, of N steps |
 //! | `budget` | `is_over_budget` and `reached` |
@@ -17,7 +21,8 @@
 //! | `calls` | `next` up to the first `None`, and after each item `origin`, `call_line` and `call_place` |
 //! | `spell`, `afresh` | `spell_tokens` and `are_read_afresh`, of the tokens that were given so far |
 //! | `copy` | `clone` of all items so far, of what they hold, of errors of their values, and of steps with the errors |
-//! | `replies`, `plain` | `replies` and the plain program, over the calls of `add_define` and `next` made so far |
+//! | `replies`, `plain` | `replies` and the plain program, over all `add_define`, `include` and `next` so far |
+//! | `agree` | both: only how many replies they give is printed, and whether these are the same |
 //! | `lexer` | `next` of a `Lexer` of the source, up to the first `None` and then once more |
 //! | `convert` | `clone`, `convert_lexer_token` and `convert_lexer_token_to_step`, of each token of a `Lexer` |
 //! | `lines` | `next` and `get_current_offset` of `CharsAndLine` |
@@ -31,7 +36,7 @@
 //!
 //!     = TEXT           more of its source: \n, \r, \t and \\ stand for LF, CR, a tab and a backslash
 //!     * N TEXT         the text N times
-//!     > WORD           a word
+//!     > WORD           a word, with the same escapes
 //!     any other line   what the case shows
 //!
 //! The status is 0 unless its own memory, its input or its output fails. Scripts of tests run it.
@@ -93,8 +98,17 @@ fn act<'a>(
     source: &'a str,
     word: &'a str,
 ) -> io::Result<()> {
+    if let Some(text) = word.strip_prefix('+') {
+        return session.include(rt, text);
+    }
+    if let Some(named) = word.strip_prefix(':') {
+        return session.name_text(named);
+    }
     if let Some((name, content)) = word.split_once('=') {
         return session.add(rt, name, content);
+    }
+    if let Some((times, text)) = word.split_once('+') {
+        return session.include_often(rt, times.parse::<u32>().unwrap_or(0), text);
     }
     if let Some(steps) = word.strip_prefix("at-most-") {
         return session.bound(rt, steps.parse::<u64>().unwrap_or(0));
@@ -102,6 +116,10 @@ fn act<'a>(
     match word {
         "glsl" => {
             session.begin_anew(Rules::glsl(460, Profile::Core));
+            Ok(())
+        }
+        "includes" => {
+            session.begin_anew(session.rules().with_includes());
             Ok(())
         }
         "next" => {
@@ -123,6 +141,7 @@ fn act<'a>(
         "copy" => session.copy(rt),
         "replies" => session.replies(rt),
         "plain" => session.plain(rt),
+        "agree" => session.agree(rt),
         "lexer" => shown::lexer(rt, alloc, source, session.rules()),
         "convert" => shown::convert(rt, alloc, source, session.rules()),
         "lines" => phases::lines(rt, source),

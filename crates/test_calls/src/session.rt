@@ -1,16 +1,17 @@
 //! A preprocessor of a source, and what was done with it.
 
 use crate::shown::{
-    copy_error, copy_token, print_error, print_item, print_origin, print_reply, refused, replies,
+    compared, copy_error, copy_token, print_error, print_item, print_origin, print_reply, refused,
+    replies,
 };
 use pp_reference::run::run_by;
 use pp_rs::SOURCE_LIMIT;
 use pp_rs::pp::{
-    self, Call, Preprocessor, PreprocessorItem, Reply, append_all, are_read_afresh, drain,
-    preprocess_all, spell_tokens,
+    self, Call, IncludeError, IncludeLine, Outcome, Preprocessor, PreprocessorItem, Reply,
+    append_all, are_read_afresh, drain, preprocess_all, spell_tokens,
 };
 use pp_rs::rules::Rules;
-use pp_rs::token::{Location, PreprocessorError, Token};
+use pp_rs::token::{Location, PreprocessorError, Token, out_of_memory};
 use std::alloc::Global;
 use std::io;
 use test_shown::have_room;
@@ -25,7 +26,30 @@ fn reply_to_definition(answer: Result<(), (PreprocessorError, Location)>) -> Rep
     }
 }
 
-/// A preprocessor of a source, the calls that were made, and what they gave.
+// Prints what a call of `include` answers.
+fn print_included(
+    rt: &impl Print,
+    alloc: Global,
+    answer: Result<(), IncludeError>,
+) -> io::Result<()> {
+    match answer {
+        Ok(()) => println!(rt; "Included"),
+        Err(IncludeError::TooDeep) => println!(rt; "TooDeep"),
+        Err(IncludeError::TooLong | IncludeError::OutOfMemory) => {
+            refused(rt, alloc, out_of_memory())
+        }
+    }
+}
+
+// The name on an `#include` line, from the end of its word on: what is between two `"`.
+fn name_on(line: &str) -> &str {
+    match line.split('"').nth(1) {
+        Some(name) => name,
+        None => "",
+    }
+}
+
+/// A preprocessor of a source, the calls that were made, the texts that have a name, and what the calls gave.
 #[derive(Drop)]
 pub(crate) struct Session<'a> {
     alloc: Global,
@@ -33,6 +57,9 @@ pub(crate) struct Session<'a> {
     rules: Rules,
     pp: Preprocessor<'a>,
     calls: Vec<Call<'a>>,
+    named: Vec<(&'a str, &'a str)>,
+    // The texts by their numbers: the source, and then contents and texts.
+    texts: Vec<&'a str>,
     tokens: Vec<Token>,
     errors: Vec<PreprocessorError>,
 }
@@ -51,6 +78,8 @@ impl<'a> Session<'a> {
             rules,
             pp: Preprocessor::with_rules(alloc, source, rules),
             calls: Vec::new(alloc),
+            named: Vec::new(alloc),
+            texts: Vec::new(alloc),
             tokens: Vec::new(alloc),
             errors: Vec::new(alloc),
         }
@@ -78,6 +107,9 @@ impl<'a> Session<'a> {
         }
         self.calls.push(Call::AddDefine(name, content))?;
         let answer = reply_to_definition(self.pp.add_define(name, content));
+        if matches!(answer, Reply::Added) {
+            self.texts.push(content)?;
+        }
         let shown = print_reply(rt, self.alloc, &answer);
         drop(answer);
         shown
@@ -97,6 +129,65 @@ impl<'a> Session<'a> {
         println!(rt; "over={} {start}..{end} L{line}", self.pp.is_over_budget())
     }
 
+    // Includes a text, and keeps it.
+    fn included(&mut self, text: &'a str) -> io::Result<Result<(), IncludeError>> {
+        if text.len() >= SOURCE_LIMIT {
+            return Ok(Err(IncludeError::TooLong));
+        }
+        self.calls.push(Call::Include(text))?;
+        let answer = self.pp.include(text);
+        if matches!(answer, Ok(())) {
+            self.texts.push(text)?;
+        }
+        Ok(answer)
+    }
+
+    /// Includes a text.
+    pub(crate) fn include(&mut self, rt: &impl Print, text: &'a str) -> io::Result<()> {
+        let answer = self.included(text)?;
+        print_included(rt, self.alloc, answer)
+    }
+
+    /// Includes a text so often, and shows the last answer.
+    pub(crate) fn include_often(
+        &mut self,
+        rt: &impl Print,
+        times: u32,
+        text: &'a str,
+    ) -> io::Result<()> {
+        let mut answer = Ok(());
+        for _ in 0..times {
+            answer = self.included(text)?;
+        }
+        print_included(rt, self.alloc, answer)
+    }
+
+    /// Gives a text a name, by which an `#include` line asks for it: `NAME:TEXT`.
+    pub(crate) fn name_text(&mut self, named: &'a str) -> io::Result<()> {
+        if let Some(pair) = named.split_once(':') {
+            self.named.push(pair)?;
+        }
+        Ok(())
+    }
+
+    // The text with this number.
+    fn text_at(&self, number: usize) -> Option<&'a str> {
+        if number == 0 {
+            return Some(self.source);
+        }
+        let text = self.texts.get(number - 1)?;
+        Some(*text)
+    }
+
+    // The text for which the line asks that was given last, if it asks for one that has a name.
+    fn asked(&self) -> Option<&'a str> {
+        let rest = self.pp.include_line()?;
+        let text = self.text_at(self.pp.origin().text as usize)?;
+        let name = name_on(text.get(rest.start as usize..rest.end as usize)?);
+        let (_, found) = self.named.iter().find(|(known, _)| *known == name)?;
+        Some(found)
+    }
+
     // Shows an item, and keeps it.
     fn keep(&mut self, rt: &impl Print, given: PreprocessorItem) -> io::Result<()> {
         print_item(rt, self.alloc, &given)?;
@@ -107,12 +198,26 @@ impl<'a> Session<'a> {
         Ok(())
     }
 
+    // Shows an item as what `replies` says of it.
+    fn show(&mut self, rt: &impl Print, given: PreprocessorItem) -> io::Result<()> {
+        match (given, self.pp.include_line()) {
+            (Err((_, word)), Some(rest)) => {
+                let line = Reply::Given(Outcome::Include(IncludeLine { word, rest }));
+                print_reply(rt, self.alloc, &line)
+            }
+            (given, _) => self.keep(rt, given),
+        }
+    }
+
     /// Asks for one item. Returns whether there was one.
     pub(crate) fn next(&mut self, rt: &impl Print) -> io::Result<bool> {
         self.calls.push(Call::Next)?;
         match self.pp.next() {
             Some(given) => {
-                self.keep(rt, given)?;
+                self.show(rt, given)?;
+                if let Some(text) = self.asked() {
+                    self.include(rt, text)?;
+                }
                 Ok(true)
             }
             None => {
@@ -233,6 +338,19 @@ impl<'a> Session<'a> {
                 Err(error) => Err(error),
             };
             return replies(rt, self.alloc, "replies", given);
+        }
+        Ok(())
+    }
+
+    /// Makes the same calls once more, by `replies_by` and by the plain program, and compares what they reply.
+    pub(crate) fn agree(&self, rt: &impl Print) -> io::Result<()> {
+        if self.source.len() < SOURCE_LIMIT && have_room(&self.calls) {
+            let given = pp::replies_by(self.alloc, self.source, self.rules, &self.calls)?;
+            let Some(plain) = run_by(self.alloc, self.source, self.rules, &self.calls, STEPS)?
+            else {
+                return println!(rt; "plain gives no answer");
+            };
+            return compared(rt, self.alloc, &given, &plain);
         }
         Ok(())
     }

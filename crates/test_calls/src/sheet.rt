@@ -17,8 +17,9 @@ pub(crate) fn read(rt: &impl Print, alloc: Global, sheet: &str) -> io::Result<()
 fn make_calls(rt: &impl Print, alloc: Global, case: &str) -> io::Result<()> {
     let source = source_of(alloc, case)?;
     let source = source.as_str();
+    let words = words_of(alloc, case)?;
     let mut session = Session::new(alloc, source, Rules::PP_RS);
-    let done = answer(rt, alloc, &mut session, source, case);
+    let done = answer(rt, alloc, &mut session, source, case, &words);
     drop(session);
     done
 }
@@ -29,15 +30,33 @@ fn answer<'a>(
     alloc: Global,
     session: &mut Session<'a>,
     source: &'a str,
-    case: &'a str,
+    case: &str,
+    words: &'a [String],
 ) -> io::Result<()> {
+    let mut words = words.iter();
     for line in case.lines() {
         println!(rt; "{line}")?;
-        if let Some(word) = line.strip_prefix("> ") {
-            act(rt, alloc, &mut *session, source, word)?;
+        if line.starts_with("> ") {
+            let Some(word) = words.next() else {
+                break;
+            };
+            act(rt, alloc, &mut *session, source, word.as_str())?;
         }
     }
     Ok(())
+}
+
+// The words of a case, without escapes.
+fn words_of(alloc: Global, case: &str) -> Result<Vec<String>, AllocError> {
+    let mut words = Vec::new(alloc);
+    for line in case.lines() {
+        if let Some(text) = line.strip_prefix("> ") {
+            let mut word = String::new(alloc);
+            add_text(&mut word, text)?;
+            words.push(word)?;
+        }
+    }
+    Ok(words)
 }
 
 fn source_of(alloc: Global, case: &str) -> Result<String, AllocError> {

@@ -269,6 +269,37 @@ pub(crate) fn replies(
     }
 }
 
+// Whether two replies are printed as the same line.
+fn is_same_reply(alloc: Global, left: &Reply, right: &Reply) -> Result<bool, AllocError> {
+    let left = reply(alloc, left)?;
+    let right = reply(alloc, right)?;
+    Ok(left.as_str() == right.as_str())
+}
+
+// Whether two lists of replies are printed as the same lines.
+fn are_same_replies(alloc: Global, left: &[Reply], right: &[Reply]) -> Result<bool, AllocError> {
+    if left.len() != right.len() {
+        return Ok(false);
+    }
+    for (one, other) in left.iter().zip(right.iter()) {
+        if !is_same_reply(alloc, one, other)? {
+            return Ok(false);
+        }
+    }
+    Ok(true)
+}
+
+/// Prints how many replies there are, and whether those of the plain program are the same.
+pub(crate) fn compared(
+    rt: &impl Print,
+    alloc: Global,
+    given: &[Reply],
+    plain: &[Reply],
+) -> io::Result<()> {
+    let is_same = are_same_replies(alloc, given, plain)?;
+    println!(rt; "replies={} same={is_same}", given.len())
+}
+
 // Says whether a copy equals what it was made of.
 fn copied(
     rt: &impl Print,

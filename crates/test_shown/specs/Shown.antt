@@ -20,7 +20,7 @@ use Rattle.pp_lexer.specs.declared.lexer.item.Token.{Token as LexerToken}
 use Rattle.pp_lexer.specs.declared.lexer.item.TokenValue.{TokenValue as LexerValue}
 use Rattle.pp_lexer.specs.declared.lexer.item.TokenValue.TheVariants as lexer
 use Rattle.pp_model.specs.declared.call.Reply.{Reply}
-use Rattle.pp_model.specs.declared.call.Reply.TheVariants.{Added, Refused, Given}
+use Rattle.pp_model.specs.declared.call.Reply.TheVariants.{Added, Included, Refused, TooDeep, Given}
 use Rattle.pp_model.specs.declared.outcome.Outcome.TheVariants as outcome
 
 -- the texts with a comma and a space between each two
@@ -123,3 +123,7 @@ ShowsReply (Refused fault) old new = ShowsFault (codes "Refused ") fault old new
 ShowsReply (Given (outcome.Token token)) old new = ShowsToken token old new
 ShowsReply (Given (outcome.Fault fault)) old new = ShowsFault (codes "Error ") fault old new
 ShowsReply (Given outcome.End) old new = new ≡ old ++ codes "None"
+ShowsReply (Given (outcome.Include line)) old new =
+    new ≡ old ++ codes "Include" ++ place_text line.word ++ place_text line.rest
+ShowsReply Included old new = new ≡ old ++ codes "Included"
+ShowsReply TooDeep old new = new ≡ old ++ codes "TooDeep"

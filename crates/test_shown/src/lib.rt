@@ -17,19 +17,20 @@ use pp_model::call::{Call, Reply};
 use pp_model::outcome::{Fault, Outcome};
 use std::alloc::{AllocError, Global};
 
-/// Whether each content that the calls add is short enough for `add_define`.
+/// Whether each content that the calls add, and each text that they include, is short enough.
 pub fn have_room(calls: &[Call<'_>]) -> bool
     ensures { IsTrue result → All HasRoom calls.now }
 {
     calls.iter().all(|call| has_room(call))
 }
 
-// Whether the content that a call adds is short enough.
+// Whether the content that a call adds, or the text that it includes, is short enough.
 fn has_room(call: &Call<'_>) -> bool
     ensures { IsTrue result → HasRoom call.now }
 {
     match call {
         Call::AddDefine(_, content) => content.len() < SOURCE_LIMIT,
+        Call::Include(text) => text.len() < SOURCE_LIMIT,
         Call::Next => true,
     }
 }
@@ -244,6 +245,13 @@ fn push_reply(text: &mut String, reply: &Reply) -> Result<(), AllocError>
         Reply::Refused(fault) => push_fault(text, "Refused ", fault),
         Reply::Given(Outcome::Token(token)) => push_token(text, token),
         Reply::Given(Outcome::Fault(fault)) => push_fault(text, "Error ", fault),
+        Reply::Given(Outcome::Include(line)) => {
+            text.push_str("Include")?;
+            push_at(text, line.word)?;
+            push_at(text, line.rest)
+        }
         Reply::Given(Outcome::End) => text.push_str("None"),
+        Reply::Included => text.push_str("Included"),
+        Reply::TooDeep => text.push_str("TooDeep"),
     }
 }
