@@ -1,27 +1,27 @@
 //! Options as other preprocessors have them, each refused with its reason.
 
-const NO_INCLUDE: &str = "glslpp has no #include";
+const NO_KINDS: &str = "the folders of included files are those of -I";
 
-const NO_DEPENDENCIES: &str = "glslpp writes no dependencies, since it has no #include";
+const NO_MACROS_ALONE: &str = "glslpp includes whole files: -include";
+
+const NO_MISSING: &str = "each included file must be there";
 
 const NO_VERSION: &str =
     "the version is that of the source's #version, and without one that of -std=VERSION";
 
 const NO_COMMENTS: &str = "glslpp keeps no comments";
 
-const NO_LIST: &str = "glslpp lists no definitions";
+const NO_LIST: &str = "glslpp lists definitions by -dM";
 
 const NO_COMPILER: &str = "glslpp only preprocesses";
 
 // The beginnings of options, and why they are refused.
-const REFUSALS: [(&str, &str); 18] = [
-    ("-I", NO_INCLUDE),
-    ("-include", NO_INCLUDE),
-    ("-imacros", NO_INCLUDE),
-    ("-iquote", NO_INCLUDE),
-    ("-isystem", NO_INCLUDE),
-    ("-idirafter", NO_INCLUDE),
-    ("-M", NO_DEPENDENCIES),
+const REFUSALS: [(&str, &str); 16] = [
+    ("-imacros", NO_MACROS_ALONE),
+    ("-iquote", NO_KINDS),
+    ("-isystem", NO_KINDS),
+    ("-idirafter", NO_KINDS),
+    ("-MG", NO_MISSING),
     ("-std", NO_VERSION),
     ("--glsl-version", NO_VERSION),
     ("-C", NO_COMMENTS),

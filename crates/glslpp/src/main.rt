@@ -1,25 +1,32 @@
 //! Preprocesses GLSL files, and reports their errors as compilers do.
 #![tactic(auto)]
 
+mod depending;
 mod files;
 mod foreign;
+mod including;
 mod preprocess;
+mod undefined;
 mod word_files;
 
+use bumpalo::Bump;
 use clap::ArgMatches;
+use depending::write_rule;
 use foreign::refusal_of;
 use glslpp_parts::arguments::{
     Arguments, Colours, Form, STANDARD_INPUT, STANDARD_INPUT_NAME, command,
 };
-use glslpp_parts::definitions::check_changes;
+use glslpp_parts::definitions::{check_changes, check_included};
 use glslpp_parts::extensions::check_extensions;
 use glslpp_parts::failure::{Failure, failure_of};
+use glslpp_parts::long_options::lengthen_options;
 use glslpp_parts::output_folder::outputs_in;
 use glslpp_parts::report::{Reporter, Style};
 use glslpp_parts::source::Source;
 use glslpp_parts::standard::{lengthen_standards, version_without_line};
 use glslpp_parts::version::Version;
 use glslpp_parts::warning::check_warnings;
+use including::{Identity, Library, identity_of, source_of};
 use preprocess::{Found, preprocess};
 use std::io::IsTerminal;
 use std::process::ExitCode;
@@ -59,6 +66,7 @@ fn work(rt: &HostRuntime) -> Result<u8, Failure> {
     };
     let mut words = expand_words(rt, given)?;
     lengthen_standards(alloc, words.as_mut_slice())?;
+    lengthen_options(alloc, words.as_mut_slice())?;
     refuse_foreign(rt, words.as_slice())?;
     let Ok(command) = command(alloc) else {
         return Err(Failure::OutOfMemory);
@@ -90,6 +98,7 @@ fn preprocess_files(rt: &HostRuntime, matches: &ArgMatches<'_>) -> Result<u8, Fa
     let arguments = Arguments::from_matches(rt.alloc(), matches)?;
     check_extensions(rt.alloc(), arguments.extensions.as_slice())?;
     check_changes(rt.alloc(), arguments.changes.as_slice())?;
+    check_included(rt.alloc(), arguments.included.as_slice())?;
     check_warnings(rt.alloc(), arguments.warning_words.as_slice())?;
     let version = version_without_line(rt.alloc(), arguments.standard)?;
     let is_faultless = match arguments.output {
@@ -165,10 +174,33 @@ fn write_found(
     output: Option<&str>,
     found: &Found,
 ) -> Result<bool, Failure> {
-    if found.errors == 0 || arguments.form == Form::Tokens {
+    let is_faultless = found.errors == 0;
+    if let Some(output) = output {
+        check_included_files(rt, found, output)?;
+    }
+    if arguments.dependencies.are_output {
+        if is_faultless {
+            write_rule(rt, arguments, output, found)?;
+        }
+        return Ok(is_faultless);
+    }
+    if is_faultless || arguments.form == Form::Tokens {
         write_output(rt, output, found.output.as_str())?;
     }
-    Ok(found.errors == 0)
+    if is_faultless && arguments.dependencies.are_written {
+        write_rule(rt, arguments, output, found)?;
+    }
+    Ok(is_faultless)
+}
+
+// Fails if the output is one of the files that were read.
+fn check_included_files(rt: &HostRuntime, found: &Found, output: &str) -> Result<(), Failure> {
+    for file in found.files.as_slice() {
+        if files::is_same(rt, file.as_str(), output) {
+            return Err(failure_of(rt.alloc(), output, "the output is also an included file"));
+        }
+    }
+    Ok(())
 }
 
 // Fails if the output is one of the sources.
@@ -182,7 +214,7 @@ fn check_output(rt: &HostRuntime, arguments: &Arguments<'_>, output: &str) -> Re
 }
 
 // The name of a file in messages.
-fn name_of<'a>(arguments: &Arguments<'a>, file: &'a str) -> &'a str {
+pub(crate) fn name_of<'a>(arguments: &Arguments<'a>, file: &'a str) -> &'a str {
     if file == STANDARD_INPUT {
         arguments.standard_input_name
     } else {
@@ -208,18 +240,35 @@ fn preprocess_file(
         style: style_of(rt, arguments),
         file: name,
     };
+    let arena = Bump::new(rt.alloc());
     let replaced = source.replaced.as_slice();
+    let file_text = source_of(rt.alloc(), &arena, arguments.rule_set, text, name, replaced)?;
+    let library = Library::new(
+        rt,
+        &arena,
+        arguments.folders.as_slice(),
+        file_text,
+        identity_of_source(rt, file),
+    )?;
     let reports = preprocess(
         rt.alloc(),
         reporter,
         arguments,
         version,
-        text,
-        replaced,
+        file_text,
+        library,
         found,
     )?;
     let _ = rt.eprint(reports.as_str());
     Ok(())
+}
+
+// What tells the file of a source from others. The standard input has none.
+fn identity_of_source(rt: &HostRuntime, file: &str) -> Option<Identity> {
+    if file == STANDARD_INPUT {
+        return None;
+    }
+    identity_of(rt, file)
 }
 
 // Reads a file, or the standard input, as text.
@@ -234,7 +283,11 @@ fn read_source(rt: &HostRuntime, file: &str, name: &str) -> Result<Source, Failu
 }
 
 // Writes the file, or prints.
-fn write_output(rt: &HostRuntime, file: Option<&str>, output: &str) -> Result<(), Failure> {
+pub(crate) fn write_output(
+    rt: &HostRuntime,
+    file: Option<&str>,
+    output: &str,
+) -> Result<(), Failure> {
     let (name, end) = match file {
         Some(file) => (file, files::write(rt, file, output)),
         None => ("<stdout>", files::print(rt, output)),

@@ -7,6 +7,7 @@ pub mod PredefinedLemmas
 pub mod ReportsLemmas
 pub mod SpelledLemmas
 pub mod StandardsLemmas
+pub mod TextsLemmas
 pub mod VersionLemmas
 pub mod WordFilesLemmas
 pub mod ItemsLemmas

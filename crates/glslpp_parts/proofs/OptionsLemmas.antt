@@ -20,3 +20,9 @@ four_added old one two three four a b c d x y z w e f g h p q r s =
     h ∙ ap (λ (ks : List Known). ks ++ w ∷ []) (three_added old one two three a b c x y z e f g p q r)
     ∙ append_assoc old (a ∷ b ∷ c ∷ []) (w ∷ [])
     ∙ ap (λ (k : Known). old ++ (a ∷ b ∷ c ∷ k ∷ [])) s
+
+-- two after four
+pub six_added : (old four six : List Known) (a b c d e f : Known) → four ≡ old ++ (a ∷ b ∷ c ∷ d ∷ []) → six ≡ four ++ (e ∷ f ∷ [])
+    → six ≡ old ++ (a ∷ b ∷ c ∷ d ∷ e ∷ f ∷ [])
+six_added old four six a b c d e f g h =
+    h ∙ ap (λ (ks : List Known). ks ++ (e ∷ f ∷ [])) g ∙ append_assoc old (a ∷ b ∷ c ∷ d ∷ []) (e ∷ f ∷ [])

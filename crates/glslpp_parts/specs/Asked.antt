@@ -11,7 +11,7 @@ use Rattle.glslpp_parts.specs.declared.rule_set.RuleSet.{RuleSet}
 use Rattle.glslpp_parts.specs.declared.rule_set.RuleSet.TheVariants.{PpRs}
 use Rattle.glslpp_parts.specs.declared.warning.Warnings.{Warnings}
 use Rattle.glslpp_parts.specs.Warnings.{warnings_of}
-use Rattle.glslpp_parts.specs.declared.arguments.Form.TheVariants.{Lines, Compact, Tokens, Directives}
+use Rattle.glslpp_parts.specs.declared.arguments.Form.TheVariants.{Lines, Compact, Tokens, Directives, Definitions}
 
 -- the words that an argument was given, in order
 abbrev pub words_of : Found → List ℕ → List (List ℕ)
@@ -24,19 +24,22 @@ pub record IsFlag (found : Found) (id : List ℕ) (flag : Bool) : Type 0 where
   pub none : one_text found id ≡ None → flag ≡ false
 
 -- the form of the flags for tokens, for directives and for runs of tokens; of several that are given, the first counts
-abbrev pub form_of : Bool → Bool → Bool → Form
-form_of tokens directives compact =
-    if tokens then Tokens else if directives then Directives else if compact then Compact else Lines
+abbrev pub form_of : Bool → Bool → Bool → Bool → Form
+form_of definitions tokens directives compact =
+    if definitions then Definitions else if tokens then Tokens else if directives then Directives
+    else if compact then Compact else Lines
 
 -- the form that the flags say
 pub record IsForm (found : Found) (form : Form) : Type 0 where
+  pub definitions : Bool
   pub tokens : Bool
   pub directives : Bool
   pub compact : Bool
+  pub are_definitions : IsFlag found (codes "definitions") definitions
   pub are_tokens : IsFlag found (codes "tokens") tokens
   pub are_directives : IsFlag found (codes "directives") directives
   pub is_compact : IsFlag found (codes "compact") compact
-  pub is : form ≡ form_of tokens directives compact
+  pub is : form ≡ form_of definitions tokens directives compact
 
 -- whether an option's value is this one
 pub record IsAsked (found : Found) (id value : List ℕ) (is : Bool) : Type 0 where

@@ -9,7 +9,7 @@ use Rattle.pp_lexer.specs.declared.token.TokenValue.TheVariants.{Ident}
 use Rattle.pp_rs.specs.Adding.{IsAdded}
 use Rattle.pp_rs.specs.Kept.{Preprocessing}
 use Rattle.glslpp_parts.specs.declared.changes.Change.{Change}
-use Rattle.glslpp_parts.specs.declared.changes.Change.TheVariants.{Define, Undefine}
+use Rattle.glslpp_parts.specs.declared.changes.Change.TheVariants.{Define, DefineCall, Undefine}
 use Rattle.glslpp_parts.specs.declared.failure.Failure.{Failure}
 use Rattle.glslpp_parts.specs.declared.failure.Failure.TheVariants.{Told, OutOfMemory}
 use Rattle.glslpp_parts.specs.Changes.{Definition}
@@ -36,6 +36,8 @@ IsOneLine content = list_any is_line_break content ≡ false
 -- a `-D` of a free name with a content without line breaks, or a `-U` of a free name
 abbrev pub IsDefinable : Change → Type 0
 IsDefinable (Define name content) = IsFreeName name.now × IsOneLine content.now
+IsDefinable (DefineCall name parameters content) =
+    IsFreeName name.now × (IsOneLine parameters.now × IsOneLine content.now)
 IsDefinable (Undefine name) = IsFreeName name.now
 
 -- the failure isn't that memory ran out

@@ -52,6 +52,14 @@ on_free_line laid = if laid.is_line_begun then on_next_line laid else laid
 abbrev pub with_directive : Laid → ℕ → List ℕ → Laid
 with_directive laid line word = on_next_line (on_line (on_free_line laid) line Space word)
 
+-- with one more line, after which the lines are counted from this one
+abbrev pub with_mark : Laid → List ℕ → ℕ → Laid
+with_mark laid mark line = record {
+  text = laid.text ++ (if laid.is_line_begun then 10 ∷ [] else []) ++ mark ++ 10 ∷ [];
+  line = line;
+  is_line_begun = false;
+}
+
 -- the text, with a last line end if a word is on its last line
 abbrev pub finished : Laid → List ℕ
 finished laid = laid.text ++ (if laid.is_line_begun then 10 ∷ [] else [])

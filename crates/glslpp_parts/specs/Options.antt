@@ -47,9 +47,20 @@ value_options = lettered (codes "define") 68 Append ∷ lettered (codes "undefin
 abbrev pub language_options : List Known
 language_options = long_valued (codes "rules") ∷ long_valued (codes "std") ∷ long_listed (codes "extension") ∷ []
 
--- `-P`, `--tokens` and `--directives`
+-- `-P`, `--tokens`, `--directives` and `--definitions`
 abbrev pub forms : List Known
-forms = lettered (codes "compact") 80 SetTrue ∷ named (codes "tokens") ∷ named (codes "directives") ∷ []
+forms = lettered (codes "compact") 80 SetTrue ∷ named (codes "tokens") ∷ named (codes "directives")
+    ∷ named (codes "definitions") ∷ []
+
+-- `-I`, `--include` and `--line-names`
+abbrev pub include_options : List Known
+include_options = lettered (codes "folder") 73 Append ∷ long_listed (codes "include") ∷ named (codes "line-names") ∷ []
+
+-- `-M`, `-MD`, `-MF`, `-MT`, `-MQ` and `-MP`, by their long names
+abbrev pub dependency_options : List Known
+dependency_options = named (codes "dependencies") ∷ named (codes "write-dependencies")
+    ∷ long_valued (codes "dependency-file") ∷ long_listed (codes "target") ∷ long_listed (codes "quoted-target")
+    ∷ named (codes "phony-targets") ∷ []
 
 -- `--first-error`, `--undef` and `--budget`
 abbrev pub general_options : List Known
@@ -70,5 +81,5 @@ foreign = lettered (codes "only") 69 SetTrue ∷ lettered (codes "stage") 83 App
 
 -- all of them, and the files
 abbrev pub options : List Known
-options = language_options ++ value_options ++ forms ++ general_options ++ message_options ++ warning_options ++ foreign
-    ++ nameless (codes "files") Append ∷ []
+options = language_options ++ value_options ++ forms ++ include_options ++ dependency_options ++ general_options
+    ++ message_options ++ warning_options ++ foreign ++ nameless (codes "files") Append ∷ []

@@ -37,17 +37,35 @@ name_of Note = codes "note"
 abbrev pub severity_text : Style → Severity → List ℕ
 severity_text style severity = colour style severity ++ name_of severity ++ codes ": " ++ ended style
 
--- the line of the source to which a message points, if it points into the source
+-- the number of the text to which a message points, if it points into a file
+abbrev pub text_of_site : Site → Option ℕ
+text_of_site (InSource line column place) = Some place.number
+text_of_site (OnCommandLine place) = None
+text_of_site InFile = None
+
+-- the line of that file
 abbrev pub line_of_site : Site → Option ℕ
 line_of_site (InSource line column place) = Some line
 line_of_site (OnCommandLine place) = None
 line_of_site InFile = None
 
--- the byte offset there
+-- the byte offset in it
 abbrev pub start_of_site : Site → Option ℕ
 start_of_site (InSource line column place) = Some place.start
 start_of_site (OnCommandLine place) = None
 start_of_site InFile = None
+
+-- the number of the text to which a message points and the byte offset in it, if it points into a file
+abbrev pub point_of_site : Site → Option (ℕ × ℕ)
+point_of_site (InSource line column place) = Some (place.number, place.start)
+point_of_site (OnCommandLine place) = None
+point_of_site InFile = None
+
+-- the name of the file to which a message points, which is the source's if it points into no file
+abbrev pub file_of_site : List ℕ → Site → List ℕ
+file_of_site source (InSource line column place) = place.name.now
+file_of_site source (OnCommandLine place) = source
+file_of_site source InFile = source
 
 -- how a place of a file is named: `<command line>: ` in a definition of the command line, and otherwise `FILE: ` or
 -- `FILE:LINE:COLUMN: `

@@ -8,7 +8,7 @@ use Rattle.pp_lexer.specs.declared.rules.Profile.{Profile}
 use Rattle.pp_lexer.specs.declared.rules.Profile.TheVariants.{Es, Core, Compatibility}
 use Rattle.pp_lexer.specs.declared.token.PreprocessorError.{PreprocessorError}
 use Rattle.glslpp_parts.specs.declared.changes.Change.{Change}
-use Rattle.glslpp_parts.specs.declared.changes.Change.TheVariants.{Define, Undefine}
+use Rattle.glslpp_parts.specs.declared.changes.Change.TheVariants.{Define, DefineCall, Undefine}
 use Rattle.glslpp_parts.specs.declared.version.Version.{Version}
 
 -- what a lexer reads: a value, or an error
@@ -92,6 +92,7 @@ is_compatible v = names_compatibility v.profile && nat_le 150 v.number
 
 abbrev pub said_of : Change → List ℕ × Option (List ℕ)
 said_of (Define name content) = (name.now, Some content.now)
+said_of (DefineCall name parameters content) = (name.now ++ parameters.now, Some content.now)
 said_of (Undefine name) = (name.now, None)
 
 -- the changes as texts: a name with its content, or a name that is undefined

@@ -9,7 +9,7 @@ ghost use Rattle.glslpp_parts.specs.Asked.{IsRuleSet};
 ghost use Rattle.glslpp_parts.specs.Asked.{files_or_input, words_of};
 ghost use Rattle.glslpp_parts.specs.Options.{options, options_of, value_options, forms, general_options, foreign};
 ghost use Rattle.glslpp_parts.specs.Options.{language_options, lettered, long_listed, long_valued, message_options};
-ghost use Rattle.glslpp_parts.specs.Options.{known_of, named, nameless};
+ghost use Rattle.glslpp_parts.specs.Options.{known_of, dependency_options, include_options, named, nameless};
 ghost use Rattle.glslpp_parts.specs.inner.Adding.{IsOption};
 
 use crate::changes::Change;
@@ -43,6 +43,8 @@ pub enum Form {
     Tokens,
     /// Only its directive items.
     Directives,
+    /// Only the macros that are defined at its end.
+    Definitions,
 }
 
 /// Whether messages have colours.
@@ -56,6 +58,23 @@ pub enum Colours {
     Never,
 }
 
+/// What is asked for of the files that an output depends on.
+#[derive(Drop)]
+pub struct Dependencies<'a> {
+    /// Whether they are printed in place of the output.
+    pub are_output: bool,
+    /// Whether they are written beside the output.
+    pub are_written: bool,
+    /// The file to which they are written.
+    pub file: Option<&'a str>,
+    /// What depends on them, as it stands in a rule.
+    pub targets: Vec<&'a str>,
+    /// What depends on them, by its name.
+    pub quoted_targets: Vec<&'a str>,
+    /// Whether each of them has a rule too.
+    pub have_targets: bool,
+}
+
 /// What the command line asks for.
 #[derive(Drop)]
 pub struct Arguments<'a> {
@@ -63,10 +82,18 @@ pub struct Arguments<'a> {
     pub changes: Vec<Change<'a>>,
     /// The names of extensions whose macros are defined.
     pub extensions: Vec<&'a str>,
+    /// The files that are included before the sources.
+    pub included: Vec<&'a str>,
+    /// The folders in which included files are looked for.
+    pub folders: Vec<&'a str>,
+    /// What is asked for of the files that an output depends on.
+    pub dependencies: Dependencies<'a>,
     /// The file to write instead of the standard output.
     pub output: Option<&'a str>,
     /// How the preprocessed source is printed.
     pub form: Form,
+    /// Whether `#line` lines name files by their names.
+    pub has_line_names: bool,
     /// Whose rules the sources are read by.
     pub rule_set: RuleSet,
     /// The word that names the version of a source without a `#version`.
@@ -100,7 +127,9 @@ pub fn command<'a>(alloc: Global) -> Result<Command<'a>, clap::Error>
     let with_language = with_language_options(alloc, bare_command(alloc))?;
     let with_values = with_value_options(alloc, with_language)?;
     let with_forms = with_forms(alloc, with_values)?;
-    let with_general = with_general_options(alloc, with_forms)?;
+    let with_includes = with_include_options(alloc, with_forms)?;
+    let with_dependencies = with_dependency_options(alloc, with_includes)?;
+    let with_general = with_general_options(alloc, with_dependencies)?;
     let with_messages = with_message_options(alloc, with_general)?;
     let with_warnings = with_warning_options(alloc, with_messages)?;
     let with_foreign = with_foreign_options(alloc, with_warnings)?;
@@ -148,6 +177,10 @@ const LANGUAGE: &str = "Language";
 
 const OUTPUT: &str = "Output";
 
+const INCLUDES: &str = "Included files";
+
+const DEPENDENCIES: &str = "Dependencies";
+
 pub(crate) const MESSAGES: &str = "Messages";
 
 const FOREIGN: &str = "For builds";
@@ -190,7 +223,7 @@ const RULE_SETS: [&str; 2] = ["glsl", "pp-rs"];
 fn extension_option<'a>(alloc: Global) -> Arg<'a>
     ensures { IsOption result (long_listed (codes "extension")) }
 {
-    long_option(alloc, "extension", "NAME", EXTENSION_HELP).action(ArgAction::Append)
+    listed_option(alloc, "extension", "NAME", EXTENSION_HELP)
 }
 
 const EXTENSION_HELP: &str = "Define the macro of an extension as 1, as a compiler that has it";
@@ -221,11 +254,25 @@ fn with_forms<'a>(alloc: Global, command: Command<'a>) -> Result<Command<'a>, Al
     let compact = compact_flag(alloc)?;
     let tokens = tokens_flag(alloc)?;
     let directives = long_flag(alloc, "directives", DIRECTIVES_HELP);
+    let definitions = definitions_flag(alloc)?;
     let first = with_option(command, OUTPUT, compact)?;
     let second = with_option(first, OUTPUT, tokens)?;
     let third = with_option(second, OUTPUT, directives)?;
-    Ok(third)
+    let fourth = with_option(third, OUTPUT, definitions)?;
+    Ok(fourth)
 }
+
+fn definitions_flag<'a>(alloc: Global) -> Result<Arg<'a>, AllocError>
+    ensures { IfOk result (λ option. IsOption option (named (codes "definitions"))) }
+{
+    let definitions = long_flag(alloc, "definitions", DEFINITIONS_HELP);
+    let definitions = without(definitions, "compact")?;
+    let definitions = without(definitions, "tokens")?;
+    let definitions = without(definitions, "directives")?;
+    Ok(definitions)
+}
+
+const DEFINITIONS_HELP: &str = "Print the macros that are defined at the end: -dM too";
 
 const DIRECTIVES_HELP: &str = "Print the #version, #extension and #pragma lines alone";
 
@@ -258,6 +305,68 @@ fn without<'a>(option: Arg<'a>, other: &'a str) -> Result<Arg<'a>, AllocError>
 {
     option.conflicts_with(other)
 }
+
+// Adds the options for files that are included.
+fn with_include_options<'a>(alloc: Global, command: Command<'a>) -> Result<Command<'a>, AllocError>
+    ensures { IfOk result (λ new. options_of new ≡ options_of command.entry ++ include_options) }
+{
+    let folder = definition_option(alloc, "folder", 'I', "DIR", FOLDER_HELP);
+    let include = listed_option(alloc, "include", "FILE", INCLUDE_HELP);
+    let names = long_flag(alloc, "line-names", LINE_NAMES_HELP);
+    let first = with_option(command, INCLUDES, folder)?;
+    let second = with_option(first, INCLUDES, include)?;
+    let third = with_option(second, OUTPUT, names)?;
+    Ok(third)
+}
+
+// Adds the options for the files that an output depends on.
+fn with_dependency_options<'a>(
+    alloc: Global,
+    command: Command<'a>,
+) -> Result<Command<'a>, AllocError>
+    ensures { IfOk result (λ new. options_of new ≡ options_of command.entry ++ dependency_options) }
+{
+    let only = long_flag(alloc, "dependencies", DEPENDENCIES_HELP);
+    let beside = long_flag(alloc, "write-dependencies", WRITE_DEPENDENCIES_HELP);
+    let file = long_option(alloc, "dependency-file", "FILE", DEPENDENCY_FILE_HELP);
+    let target = listed_option(alloc, "target", "TARGET", TARGET_HELP);
+    let quoted = listed_option(alloc, "quoted-target", "TARGET", QUOTED_TARGET_HELP);
+    let phony = long_flag(alloc, "phony-targets", PHONY_HELP);
+    let first = with_option(command, DEPENDENCIES, only)?;
+    let second = with_option(first, DEPENDENCIES, beside)?;
+    let third = with_option(second, DEPENDENCIES, file)?;
+    let fourth = with_option(third, DEPENDENCIES, target)?;
+    let fifth = with_option(fourth, DEPENDENCIES, quoted)?;
+    let sixth = with_option(fifth, DEPENDENCIES, phony)?;
+    Ok(sixth)
+}
+
+// An option that may be repeated, with a long name, which is its id too.
+fn listed_option<'a>(alloc: Global, id: &'a str, value: &'a str, help: &'a str) -> Arg<'a>
+    ensures { IsOption result (long_listed id.now) }
+{
+    long_option(alloc, id, value, help).action(ArgAction::Append)
+}
+
+const DEPENDENCIES_HELP: &str =
+    "Print the rule for Make and Ninja, and not the source: -M and -MM too";
+
+const WRITE_DEPENDENCIES_HELP: &str =
+    "Write the rule for Make and Ninja beside the output: -MD and -MMD too";
+
+const DEPENDENCY_FILE_HELP: &str = "Write the rule to FILE, not to that of -o with .d: -MF too";
+
+const TARGET_HELP: &str = "The target of the rule as it is, not the file of -o: -MT too";
+
+const QUOTED_TARGET_HELP: &str = "The same, written as Make reads it: -MQ too";
+
+const PHONY_HELP: &str = "Add an empty rule for each included file: -MP too";
+
+const FOLDER_HELP: &str = "Look for included files in the folder DIR too";
+
+const INCLUDE_HELP: &str = "Include FILE before each source: -include too";
+
+const LINE_NAMES_HELP: &str = "Name files in #line lines by their names, and not by numbers";
 
 fn with_general_options<'a>(alloc: Global, command: Command<'a>) -> Result<Command<'a>, AllocError>
     ensures { IfOk result (λ new. options_of new ≡ options_of command.entry ++ general_options) }
@@ -421,6 +530,12 @@ impl<'a> Arguments<'a> {
     ) -> Result<Arguments<'a>, AllocError>
         ensures extensions { IfOk result (λ asked. map (λ name. name.now) asked.extensions.items
             ≡ words_of (found_of matches.now) (codes "extension")) }
+        ensures included { IfOk result (λ asked. map (λ file. file.now) asked.included.items
+            ≡ words_of (found_of matches.now) (codes "include")) }
+        ensures folders { IfOk result (λ asked. map (λ folder. folder.now) asked.folders.items
+            ≡ words_of (found_of matches.now) (codes "folder")) }
+        ensures line_names { IfOk result (λ asked. IsFlag (found_of matches.now) (codes "line-names")
+            asked.has_line_names) }
         ensures output { IfOk result (λ asked. option_map (λ name. name.now) asked.output
             ≡ first_value (found_of matches.now) (codes "output")) }
         ensures form { IfOk result (λ asked. IsForm (found_of matches.now) asked.form) }
@@ -449,8 +564,12 @@ impl<'a> Arguments<'a> {
         Ok(Arguments {
             changes: changes_of(alloc, matches)?,
             extensions: words_of(alloc, matches, "extension")?,
+            included: words_of(alloc, matches, "include")?,
+            folders: words_of(alloc, matches, "folder")?,
+            dependencies: dependencies_of(alloc, matches)?,
             output: matches.get_str("output"),
             form: form_of(matches),
+            has_line_names: is_given(matches, "line-names"),
             rule_set: rule_set_of(matches),
             standard: matches.get_str("std"),
             is_predefining: !is_given(matches, "undef"),
@@ -465,6 +584,20 @@ impl<'a> Arguments<'a> {
             files: files_of(alloc, matches)?,
         })
     }
+}
+
+fn dependencies_of<'a>(
+    alloc: Global,
+    matches: &ArgMatches<'a>,
+) -> Result<Dependencies<'a>, AllocError> {
+    Ok(Dependencies {
+        are_output: is_given(matches, "dependencies"),
+        are_written: is_given(matches, "write-dependencies"),
+        file: matches.get_str("dependency-file"),
+        targets: words_of(alloc, matches, "target")?,
+        quoted_targets: words_of(alloc, matches, "quoted-target")?,
+        have_targets: is_given(matches, "phony-targets"),
+    })
 }
 
 // The number of errors, all of them if it is 0.
@@ -531,8 +664,11 @@ fn form_of(matches: &ArgMatches<'_>) -> Form
 {
     let tokens = is_given(matches, "tokens");
     let directives = is_given(matches, "directives");
+    let definitions = is_given(matches, "definitions");
     let compact = is_given(matches, "compact");
-    if tokens {
+    if definitions {
+        Form::Definitions
+    } else if tokens {
         Form::Tokens
     } else if directives {
         Form::Directives
@@ -610,10 +746,30 @@ fn push_undefined<'a>(
     Ok(())
 }
 
-// The definition of an argument `NAME` or `NAME=CONTENT`.
+// The definition of an argument `NAME`, `NAME=CONTENT` or `NAME(PARAMETERS)=CONTENT`.
 fn definition_of(word: &str) -> Change<'_> {
+    if let Some((name, parameters, content)) = call_parts_of(word) {
+        return Change::DefineCall(name, parameters, content);
+    }
     match word.split_once('=') {
         Some((name, content)) => Change::Define(name, content),
         None => Change::Define(word, "1"),
     }
+}
+
+// The name, the parameters in their parentheses, and the content of an argument `NAME(PARAMETERS)` or
+// `NAME(PARAMETERS)=CONTENT`.
+fn call_parts_of(word: &str) -> Option<(&str, &str, &str)> {
+    let open = word.find('(')?;
+    let close = word.find(')')?;
+    let name = word.get(..open)?;
+    let parameters = word.get(open..close.saturating_add(1))?;
+    let rest = word.get(close.saturating_add(1)..)?;
+    if name.contains('=') {
+        return None;
+    }
+    if rest.is_empty() {
+        return Some((name, parameters, "1"));
+    }
+    Some((name, parameters, rest.strip_prefix('=')?))
 }

@@ -11,6 +11,8 @@ use std::alloc::{AllocError, Global};
 pub enum Change<'a> {
     /// A macro's name and content.
     Define(&'a str, &'a str),
+    /// A macro's name, its parameters in their parentheses, and its content.
+    DefineCall(&'a str, &'a str, &'a str),
     /// The name of a macro that is undefined.
     Undefine(&'a str),
 }
@@ -48,6 +50,27 @@ fn push_kept<'a>(
         }
         _ => Ok(()),
     }
+}
+
+/// Returns the lines before a source that define the macros with parameters that no later `-U` undoes, in order, and
+/// include these files.
+pub fn lines_before(
+    alloc: Global,
+    changes: &[Change<'_>],
+    files: &[&str],
+) -> Result<String, AllocError> {
+    let mut lines = String::new(alloc);
+    for index in 0..changes.len() {
+        if let Change::DefineCall(name, parameters, content) = changes[index]
+            && !is_taken_back(name, &changes[index + 1..])
+        {
+            writeln!(lines, "#define {name}{parameters} {content}")?;
+        }
+    }
+    for file in files {
+        writeln!(lines, "#include \"{file}\"")?;
+    }
+    Ok(lines)
 }
 
 // Whether one of the changes is a `-U` of the name.

@@ -4,6 +4,8 @@ ghost use Rattle.std.specs.Prelude.{◌≡◌, ◌<◌, ◌≤◌, length};
 ghost use Rattle.pp_lexer.specs.Lines.{is_line_break};
 ghost use Rattle.glslpp_parts.specs.Columns.{column_past, column_at};
 
+use pp_rs::pp::SOURCE_TEXT;
+
 /// A place whose column was counted.
 #[derive(Clone, Copy)]
 struct Counted {
@@ -71,6 +73,38 @@ impl<'a> Columns<'a> {
         } else {
             START
         }
+    }
+}
+
+/// The columns of all texts of a run. They are kept for the source and for the last other text.
+#[derive(Drop)]
+pub(crate) struct ColumnsOfTexts<'a> {
+    source: Columns<'a>,
+    // The number of the other text.
+    number: u32,
+    other: Columns<'a>,
+}
+
+impl<'a> ColumnsOfTexts<'a> {
+    /// Columns of a source in which no place was counted yet.
+    pub(crate) fn new(source: &'a str) -> ColumnsOfTexts<'a> {
+        ColumnsOfTexts {
+            source: Columns::new(source),
+            number: SOURCE_TEXT,
+            other: Columns::new(source),
+        }
+    }
+
+    /// The column of a byte offset, from 1, of the text with this number.
+    pub(crate) fn column(&mut self, number: u32, text: &'a str, offset: usize) -> usize {
+        if number == SOURCE_TEXT {
+            return self.source.column(offset);
+        }
+        if number != self.number {
+            self.number = number;
+            self.other = Columns::new(text);
+        }
+        self.other.column(offset)
     }
 }
 

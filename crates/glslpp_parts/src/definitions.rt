@@ -39,6 +39,11 @@ fn check_change(alloc: Global, change: Change<'_>) -> Result<(), Failure>
             check_name(alloc, "-D", name)?;
             check_content(alloc, name, content)
         }
+        Change::DefineCall(name, parameters, content) => {
+            check_name(alloc, "-D", name)?;
+            check_content(alloc, name, parameters)?;
+            check_content(alloc, name, content)
+        }
         Change::Undefine(name) => check_name(alloc, "-U", name),
     }
 }
@@ -55,7 +60,7 @@ pub(crate) fn check_name(alloc: Global, option: &str, name: &str) -> Result<(), 
         return Ok(());
     }
     let cause = if name.contains('(') {
-        "macros with parameters are defined in the source"
+        "not a macro with parameters, as `F(x)=x`"
     } else {
         "not a macro name"
     };
@@ -112,6 +117,18 @@ fn is_name(alloc: Global, text: &str) -> Result<bool, AllocError>
         return Ok(false);
     }
     is_read_as(alloc, Rules::PP_RS, text, ValueRef::Ident(text))
+}
+
+/// Fails at the first name of a file that can't stand between `"` on one line.
+pub fn check_included(alloc: Global, files: &[&str]) -> Result<(), Failure> {
+    for file in files {
+        if file.is_empty() || file.contains('"') || has_line_end(file) {
+            let cause =
+                "the name of an included file has no `\"` and no line end, and is not empty";
+            return Err(refusal(alloc, "-include", file, cause));
+        }
+    }
+    Ok(())
 }
 
 /// Adds the definitions to the preprocessor, and their contents to the texts.

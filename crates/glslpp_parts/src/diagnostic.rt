@@ -1,13 +1,13 @@
 //! What is said of a source: messages with their places.
 
 ghost use Rattle.std.specs.Prelude.{◌≡◌};
-ghost use Rattle.glslpp_parts.specs.Reports.{line_of_site, name_of, start_of_site};
+ghost use Rattle.glslpp_parts.specs.Reports.{line_of_site, name_of, point_of_site, start_of_site, text_of_site};
 
 use crate::macro_use::MacroUse;
 use crate::outline::Define;
 use crate::place::Place;
 use crate::texts::Texts;
-use pp_rs::pp::SOURCE_TEXT;
+use crate::warning::Warning;
 use pp_rs::token::Location;
 
 /// How grave a message is.
@@ -37,39 +37,46 @@ impl Severity {
 /// Where a message points.
 #[derive(Clone, Copy)]
 pub enum Site<'a> {
-    /// A place of the source, on this 1-based line, at this column in characters from 1.
+    /// A place of the source or of a file that it includes, on this 1-based line, at this column in characters from 1.
     InSource(u32, usize, Place<'a>),
     /// A place of a definition of the command line, if it is known.
     OnCommandLine(Option<Place<'a>>),
-    /// The whole file.
+    /// The whole source.
     InFile,
 }
 
 impl<'a> Site<'a> {
     /// The site of an item's place in the text with this number. It is looked up on its line alone.
-    pub(crate) fn of(texts: &'a Texts<'_>, text: u32, location: Location) -> Site<'a> {
+    pub(crate) fn of(texts: &Texts<'a>, text: u32, location: Location) -> Site<'a> {
         let Some(spot) = texts.spot(text, location) else {
             return Site::InFile;
         };
         match Place::find(spot) {
-            found if !spot.is_in_source => Site::OnCommandLine(found),
+            found if !spot.is_in_file => Site::OnCommandLine(found),
             Some(place) => Site::InSource(location.line, place.column(), place),
             None => Site::InFile,
         }
     }
 
-    /// The site of the name of a definition in the source.
-    pub(crate) fn of_define(texts: &'a Texts<'_>, define: Define) -> Site<'a> {
-        match texts
-            .spot(SOURCE_TEXT, define.location)
-            .and_then(Place::find)
-        {
+    /// The site of the name of a definition in the text with this number.
+    pub(crate) fn of_define(texts: &Texts<'a>, text: u32, define: Define) -> Site<'a> {
+        match texts.spot(text, define.location).and_then(Place::find) {
             Some(place) => Site::InSource(define.location.line, define.column, place),
             None => Site::InFile,
         }
     }
 
-    /// The 1-based line in the source, or `None` if it points elsewhere.
+    /// The number of the file's text, or `None` if it points elsewhere.
+    pub fn text(self) -> Option<u32>
+        ensures { result ≡ text_of_site self.entry }
+    {
+        match self {
+            Site::InSource(_, _, place) => Some(place.number),
+            Site::OnCommandLine(_) | Site::InFile => None,
+        }
+    }
+
+    /// The 1-based line in the file, or `None` if it points elsewhere.
     pub fn line(self) -> Option<u32>
         ensures { result ≡ line_of_site self.entry }
     {
@@ -79,13 +86,31 @@ impl<'a> Site<'a> {
         }
     }
 
-    /// The byte offset in the source, or `None` if it points elsewhere.
+    /// The byte offset in the file, or `None` if it points elsewhere.
     pub fn start(self) -> Option<usize>
         ensures { result ≡ start_of_site self.entry }
     {
         match self {
             Site::InSource(_, _, place) => Some(place.start),
             Site::OnCommandLine(_) | Site::InFile => None,
+        }
+    }
+
+    /// The number of the file's text and the byte offset in it, or `None` if it points elsewhere.
+    pub fn point(self) -> Option<(u32, usize)>
+        ensures { result ≡ point_of_site self.entry }
+    {
+        match self {
+            Site::InSource(_, _, place) => Some((place.number, place.start)),
+            Site::OnCommandLine(_) | Site::InFile => None,
+        }
+    }
+
+    /// The text that it points to.
+    pub fn name(self) -> Option<&'a str> {
+        match self.place() {
+            Some(place) => Some(place.here),
+            None => None,
         }
     }
 
@@ -104,6 +129,8 @@ impl<'a> Site<'a> {
 pub struct Diagnostic<'a> {
     /// How grave it is.
     pub severity: Severity,
+    /// The kind of warning that gives it, if one does.
+    pub warning: Option<Warning>,
     /// What is said.
     pub message: String,
     /// Whether the source shows the cause, so that the message says it in place of the library's sentence.

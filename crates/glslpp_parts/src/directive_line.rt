@@ -2,7 +2,6 @@
 
 ghost use Rattle.std.specs.Prelude.{◌-◌, ◌^◌, ◌<◌, length};
 
-use crate::columns::column_at;
 use crate::diagnostic::Site;
 use crate::place::Place;
 use pp_rs::SOURCE_LIMIT;
@@ -11,13 +10,14 @@ use pp_rs::rules::Rules;
 use pp_rs::token::{PreprocessorError, Punct};
 use std::alloc::{AllocError, Global};
 
-/// A line of the source that begins with `#`.
+/// A line of a file that begins with `#`.
 #[derive(Drop)]
 pub(crate) struct DirectiveLine<'a> {
     /// The rules by which it is read.
     pub(crate) rules: Rules,
-    // The text that it is in, and its byte offset there.
-    whole: &'a str,
+    // A place on it.
+    place: Place<'a>,
+    // Its byte offset in its text.
     offset: usize,
     // Its number, from 1.
     number: u32,
@@ -27,7 +27,7 @@ pub(crate) struct DirectiveLine<'a> {
 }
 
 impl<'a> DirectiveLine<'a> {
-    /// The line of a place of the source, which these rules read, or `None` if no directive is there.
+    /// The line of a place of a file, which these rules read, or `None` if no directive is there.
     pub(crate) fn of(
         alloc: Global,
         rules: Rules,
@@ -47,7 +47,7 @@ impl<'a> DirectiveLine<'a> {
         }
         Ok(Some(DirectiveLine {
             rules,
-            whole: place.text,
+            place,
             offset,
             number,
             text,
@@ -112,13 +112,13 @@ impl<'a> DirectiveLine<'a> {
 
     fn site(&self, start: usize, end: usize) -> Site<'a> {
         let place = Place {
-            text: self.whole,
             start: self.offset.saturating_add(start),
             before: self.text.get(..start).unwrap_or(""),
             here: self.text.get(start..end).unwrap_or(""),
             behind: self.text.get(end..).unwrap_or(""),
+            ..self.place
         };
-        Site::InSource(self.number, column_at(self.whole, place.start), place)
+        Site::InSource(self.number, place.column(), place)
     }
 }
 

@@ -34,8 +34,8 @@ pub(crate) fn directive_text(
     Ok(spelled)
 }
 
-// The line of a directive from its word on, with a `#`, and a space for each comment.
-fn written_line(alloc: Global, text: &str) -> Result<String, AllocError> {
+/// The line of a directive from its word on, with a `#`, and a space for each comment.
+pub(crate) fn written_line(alloc: Global, text: &str) -> Result<String, AllocError> {
     let mut line = String::from_str(alloc, "#")?;
     let mut rest = text;
     for _ in 0..text.len() {

@@ -1,6 +1,6 @@
 //! From errors to messages: the library's sentences, and what the source adds to them.
 
-ghost use Rattle.std.specs.Prelude.{◌≡◌, ◌-◌, ◌^◌, ◌<◌, IfOk, IfSome, None, length};
+ghost use Rattle.std.specs.Prelude.{◌≡◌, IfOk, IfSome};
 ghost use Rattle.pp_rs.specs.Sentences.{sentence_of};
 ghost use Rattle.glslpp_parts.specs.Reports.{IsErrorMessage};
 
@@ -11,7 +11,7 @@ use crate::causes::{
 use crate::diagnostic::{Diagnostic, Note, Severity, Site};
 use crate::directive_line::DirectiveLine;
 use crate::macro_use::MacroUse;
-use crate::outline::Outline;
+use crate::outline::{Define, Outline};
 use crate::place::Place;
 use crate::quoting::{is_typographic_quote, push_char};
 use crate::search::{count_arguments, last_name};
@@ -22,55 +22,39 @@ use pp_rs::pp::SOURCE_TEXT;
 use pp_rs::rules::Rules;
 use pp_rs::token::{Location, PreprocessorError, Punct};
 use std::alloc::{AllocError, Global};
+use std::collections::BTreeMap;
 
 const DEFINED_HERE: &str = "the macro is defined here";
 
-/// The messages for the errors of one source. What it reads of the whole source it reads once, when it is first needed.
+/// The messages for the errors of one source and the files that it includes. What it reads of a whole text it reads
+/// once, when it is first needed.
 #[derive(Drop)]
-pub struct Explainer<'a> {
+pub struct Explainer {
     alloc: Global,
-    source: &'a str,
-    texts: &'a Texts<'a>,
-    // The byte offsets in the source of characters that stand for bytes that aren't UTF-8.
-    replaced: &'a [usize],
-    // The rules by which the source is read.
+    // The rules by which the texts are read.
     rules: Rules,
-    outline: Option<Outline>,
-    ghost is_short: { length source.now < 2 ^ 32 - 1 },
+    // What the directives say of the texts that were read, by their numbers.
+    outlines: BTreeMap<u32, Outline>,
 }
 
-impl<'a> Explainer<'a> {
-    /// The messages for the errors of a source, in which the characters at these byte offsets stand for bytes that
-    /// aren't UTF-8. `texts` has the same source, which is read by these rules, and the contents of the definitions.
-    pub fn new(
-        alloc: Global,
-        source: &'a str,
-        texts: &'a Texts<'a>,
-        replaced: &'a [usize],
-        rules: Rules,
-    ) -> Explainer<'a>
-        requires { length source.now < 2 ^ 32 - 1 }
-        ensures source { result.source.now ≡ source.now }
-        ensures texts { result.texts.now ≡ texts.now }
-        ensures replaced { result.replaced.now ≡ replaced.now }
+impl Explainer {
+    /// The messages for the errors of texts that are read by these rules.
+    pub fn new(alloc: Global, rules: Rules) -> Explainer
         ensures rules { result.rules ≡ rules }
-        ensures outline { result.outline ≡ None }
     {
         Explainer {
             alloc,
-            source,
-            texts,
-            replaced,
             rules,
-            outline: None,
+            outlines: BTreeMap::new(alloc),
         }
     }
 
     /// Returns the message for an error at this place in this text: the library's sentence, and what the source adds to
     /// it. `used` is the use of the macro from which the error comes. It returns `None` if the error only follows from
     /// another one: an `#elif`, `#else` or `#endif` without `#if`, before which an `#if` with an error stands.
-    pub fn explain(
+    pub fn explain<'a>(
         &mut self,
+        texts: &Texts<'a>,
         error: &PreprocessorError,
         text: u32,
         location: Location,
@@ -79,14 +63,15 @@ impl<'a> Explainer<'a> {
         ensures { IfOk result (λ found. IfSome found (λ diagnostic.
             IsErrorMessage (sentence_of error.now) diagnostic)) }
     {
-        if self.is_consequence(error, location)? {
+        if self.is_consequence(texts, error, text, location)? {
             return Ok(None);
         }
         let severity = Severity::Error;
-        let site = Site::of(self.texts, text, cause_of(error, location));
-        if let Some(cause) = self.cause(error, location, site, &used)? {
+        let site = Site::of(texts, text, cause_of(error, location));
+        if let Some(cause) = self.cause(texts, error, text, location, site, &used)? {
             return Ok(Some(Diagnostic {
                 severity,
+                warning: None,
                 message: cause.message,
                 is_of_cause: true,
                 site: cause.site,
@@ -94,13 +79,14 @@ impl<'a> Explainer<'a> {
                 used,
             }));
         }
-        let more = self.more(error, location, site)?;
-        let before = end_of_definitions(text, location, &used);
-        let note = self.note_on_call(error, before, site)?;
+        let more = self.more(texts, error, text, location, site)?;
+        let end = end_of_definitions(texts, text, location, &used);
+        let note = self.note_on_call(texts, error, end, site)?;
         let mut message = format!(in self.alloc; "{error}")?;
         message.push_str(more.as_str())?;
         Ok(Some(Diagnostic {
             severity,
+            warning: None,
             message,
             is_of_cause: false,
             site,
@@ -110,9 +96,11 @@ impl<'a> Explainer<'a> {
     }
 
     // What caused an error, if the source shows it.
-    fn cause(
+    fn cause<'a>(
         &mut self,
+        texts: &Texts<'a>,
         error: &PreprocessorError,
+        text: u32,
         location: Location,
         site: Site<'a>,
         used: &Option<MacroUse<'a>>,
@@ -121,16 +109,22 @@ impl<'a> Explainer<'a> {
             return Ok(None);
         };
         let line = DirectiveLine::of(self.alloc, self.rules, site)?;
+        let end = End {
+            text,
+            before: location.start,
+        };
         let message = match (error, &line) {
             (PreprocessorError::UnexpectedEndOfInput, Some(line)) if line.has_expression() => {
                 return match macro_at_end(line) {
-                    Some(name) => self.empty_macro(line, name, location),
+                    Some(name) => self.empty_macro(texts, line, name, end),
                     None => of_unfinished_expression(self.alloc, line, site),
                 };
             }
-            (PreprocessorError::UnexpectedEndOfInput, _) => return self.unterminated_call(),
+            (PreprocessorError::UnexpectedEndOfInput, _) => {
+                return self.unterminated_call(texts, text);
+            }
             (PreprocessorError::DefineRedefined, _) => {
-                return self.redefinition(location, site, place.here);
+                return self.redefinition(texts, end, site, place.here);
             }
             (PreprocessorError::DivisionByZero, Some(line)) => {
                 return self.division(error, line, Punct::Slash);
@@ -140,7 +134,7 @@ impl<'a> Explainer<'a> {
             }
             (PreprocessorError::UnexpectedToken(value), Some(line)) => {
                 if let Some(name) = macro_before(line, place) {
-                    return self.empty_macro(line, name, location);
+                    return self.empty_macro(texts, line, name, end);
                 }
                 of_unexpected_token(self.alloc, line, place, value, used)?
             }
@@ -163,29 +157,38 @@ impl<'a> Explainer<'a> {
         })
     }
 
-    // The macro call of the source that doesn't end.
-    fn unterminated_call(&mut self) -> Result<Option<Cause<'a>>, AllocError> {
-        let Some(location) = self.outline()?.unterminated() else {
+    // The macro call of a text that doesn't end.
+    fn unterminated_call<'a>(
+        &mut self,
+        texts: &Texts<'a>,
+        text: u32,
+    ) -> Result<Option<Cause<'a>>, AllocError> {
+        let Some(location) = self.outline(texts, text)?.unterminated() else {
             return Ok(None);
         };
-        let site = Site::of(self.texts, SOURCE_TEXT, location);
+        let site = Site::of(texts, text, location);
         let name = site.place().map_or("", |place| place.here);
         let message = format!(in self.alloc; "unterminated call of macro `{name}`")?;
         let mut cause = Cause::new(message, site);
-        cause.note = self.note_on_macro(name, location.start, DEFINED_HERE)?;
+        let end = End {
+            text,
+            before: location.start,
+        };
+        cause.note = self.note_on_macro(texts, name, end, DEFINED_HERE)?;
         Ok(Some(cause))
     }
 
     // A macro that is defined again.
-    fn redefinition(
+    fn redefinition<'a>(
         &mut self,
-        location: Location,
+        texts: &Texts<'a>,
+        end: End,
         site: Site<'a>,
         name: &str,
     ) -> Result<Option<Cause<'a>>, AllocError> {
         let message = format!(in self.alloc; "macro `{name}` redefined")?;
         let mut cause = Cause::new(message, site);
-        let note = self.note_on_macro(name, location.start, "the previous definition is here")?;
+        let note = self.note_on_macro(texts, name, end, "the previous definition is here")?;
         cause.note = Some(note.unwrap_or(Note {
             message: "the previous definition is here",
             site: Site::OnCommandLine(None),
@@ -194,7 +197,7 @@ impl<'a> Explainer<'a> {
     }
 
     // The operator that divides by zero, if the line has only one of its kind.
-    fn division(
+    fn division<'a>(
         &mut self,
         error: &PreprocessorError,
         line: &DirectiveLine<'a>,
@@ -208,92 +211,122 @@ impl<'a> Explainer<'a> {
     }
 
     // A macro in an expression that gives no operand.
-    fn empty_macro(
+    fn empty_macro<'a>(
         &mut self,
+        texts: &Texts<'a>,
         line: &DirectiveLine<'a>,
         token: &Token,
-        location: Location,
+        end: End,
     ) -> Result<Option<Cause<'a>>, AllocError> {
         let name = line.text_of(token);
         let message = format!(in self.alloc; "macro `{name}` gives no operand")?;
         let mut cause = Cause::new(message, line.site_of(token));
-        cause.note = self.note_on_macro(name, location.start, DEFINED_HERE)?;
+        cause.note = self.note_on_macro(texts, name, end, DEFINED_HERE)?;
         Ok(Some(cause))
     }
 
-    // What the directives of the source say. They are read the first time.
-    fn outline(&mut self) -> Result<&Outline, AllocError> {
-        let outline = match self.outline.take() {
+    // What the directives of a text say. They are read the first time.
+    fn outline(&mut self, texts: &Texts<'_>, text: u32) -> Result<&Outline, AllocError> {
+        let outline = match self.outlines.remove(&text) {
             Some(outline) => outline,
-            None => Outline::of(self.alloc, self.rules, self.source)?,
+            None => Outline::of(self.alloc, self.rules, texts.text(text))?,
         };
-        Ok(self.outline.insert(outline))
+        let kept = self.outlines.entry(text)?.or_insert(outline);
+        Ok(kept)
     }
 
     // Whether the error says that a block isn't open, and one is: its `#if` line has an error.
     fn is_consequence(
         &mut self,
+        texts: &Texts<'_>,
         error: &PreprocessorError,
+        text: u32,
         location: Location,
     ) -> Result<bool, AllocError> {
         match error {
             PreprocessorError::ElifOutsideOfBlock
             | PreprocessorError::ElseOutsideOfBlock
             | PreprocessorError::EndifOutsideOfBlock => {
-                Ok(!self.outline()?.is_stray(location.start))
+                Ok(!self.outline(texts, text)?.is_stray(location.start))
             }
             _ => Ok(false),
         }
     }
 
+    // The last definition of a macro before a place, and the number of its text: in the text of the place, or else in
+    // the files that were read before.
+    fn last_define(
+        &mut self,
+        texts: &Texts<'_>,
+        name: &str,
+        end: End,
+    ) -> Result<Option<(u32, Define)>, AllocError> {
+        if let Some(define) = self.outline(texts, end.text)?.last_define(name, end.before) {
+            return Ok(Some((end.text, define)));
+        }
+        for number in (0..texts.count()).rev() {
+            if number != end.text && texts.is_file(number) {
+                let before = match texts.inclusion_in(number, end.text) {
+                    Some(inclusion) => inclusion.location.start,
+                    None => u32::MAX,
+                };
+                if let Some(define) = self.outline(texts, number)?.last_define(name, before) {
+                    return Ok(Some((number, define)));
+                }
+            }
+        }
+        Ok(None)
+    }
+
     // What follows the library's sentence: the text at its place, and what the author may have meant.
     fn more(
         &mut self,
+        texts: &Texts<'_>,
         error: &PreprocessorError,
+        text: u32,
         location: Location,
         site: Site<'_>,
     ) -> Result<String, AllocError> {
-        let mut text = String::new(self.alloc);
+        let mut more = String::new(self.alloc);
         let Some(place) = site.place() else {
-            return Ok(text);
+            return Ok(more);
         };
         match error {
-            PreprocessorError::ErrorDirective => push_reason(&mut text, place.behind.trim())?,
-            PreprocessorError::UnknownDirective => push_directive_name(&mut text, place.here)?,
+            PreprocessorError::ErrorDirective => push_reason(&mut more, place.behind.trim())?,
+            PreprocessorError::UnknownDirective => {
+                push_directive_name(&mut more, place.here, self.rules.asks_includes)?;
+            }
             PreprocessorError::UnexpectedHash if is_in_define(place.before) => {
-                text.push_str(": GLSL ES has no operators `#` and `##`")?;
+                more.push_str(": GLSL ES has no operators `#` and `##`")?;
             }
             PreprocessorError::UnexpectedHash if !place.before.trim().is_empty() => {
-                text.push_str(": a directive begins its line")?;
+                more.push_str(": a directive begins its line")?;
             }
-            PreprocessorError::UnexpectedCharacter if self.is_replaced(site) => {
-                text.push_str(": this byte isn't UTF-8")?;
+            PreprocessorError::UnexpectedCharacter if is_replaced(texts, site) => {
+                more.push_str(": this byte isn't UTF-8")?;
             }
             PreprocessorError::UnexpectedCharacter => {
-                push_character(&mut text, place.here, place.behind)?;
+                push_character(&mut more, place.here, place.behind)?;
             }
             PreprocessorError::TooFewDefineArguments | PreprocessorError::TooManyDefineArguments
                 if site.line().is_some() => {
-                self.push_argument_counts(&mut text, location, place, error)?;
+                let end = End {
+                    text,
+                    before: location.start,
+                };
+                self.push_argument_counts(&mut more, texts, end, place, error)?;
             }
             _ => {}
         }
-        Ok(text)
+        Ok(more)
     }
 
-    // Whether a place is that of a byte that isn't UTF-8.
-    fn is_replaced(&self, site: Site<'_>) -> bool {
-        match site {
-            Site::InSource(_, _, place) => self.replaced.binary_search(&place.start).is_ok(),
-            Site::OnCommandLine(_) | Site::InFile => false,
-        }
-    }
-
-    // What is said beside a call with too few or too many arguments: where its macro is defined before this offset.
-    fn note_on_call(
+    // What is said beside a call with too few or too many arguments: where its macro is defined.
+    fn note_on_call<'a>(
         &mut self,
+        texts: &Texts<'a>,
         error: &PreprocessorError,
-        before: u32,
+        end: End,
         site: Site<'_>,
     ) -> Result<Option<Note<'a>>, AllocError> {
         match (error, site.place()) {
@@ -301,23 +334,23 @@ impl<'a> Explainer<'a> {
                 PreprocessorError::TooFewDefineArguments
                 | PreprocessorError::TooManyDefineArguments,
                 Some(place),
-            ) => self.note_on_macro(last_name(place.before), before, DEFINED_HERE),
+            ) => self.note_on_macro(texts, last_name(place.before), end, DEFINED_HERE),
             _ => Ok(None),
         }
     }
 
-    // Where the macro with this name is defined before a byte offset of the source, with this message.
-    fn note_on_macro(
+    // Where the macro with this name is defined before a place, with this message.
+    fn note_on_macro<'a>(
         &mut self,
+        texts: &Texts<'a>,
         name: &str,
-        before: u32,
+        end: End,
         message: &'static str,
     ) -> Result<Option<Note<'a>>, AllocError> {
-        let texts = self.texts;
-        Ok(match self.outline()?.last_define(name, before) {
-            Some(define) => Some(Note {
+        Ok(match self.last_define(texts, name, end)? {
+            Some((text, define)) => Some(Note {
                 message,
-                site: Site::of_define(texts, define),
+                site: Site::of_define(texts, text, define),
             }),
             None => None,
         })
@@ -327,13 +360,14 @@ impl<'a> Explainer<'a> {
     fn push_argument_counts(
         &mut self,
         text: &mut String,
-        location: Location,
+        texts: &Texts<'_>,
+        end: End,
         place: Place<'_>,
         error: &PreprocessorError,
     ) -> Result<(), AllocError> {
         let name = last_name(place.before);
         let is_too_few = matches!(error, PreprocessorError::TooFewDefineArguments);
-        match self.argument_counts(location, name)? {
+        match self.argument_counts(texts, end, name)? {
             Some((wanted, given)) if wanted != given && (given < wanted) == is_too_few => {
                 let plural = if wanted == 1 { "" } else { "s" };
                 write!(
@@ -348,16 +382,17 @@ impl<'a> Explainer<'a> {
     // How many parameters the macro has, and how many arguments the call has.
     fn argument_counts(
         &mut self,
-        location: Location,
+        texts: &Texts<'_>,
+        end: End,
         name: &str,
     ) -> Result<Option<(usize, usize)>, AllocError> {
-        let Some(define) = self.outline()?.last_define(name, location.start) else {
+        let Some((_, define)) = self.last_define(texts, name, end)? else {
             return Ok(None);
         };
         let Some(wanted) = define.parameters else {
             return Ok(None);
         };
-        let Some(call) = self.source.get(location.start as usize..) else {
+        let Some(call) = texts.text(end.text).get(end.before as usize..) else {
             return Ok(None);
         };
         if call.len() >= SOURCE_LIMIT {
@@ -370,15 +405,47 @@ impl<'a> Explainer<'a> {
     }
 }
 
-// The byte offset in the source before which the definitions are that count for an error: that of the error or, if that
-// is in a definition of the command line, of the use from which it comes.
-fn end_of_definitions(text: u32, location: Location, used: &Option<MacroUse<'_>>) -> u32 {
-    if text == SOURCE_TEXT {
-        return location.start;
+// A place before which definitions count: the number of its text, and its byte offset there.
+#[derive(Clone, Copy)]
+struct End {
+    text: u32,
+    before: u32,
+}
+
+// Where the definitions end that count for an error: at it or, if that is in a definition of the command line, at the
+// use from which it comes.
+fn end_of_definitions(
+    texts: &Texts<'_>,
+    text: u32,
+    location: Location,
+    used: &Option<MacroUse<'_>>,
+) -> End {
+    if texts.is_file(text) {
+        return End {
+            text,
+            before: location.start,
+        };
     }
     match used {
-        Some(used) => u32::try_from(used.site.start().unwrap_or(0)).unwrap_or(u32::MAX),
-        None => 0,
+        Some(used) => End {
+            text: used.text,
+            before: u32::try_from(used.site.start().unwrap_or(0)).unwrap_or(u32::MAX),
+        },
+        None => End {
+            text: SOURCE_TEXT,
+            before: 0,
+        },
+    }
+}
+
+// Whether a place is that of a byte that isn't UTF-8.
+fn is_replaced(texts: &Texts<'_>, site: Site<'_>) -> bool {
+    match site {
+        Site::InSource(_, _, place) => match texts.file(place.number) {
+            Some(file) => file.replaced.binary_search(&place.start).is_ok(),
+            None => false,
+        },
+        Site::OnCommandLine(_) | Site::InFile => false,
     }
 }
 
@@ -429,7 +496,7 @@ fn push_character(text: &mut String, here: &str, behind: &str) -> Result<(), All
 }
 
 // The names of the directives.
-const DIRECTIVES: [&str; 13] = [
+const DIRECTIVES: [&str; 14] = [
     "define",
     "undef",
     "ifdef",
@@ -443,16 +510,27 @@ const DIRECTIVES: [&str; 13] = [
     "version",
     "line",
     "if",
+    "include",
 ];
 
-fn push_directive_name(text: &mut String, name: &str) -> Result<(), AllocError> {
+fn push_directive_name(
+    text: &mut String,
+    name: &str,
+    has_includes: bool,
+) -> Result<(), AllocError> {
     write!(text, " `#{name}`")?;
     if name == "include" {
-        return text.push_str(", which glslpp doesn't have");
+        return text.push_str(if has_includes {
+            " in the arguments of a macro"
+        } else {
+            ", which pp-rs doesn't have"
+        });
     }
     match near_directive(name) {
-        Some(near) => write!(text, ", did you mean `#{near}`?"),
-        None => Ok(()),
+        Some(near) if has_includes || near != "include" => {
+            write!(text, ", did you mean `#{near}`?")
+        }
+        _ => Ok(()),
     }
 }
 

@@ -1,7 +1,8 @@
 //! The names of GLSL's extensions.
 
-/// The names that `glslangValidator` of glslang 12.0.0 takes after `#extension`, in order.
-pub const EXTENSION_NAMES: [&str; 171] = [
+/// The names that `glslangValidator` of glslang 12.0.0 takes after `#extension`, and that of the extension for
+/// `#include`, in order.
+pub const EXTENSION_NAMES: [&str; 172] = [
     "GL_3DL_array_objects",
     "GL_AMD_gcn_shader",
     "GL_AMD_gpu_shader_half_float",
@@ -45,6 +46,7 @@ pub const EXTENSION_NAMES: [&str; 171] = [
     "GL_ARB_shader_texture_lod",
     "GL_ARB_shader_viewport_layer_array",
     "GL_ARB_shading_language_420pack",
+    "GL_ARB_shading_language_include",
     "GL_ARB_shading_language_packing",
     "GL_ARB_sparse_texture2",
     "GL_ARB_sparse_texture_clamp",

@@ -45,17 +45,21 @@ pub fn push_extensions<'a>(
     Ok(())
 }
 
-/// If the value is an `#extension` line that turns on one of the known extensions, its macro is defined as 1.
+/// If the value is an `#extension` line that turns on one of the known extensions, its macro is defined as 1. Returns
+/// whether it is.
 pub fn define_extension(
     items: &mut Preprocessor<'_>,
     value: &TokenValue,
     known: &[&str],
-) -> Result<(), AllocError>
+) -> Result<bool, AllocError>
     ensures { OnOk result (IsWithExtension known.now value.now items.old items.new) }
 {
     match turned_on(value) {
-        Some(name) if is_known(name, known) => define(items, name),
-        _ => Ok(()),
+        Some(name) if is_known(name, known) => {
+            define(items, name)?;
+            Ok(true)
+        }
+        _ => Ok(false),
     }
 }
 
@@ -69,8 +73,8 @@ fn define(items: &mut Preprocessor<'_>, name: &str) -> Result<(), AllocError>
     }
 }
 
-// The name of the extension that an `#extension` line turns on.
-fn turned_on(value: &TokenValue) -> Option<&str>
+/// Returns the name of the extension that an `#extension` line turns on.
+pub fn turned_on(value: &TokenValue) -> Option<&str>
     ensures { IfSome result (λ name. TurnsOn value.now (chars name.now)) }
 {
     let TokenValue::Extension(extension) = value else {

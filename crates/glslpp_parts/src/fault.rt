@@ -1,5 +1,5 @@
-//! Errors that the library lets pass: comments that aren't closed, and `#version` and `#extension` lines that aren't
-//! GLSL's.
+//! Errors that the library lets pass: comments that aren't closed, `#version` and `#extension` lines that aren't
+//! GLSL's, and `#include` lines that aren't followed.
 
 ghost use Rattle.std.specs.Prelude.{◌≡◌, IfOk, IfSome, None};
 ghost use Rattle.glslpp_parts.specs.Faults.{name_of, IsError};
@@ -7,7 +7,6 @@ ghost use Rattle.glslpp_parts.specs.Faults.{name_of, IsError};
 use crate::diagnostic::{Diagnostic, Note, Severity, Site};
 use crate::directive_check::{Complaint, complaint_of_extension, complaint_of_version};
 use crate::texts::Texts;
-use pp_rs::pp::SOURCE_TEXT;
 use pp_rs::token::{Location, Token, TokenValue};
 use std::alloc::{AllocError, Global};
 
@@ -26,6 +25,12 @@ pub enum FaultKind {
     MalformedExtension,
     /// A source that needs more steps than it may take.
     OverBudget,
+    /// An `#include` that isn't of the form `#include "FILE"` or `#include <FILE>`.
+    MalformedInclude,
+    /// An `#include` of a file that isn't found, or that can't be read.
+    MissingInclude,
+    /// An `#include` in a text that is included too deep.
+    DeepInclude,
 }
 
 impl FaultKind {
@@ -40,8 +45,22 @@ impl FaultKind {
             FaultKind::MalformedVersion => "MalformedVersion",
             FaultKind::MalformedExtension => "MalformedExtension",
             FaultKind::OverBudget => "OverBudget",
+            FaultKind::MalformedInclude => "MalformedInclude",
+            FaultKind::MissingInclude => "MissingInclude",
+            FaultKind::DeepInclude => "DeepInclude",
         }
     }
+}
+
+/// Why an `#include` isn't followed.
+#[derive(Drop)]
+pub struct Refusal {
+    /// What kind of error it is.
+    pub kind: FaultKind,
+    /// Its place in the text of the `#include`.
+    pub location: Location,
+    /// What is said.
+    pub message: String,
 }
 
 /// An error that `glslpp` found.
@@ -49,129 +68,177 @@ impl FaultKind {
 pub struct Fault<'a> {
     /// What kind of error it is.
     pub kind: FaultKind,
-    /// Its place in the source.
+    /// The number of the text of its place.
+    pub text: u32,
+    /// Its place.
     pub location: Location,
     /// Its message.
     pub diagnostic: Diagnostic<'a>,
 }
 
-/// Finds the errors of one source.
+/// Finds the errors of one source and the files that it includes.
 #[derive(Drop)]
-pub struct FaultFinder<'a> {
+pub struct FaultFinder {
     alloc: Global,
-    texts: &'a Texts<'a>,
-    // The place of the first `#version`.
-    version: Option<Location>,
+    // The text and the place of the first `#version`.
+    version: Option<(u32, Location)>,
 }
 
-impl<'a> FaultFinder<'a> {
+impl FaultFinder {
     /// A finder that has seen no directive yet.
-    pub fn new(alloc: Global, texts: &'a Texts<'a>) -> FaultFinder<'a>
-        ensures texts { result.texts.now ≡ texts.now }
+    pub fn new(alloc: Global) -> FaultFinder
         ensures version { result.version ≡ None }
     {
         FaultFinder {
             alloc,
-            texts,
             version: None,
         }
     }
 
-    /// Returns what is wrong with a token of live text: with a `#version` or an `#extension` line. Others are right.
-    pub fn fault_of(&mut self, token: &Token) -> Result<Option<Fault<'a>>, AllocError>
+    /// Returns what is wrong with a token of live text, which is in the text with this number: with a `#version` or an
+    /// `#extension` line. Others are right.
+    pub fn fault_of<'a>(
+        &mut self,
+        texts: &Texts<'a>,
+        text: u32,
+        token: &Token,
+    ) -> Result<Option<Fault<'a>>, AllocError>
         ensures { IfOk result (λ found. IfSome found IsError) }
     {
         match &token.value {
             TokenValue::Version(version) => {
                 let first = self.version;
-                if let Some(first) = first {
-                    return self.second_version(token.location, first);
+                if let Some((first_text, first)) = first {
+                    let site = Site::of(texts, first_text, first);
+                    return self.second_version(texts, text, token.location, site);
                 }
-                self.version = Some(token.location);
+                self.version = Some((text, token.location));
                 if !version.is_first_directive {
-                    return self.late_version(token.location);
+                    return self.late_version(texts, text, token.location);
                 }
                 let complaint = complaint_of_version(self.alloc, version, token.location)?;
-                Ok(self.fault(FaultKind::MalformedVersion, complaint))
+                Ok(complained(texts, text, FaultKind::MalformedVersion, complaint))
             }
             TokenValue::Extension(extension) => {
                 let complaint = complaint_of_extension(self.alloc, extension, token.location)?;
-                Ok(self.fault(FaultKind::MalformedExtension, complaint))
+                Ok(complained(texts, text, FaultKind::MalformedExtension, complaint))
             }
             _ => Ok(None),
         }
     }
 
-    // The error for what a directive is complained of.
-    fn fault(&self, kind: FaultKind, complaint: Option<Complaint>) -> Option<Fault<'a>>
-        ensures { IfSome result IsError }
-    {
-        let Some(complaint) = complaint else {
-            return None;
-        };
-        let location = complaint.location;
-        Some(self.error(kind, location, complaint.message, None))
-    }
-
-    fn late_version(&self, location: Location) -> Result<Option<Fault<'a>>, AllocError>
+    fn late_version<'a>(
+        &self,
+        texts: &Texts<'a>,
+        text: u32,
+        location: Location,
+    ) -> Result<Option<Fault<'a>>, AllocError>
         ensures { IfOk result (λ found. IfSome found IsError) }
     {
         let message = String::from_str(self.alloc, "`#version` must come before everything else")?;
-        Ok(Some(self.error(FaultKind::LateVersion, location, message, None)))
+        Ok(Some(error(texts, text, FaultKind::LateVersion, location, message, None)))
     }
 
-    fn second_version(
+    fn second_version<'a>(
         &self,
+        texts: &Texts<'a>,
+        text: u32,
         location: Location,
-        first: Location,
+        first: Site<'a>,
     ) -> Result<Option<Fault<'a>>, AllocError>
         ensures { IfOk result (λ found. IfSome found IsError) }
     {
         let message = String::from_str(self.alloc, "second `#version`")?;
         let note = Note {
             message: "the first `#version` is here",
-            site: Site::of(self.texts, SOURCE_TEXT, first),
+            site: first,
         };
-        Ok(Some(self.error(FaultKind::SecondVersion, location, message, Some(note))))
+        Ok(Some(error(
+            texts,
+            text,
+            FaultKind::SecondVersion,
+            location,
+            message,
+            Some(note),
+        )))
     }
 
-    /// Returns the error for a comment that isn't closed, whose `/*` is at this place.
-    pub fn unterminated_comment(&self, location: Location) -> Result<Fault<'a>, AllocError>
+    /// Returns the error for a comment that isn't closed, whose `/*` is at this place of this text.
+    pub fn unterminated_comment<'a>(
+        &self,
+        texts: &Texts<'a>,
+        text: u32,
+        location: Location,
+    ) -> Result<Fault<'a>, AllocError>
         ensures { IfOk result IsError }
     {
         let message = String::from_str(self.alloc, "unterminated comment")?;
-        Ok(self.error(FaultKind::UnterminatedComment, location, message, None))
+        let kind = FaultKind::UnterminatedComment;
+        Ok(error(texts, text, kind, location, message, None))
     }
 
-    /// Returns the error for a source that needs more than this many steps, and had come to this place.
-    pub fn over_budget(&self, steps: u64, location: Location) -> Result<Fault<'a>, AllocError>
+    /// Returns the error for a source that needs more than this many steps, and had come to this place of this text.
+    pub fn over_budget<'a>(
+        &self,
+        texts: &Texts<'a>,
+        text: u32,
+        steps: u64,
+        location: Location,
+    ) -> Result<Fault<'a>, AllocError>
         ensures { IfOk result IsError }
     {
         let plural = if steps == 1 { "" } else { "s" };
         let message = format!(in self.alloc; "source needs more than {steps} step{plural}")?;
-        Ok(self.error(FaultKind::OverBudget, location, message, None))
+        Ok(error(texts, text, FaultKind::OverBudget, location, message, None))
     }
 
-    fn error(
-        &self,
-        kind: FaultKind,
-        location: Location,
-        message: String,
-        note: Option<Note<'a>>,
-    ) -> Fault<'a>
+    /// Returns the error for an `#include` that this is said of, at this place of this text.
+    pub fn refused_include<'a>(&self, texts: &Texts<'a>, text: u32, refusal: Refusal) -> Fault<'a>
         ensures { IsError result }
     {
-        Fault {
-            kind,
-            location,
-            diagnostic: Diagnostic {
-                severity: Severity::Error,
-                message,
-                is_of_cause: true,
-                site: Site::of(self.texts, SOURCE_TEXT, location),
-                note,
-                used: None,
-            },
-        }
+        let location = refusal.location;
+        error(texts, text, refusal.kind, location, refusal.message, None)
+    }
+}
+
+// The error for what a directive is complained of.
+fn complained<'a>(
+    texts: &Texts<'a>,
+    text: u32,
+    kind: FaultKind,
+    complaint: Option<Complaint>,
+) -> Option<Fault<'a>>
+    ensures { IfSome result IsError }
+{
+    let Some(complaint) = complaint else {
+        return None;
+    };
+    let location = complaint.location;
+    Some(error(texts, text, kind, location, complaint.message, None))
+}
+
+fn error<'a>(
+    texts: &Texts<'a>,
+    text: u32,
+    kind: FaultKind,
+    location: Location,
+    message: String,
+    note: Option<Note<'a>>,
+) -> Fault<'a>
+    ensures { IsError result }
+{
+    Fault {
+        kind,
+        text,
+        location,
+        diagnostic: Diagnostic {
+            severity: Severity::Error,
+            warning: None,
+            message,
+            is_of_cause: true,
+            site: Site::of(texts, text, location),
+            note,
+            used: None,
+        },
     }
 }

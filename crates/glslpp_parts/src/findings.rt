@@ -6,16 +6,18 @@ ghost use Rattle.glslpp_parts.specs.Warnings.{is_on, marked};
 use crate::columns::Columns;
 use crate::diagnostic::{Diagnostic, Note, Site};
 use crate::place::{Place, is_line_end};
-use crate::texts::Spot;
+use crate::texts::{File, Spot};
 use crate::warning::{Warning, Warnings};
 use pp_rs::token::Location;
 use std::alloc::{AllocError, Global};
 
-/// What the warnings found in a source.
+/// What the warnings found in a file.
 #[derive(Drop)]
 pub(crate) struct Findings<'a> {
     alloc: Global,
-    source: &'a str,
+    file: File<'a>,
+    // The number of its text.
+    number: u32,
     columns: Columns<'a>,
     warnings: Warnings,
     found: Vec<Diagnostic<'a>>,
@@ -23,11 +25,17 @@ pub(crate) struct Findings<'a> {
 
 impl<'a> Findings<'a> {
     /// Nothing yet. Only what these warnings say is kept.
-    pub(crate) fn new(alloc: Global, source: &'a str, warnings: Warnings) -> Findings<'a> {
+    pub(crate) fn new(
+        alloc: Global,
+        file: File<'a>,
+        number: u32,
+        warnings: Warnings,
+    ) -> Findings<'a> {
         Findings {
             alloc,
-            source,
-            columns: Columns::new(source),
+            file,
+            number,
+            columns: Columns::new(file.text),
             warnings,
             found: Vec::new(alloc),
         }
@@ -95,6 +103,7 @@ impl<'a> Findings<'a> {
         let message = message_of(self.alloc, warning, text)?;
         self.found.push(Diagnostic {
             severity: self.warnings.severity(),
+            warning: Some(warning),
             message,
             is_of_cause: true,
             site,
@@ -115,10 +124,12 @@ impl<'a> Findings<'a> {
 
     fn site_of(&mut self, line: u32, start: usize, end: usize) -> Site<'a> {
         let spot = Spot {
-            text: self.source,
+            text: self.file.text,
+            number: self.number,
+            name: self.file.name,
             start,
             end,
-            is_in_source: true,
+            is_in_file: true,
         };
         match Place::find(spot) {
             Some(place) => Site::InSource(line, self.columns.column(place.start), place),
@@ -129,8 +140,8 @@ impl<'a> Findings<'a> {
     /// Whether a line begins at a place with a mark, after which a space or the end of the line follows.
     pub(crate) fn has_line_mark(&self, location: Location, mark: &str) -> bool {
         let start = location.start as usize;
-        let before = self.source.get(..start).unwrap_or("");
-        let rest = self.source.get(start..).unwrap_or("");
+        let before = self.file.text.get(..start).unwrap_or("");
+        let rest = self.file.text.get(start..).unwrap_or("");
         let is_first = before.is_empty() || before.ends_with(is_line_end);
         match rest.strip_prefix(mark) {
             Some(after) => is_first && (after.is_empty() || after.starts_with(is_space_or_end)),

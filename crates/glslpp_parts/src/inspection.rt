@@ -1,4 +1,4 @@
-//! What the warnings find in a source: it is read in live and dead text alike.
+//! What the warnings find in a file: it is read in live and dead text alike.
 
 ghost use Rattle.std.specs.Prelude.{◌≡◌, ◌-◌, ◌^◌, ◌<◌, [], IfOk, OnOk, length};
 ghost use Rattle.glslpp_parts.specs.Warnings.{no_warnings};
@@ -7,52 +7,60 @@ use crate::comment_check::{count_line_ends, is_continued, nested_comment};
 use crate::diagnostic::{Diagnostic, Note, Site};
 use crate::explainer::is_near;
 use crate::findings::Findings;
-use crate::rule_set::Setting;
-use crate::undefined_names::find_undefined_names;
+use crate::texts::File;
+use crate::undefined_names::UndefinedName;
 use crate::used_names::UsedNames;
 use crate::warning::{Warning, Warnings};
 use pp_rs::lexer::{Comments, Lexer, Token, TokenValue};
+use pp_rs::rules::Rules;
 use pp_rs::token::{Location, PreprocessorError, Punct};
 use std::alloc::{AllocError, Global};
 
-/// Returns what the warnings find in a source that is read with this setting, in its order. Without a warning nothing
-/// is read.
+/// Returns what the warnings find in a file whose text has this number and is read by these rules, in its order. These
+/// names are not defined in conditions. Without a warning nothing is read.
 pub fn inspect<'a>(
     alloc: Global,
-    source: &'a str,
+    file: File<'a>,
+    number: u32,
     warnings: Warnings,
-    setting: Setting<'_>,
+    rules: Rules,
+    undefined: &[UndefinedName],
 ) -> Result<Vec<Diagnostic<'a>>, AllocError>
-    requires { length source.now < 2 ^ 32 - 1 }
+    requires { length file.text.now < 2 ^ 32 - 1 }
     ensures { warnings ≡ no_warnings → IfOk result (λ found. found.items ≡ []) }
 {
     if !warnings.has_any() {
         return Ok(Vec::new(alloc));
     }
-    find(alloc, source, warnings, setting)
+    find(alloc, file, number, warnings, rules, undefined)
 }
 
 fn find<'a>(
     alloc: Global,
-    source: &'a str,
+    file: File<'a>,
+    number: u32,
     warnings: Warnings,
-    setting: Setting<'_>,
+    rules: Rules,
+    undefined: &[UndefinedName],
 ) -> Result<Vec<Diagnostic<'a>>, AllocError>
-    requires { length source.now < 2 ^ 32 - 1 }
+    requires { length file.text.now < 2 ^ 32 - 1 }
 {
-    let mut findings = Findings::new(alloc, source, warnings);
+    let source = file.text;
+    let mut findings = Findings::new(alloc, file, number, warnings);
     if warnings.comment {
         inspect_comments(&mut findings, source)?;
     }
-    if warnings.undef {
-        find_undefined_names(alloc, &mut findings, source, setting)?;
+    for name in undefined {
+        if name.text == number {
+            findings.push(Warning::Undef, name.location, name.message.as_str())?;
+        }
     }
     let used = if warnings.unused_macros {
-        UsedNames::of(alloc, setting.rules, source)?
+        UsedNames::of(alloc, rules, source)?
     } else {
         UsedNames::none(alloc)
     };
-    let mut lexer = Lexer::with_rules(alloc, source, setting.rules);
+    let mut lexer = Lexer::with_rules(alloc, source, rules);
     let mut inspector = Inspector::new(alloc, findings, used);
     'tokens: while let Some(item) = lexer.next() {
         match item {

@@ -4,21 +4,21 @@ ghost use Rattle.std.specs.Prelude.{OnOk, string_bytes};
 ghost use Rattle.glslpp_parts.specs.Output.{IsItem, IsErrorItem};
 ghost use Rattle.glslpp_parts.specs.inner.Adding.{IsLonger};
 
-use crate::columns::Columns;
+use crate::columns::ColumnsOfTexts;
 use crate::diagnostic::{Diagnostic, Site};
 use crate::place::first_byte;
 use crate::report::COMMAND_LINE;
-use crate::texts::Texts;
+use crate::texts::{Inclusion, Spot, Texts};
 use pp_rs::pp::{CallPlace, SOURCE_TEXT, TokenRef, ValueRef};
 use pp_rs::token::{Location, TokenValue};
 use std::alloc::AllocError;
 
 /// Appends a token with this text: its kind, the text, its place and, if a macro gave it, where that was called.
-pub(crate) fn push_token(
+pub(crate) fn push_token<'a>(
     output: &mut String,
-    columns: &mut Columns<'_>,
+    columns: &mut ColumnsOfTexts<'a>,
     token: TokenRef<'_>,
-    texts: &Texts<'_>,
+    texts: &Texts<'a>,
     text: &str,
 ) -> Result<(), AllocError>
     ensures { OnOk result (IsItem (string_bytes output.old) (string_bytes output.new)) }
@@ -32,12 +32,13 @@ pub(crate) fn push_token(
     output.push_str("}\n")
 }
 
-/// Appends a directive with this text: its kind, the text and its place.
-pub(crate) fn push_directive(
+/// Appends a directive of the text with this number, with this text of its own: its kind, the text and its place.
+pub(crate) fn push_directive<'a>(
     output: &mut String,
-    columns: &mut Columns<'_>,
+    columns: &mut ColumnsOfTexts<'a>,
     value: &TokenValue,
-    texts: &Texts<'_>,
+    texts: &Texts<'a>,
+    number: u32,
     location: Location,
     text: &str,
 ) -> Result<(), AllocError>
@@ -46,7 +47,7 @@ pub(crate) fn push_directive(
     let kind = directive_kind(value);
     write!(output, "{{\"kind\":\"{kind}\",\"text\":")?;
     push_string(output, text)?;
-    push_place(output, columns, texts, SOURCE_TEXT, location)?;
+    push_place(output, columns, texts, number, location)?;
     output.push_str("}\n")
 }
 
@@ -65,9 +66,7 @@ fn push_call(
     let Some(spot) = texts.spot(call.text, call.name) else {
         return Ok(());
     };
-    if !spot.is_in_source {
-        write!(output, ",\"call_in\":\"{COMMAND_LINE}\"")?;
-    }
+    push_name(output, "call_", spot)?;
     let before = texts.bytes_before(call.text);
     let (start, end) = (
         spot.start.saturating_add(before),
@@ -91,11 +90,11 @@ fn push_number(output: &mut String, value: ValueRef<'_>) -> Result<(), AllocErro
 }
 
 /// Appends an error: its name, its message and its place.
-pub(crate) fn push_error(
+pub(crate) fn push_error<'a>(
     output: &mut String,
-    columns: &mut Columns<'_>,
+    columns: &mut ColumnsOfTexts<'a>,
     name: &str,
-    texts: &Texts<'_>,
+    texts: &Texts<'a>,
     text: u32,
     location: Location,
     message: &str,
@@ -115,6 +114,7 @@ pub(crate) fn push_error(
 pub(crate) fn push_diagnostic(
     output: &mut String,
     file: &str,
+    texts: &Texts<'_>,
     diagnostic: &Diagnostic<'_>,
 ) -> Result<(), AllocError>
     ensures { OnOk result (IsItem (string_bytes output.old) (string_bytes output.new)) }
@@ -124,7 +124,54 @@ pub(crate) fn push_diagnostic(
     push_site(output, file, diagnostic.site)?;
     push_message(output, diagnostic.message.as_str())?;
     push_notes(output, file, diagnostic)?;
+    push_inclusions(output, texts, diagnostic.site)?;
     output.push_str("}\n")
+}
+
+// Appends the `#include` lines by which one comes to a site, from the innermost on, if it is in an included file.
+fn push_inclusions(output: &mut String, texts: &Texts<'_>, site: Site<'_>) -> Result<(), AllocError>
+    ensures { OnOk result (IsLonger (string_bytes output.old) (string_bytes output.new)) }
+{
+    let Some(innermost) = site.text().and_then(|text| texts.inclusion(text)) else {
+        return Ok(());
+    };
+    output.push_str(",\"included_from\":[")?;
+    push_includers(output, texts, innermost)?;
+    output.push(']')
+}
+
+// Appends an `#include` and those by which one comes to its text.
+fn push_includers(
+    output: &mut String,
+    texts: &Texts<'_>,
+    innermost: Inclusion,
+) -> Result<(), AllocError>
+    ensures { OnOk result (IsLonger (string_bytes output.old) (string_bytes output.new)) }
+{
+    push_includer(output, texts, innermost)?;
+    let mut last = innermost;
+    for _ in 0..innermost.text {
+        let Some(next) = texts.inclusion(last.text) else {
+            return Ok(());
+        };
+        output.push(',')?;
+        push_includer(output, texts, next)?;
+        last = next;
+    }
+    Ok(())
+}
+
+// Appends the file and the line of an `#include`.
+fn push_includer(
+    output: &mut String,
+    texts: &Texts<'_>,
+    inclusion: Inclusion,
+) -> Result<(), AllocError>
+    ensures { OnOk result (IsLonger (string_bytes output.old) (string_bytes output.new)) }
+{
+    output.push_str("{\"file\":")?;
+    push_string(output, texts.name(inclusion.text))?;
+    write!(output, ",\"line\":{}}}", inclusion.location.line)
 }
 
 fn push_message(output: &mut String, message: &str) -> Result<(), AllocError>
@@ -186,7 +233,8 @@ fn push_site(output: &mut String, file: &str, site: Site<'_>) -> Result<(), Allo
     output.push_str("\"file\":")?;
     let name = match site {
         Site::OnCommandLine(_) => COMMAND_LINE,
-        Site::InSource(..) | Site::InFile => file,
+        Site::InSource(_, _, place) => place.name,
+        Site::InFile => file,
     };
     push_string(output, name)?;
     if let Site::InSource(line, column, place) = site {
@@ -221,12 +269,29 @@ fn push_escaped(output: &mut String, c: char) -> Result<(), AllocError>
     }
 }
 
-// Appends the place in its text, in bytes, and its line and column if that text is the source. The contents of the
+// Appends the name of the text of a place, unless that is the source: `file` of an included file, and `in` of the
+// command line, each after this.
+fn push_name(output: &mut String, before: &str, spot: Spot<'_>) -> Result<(), AllocError>
+    ensures { OnOk result (IsLonger (string_bytes output.old) (string_bytes output.new)) }
+{
+    if spot.number == SOURCE_TEXT {
+        return Ok(());
+    }
+    let member = if spot.name == COMMAND_LINE {
+        "in"
+    } else {
+        "file"
+    };
+    write!(output, ",\"{before}{member}\":")?;
+    push_string(output, spot.name)
+}
+
+// Appends the place in its text, in bytes, and its line and column if that text is a file's. The contents of the
 // command line count as one text, each with a line end.
-fn push_place(
+fn push_place<'a>(
     output: &mut String,
-    columns: &mut Columns<'_>,
-    texts: &Texts<'_>,
+    columns: &mut ColumnsOfTexts<'a>,
+    texts: &Texts<'a>,
     text: u32,
     location: Location,
 ) -> Result<(), AllocError>
@@ -240,16 +305,18 @@ fn push_place(
         spot.start.saturating_add(before),
         spot.end.saturating_add(before),
     );
-    if !spot.is_in_source {
-        return write!(
-            output,
-            ",\"in\":\"{COMMAND_LINE}\",\"start\":{start},\"end\":{end}"
-        );
+    push_name(output, "", spot)?;
+    write!(output, ",\"start\":{start},\"end\":{end}")?;
+    if !spot.is_in_file {
+        return Ok(());
     }
-    let line = location.line;
-    write!(output, ",\"start\":{start},\"end\":{end},\"line\":{line}")?;
+    write!(output, ",\"line\":{}", location.line)?;
     match first_byte(spot) {
-        Some(start) => write!(output, ",\"column\":{}", columns.column(start)),
+        Some(start) => write!(
+            output,
+            ",\"column\":{}",
+            columns.column(text, spot.text, start)
+        ),
         None => Ok(()),
     }
 }

@@ -2,7 +2,8 @@
 
 ghost use Rattle.std.specs.Prelude.{◌≡◌, ◌++◌, [], false, OnOk, IfOk, string_bytes};
 ghost use Rattle.std.proofs.Math.ListN.{replicate};
-ghost use Rattle.glslpp_parts.specs.Layout.{at_line, with_word, on_line, on_next_line, with_directive, finished};
+ghost use Rattle.glslpp_parts.specs.Layout.{at_line, with_word, on_line, on_next_line, with_directive, with_mark};
+ghost use Rattle.glslpp_parts.specs.Layout.{finished};
 
 use std::alloc::{AllocError, Global};
 use std::marker::Model;
@@ -83,6 +84,20 @@ impl Layout {
         }
         self.push_word(line, Gap::Space, word)?;
         self.go_on()
+    }
+
+    /// Appends a line of its own, by which the line after it is this one.
+    pub fn push_mark(&mut self, mark: &str, line: u32) -> Result<(), AllocError>
+        ensures { OnOk result (self.new ≡ with_mark self.old mark.now line) }
+    {
+        if self.is_line_begun {
+            self.text.push('\n')?;
+        }
+        self.text.push_str(mark)?;
+        self.text.push('\n')?;
+        self.line = line;
+        self.is_line_begun = false;
+        Ok(())
     }
 
     // Moves to the next line.

@@ -12,6 +12,8 @@ use std::alloc::{AllocError, Global};
 pub struct MacroUse<'a> {
     /// The 1-based line of the call, as a token that the macro gives has it.
     pub line: u32,
+    /// The number of the text of the call.
+    pub text: u32,
     /// What is said of it.
     pub message: String,
     /// Where the macro's name is.
@@ -22,7 +24,7 @@ impl<'a> MacroUse<'a> {
     /// Returns the use of the macro from which an item with this origin comes, or `None` if it comes from no macro.
     pub fn of(
         alloc: Global,
-        texts: &'a Texts<'a>,
+        texts: &Texts<'a>,
         origin: Origin,
     ) -> Result<Option<MacroUse<'a>>, AllocError>
         ensures { IfOk result (λ used. option_map (λ found. found.line) used
@@ -35,6 +37,7 @@ impl<'a> MacroUse<'a> {
         let name = site.place().map_or("", |place| place.here);
         Ok(Some(MacroUse {
             line: call.line,
+            text: call.text,
             message: format!(in alloc; "in expansion of macro `{name}`")?,
             site,
         }))

@@ -1,8 +1,7 @@
 //! The directives of a source, in live and dead text, for messages.
 
-ghost use Rattle.std.specs.Prelude.{◌-◌, ◌^◌, ◌<◌, length};
-
 use crate::columns::Columns;
+use pp_rs::SOURCE_LIMIT;
 use pp_rs::lexer::{Lexer, Token, TokenValue};
 use pp_rs::rules::Rules;
 use pp_rs::token::{Location, PreprocessorError, Punct};
@@ -23,6 +22,7 @@ pub(crate) struct Define {
 /// The directives of a source.
 #[derive(Drop)]
 pub(crate) struct Outline {
+    alloc: Global,
     // In the order of the source.
     defines: Vec<Define>,
     // For each name the indices of its definitions, rising.
@@ -34,12 +34,13 @@ pub(crate) struct Outline {
 }
 
 impl Outline {
-    /// The directives of this source, which is read by these rules.
-    pub(crate) fn of(alloc: Global, rules: Rules, source: &str) -> Result<Outline, AllocError>
-        requires { length source.now < 2 ^ 32 - 1 }
-    {
-        let mut lexer = Lexer::with_rules(alloc, source, rules);
-        let mut reader = Reader::new(alloc, source);
+    /// The directives of this text, which is read by these rules. Of one that is too long it has none.
+    pub(crate) fn of(alloc: Global, rules: Rules, text: &str) -> Result<Outline, AllocError> {
+        if text.len() >= SOURCE_LIMIT {
+            return Ok(Reader::new(alloc, text).outline);
+        }
+        let mut lexer = Lexer::with_rules(alloc, text, rules);
+        let mut reader = Reader::new(alloc, text);
         'tokens: while let Some(item) = lexer.next() {
             match item {
                 Ok(token) => reader.take(&token)?,
@@ -55,6 +56,19 @@ impl Outline {
     /// The place of the name in the first macro call of the source that doesn't end.
     pub(crate) fn unterminated(&self) -> Option<Location> {
         self.unterminated
+    }
+
+    /// The names that are defined, each with the byte offset of each definition's name.
+    pub(crate) fn names(&self) -> Result<Vec<(&str, u32)>, AllocError> {
+        let mut names = Vec::new(self.alloc);
+        for (name, indices) in self.by_name.iter() {
+            for index in indices.as_slice() {
+                if let Some(define) = self.defines.get(*index) {
+                    names.push((name.as_str(), define.location.start))?;
+                }
+            }
+        }
+        Ok(names)
     }
 
     /// The last definition of a name before this byte offset.
@@ -119,6 +133,7 @@ impl<'a> Reader<'a> {
             name: None,
             calls: Vec::new(alloc),
             outline: Outline {
+                alloc,
                 defines: Vec::new(alloc),
                 by_name: BTreeMap::new(alloc),
                 strays: Vec::new(alloc),

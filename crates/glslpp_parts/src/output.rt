@@ -5,17 +5,19 @@ ghost use Rattle.std.specs.Str.{IsUtf8};
 ghost use Rattle.pp_lexer.specs.declared.token.TokenValue.TheVariants as value;
 ghost use Rattle.pp_rs.specs.TokenRefs.{token_of};
 ghost use Rattle.pp_rs.specs.TokenValue.{is_ordinary};
-ghost use Rattle.glslpp_parts.specs.Layout.{finished, on_line};
-ghost use Rattle.glslpp_parts.specs.Output.{is_closing, is_left_out, line_of, PutsText, PutsWord, PutsDirective, Puts};
-ghost use Rattle.glslpp_parts.specs.Output.{PutsError, Takes, IsItem};
-ghost use Rattle.glslpp_parts.specs.Texts.{source_text};
+ghost use Rattle.glslpp_parts.specs.Layout.{finished, on_line, with_directive};
+ghost use Rattle.glslpp_parts.specs.Output.{is_closing, is_left_out, line_of, text_of_line, PutsText, PutsWord};
+ghost use Rattle.glslpp_parts.specs.Output.{PutsLineWord, PutsDirective, Puts, GoesTo, PutsError, Takes, IsItem};
+ghost use Rattle.glslpp_parts.specs.Texts.{source_text, has_marks, is_marked, with_content, with_file};
 
 use crate::arguments::Form;
-use crate::columns::Columns;
+use crate::columns::ColumnsOfTexts;
 use crate::directive_text::directive_text;
 use crate::json;
 use crate::layout::{Gap, Layout};
-use crate::texts::{Texts, is_in_source};
+use crate::line_names::LineMark;
+use crate::quoting::push_quoted;
+use crate::texts::{File, Inclusion, Texts};
 use crate::words::{made_word, spelled_word, written_word};
 use pp_rs::pp::{SOURCE_TEXT, TokenRef, TokenSink, ValueRef};
 use pp_rs::rules::Rules;
@@ -27,20 +29,29 @@ use std::marker::Model;
 #[derive(Drop)]
 pub struct Output<'a> {
     alloc: Global,
-    texts: &'a Texts<'a>,
+    texts: Texts<'a>,
     form: Form,
+    // Whether `#line` lines have the names of files, and not their numbers.
+    has_names: bool,
     // The rules by which the source is read.
     rules: Rules,
     layout: Layout,
+    // The number of the text that the last line is of, and how many of the `#line` lines of that text are before it.
+    text: u32,
+    passed: usize,
+    // Whether that text has such lines.
+    has_marks: bool,
     // The lines of JSON.
     lines: String,
-    // The columns of the source.
-    columns: Columns<'a>,
-    // The byte offset in the source at which the last word ends, if its text is from the source.
-    end: Option<u32>,
-    // The line whose tokens are left out.
-    left_out: Option<u32>,
-    // The place of the last token that no macro gave.
+    // The columns of the texts.
+    columns: ColumnsOfTexts<'a>,
+    // The text and the byte offset in it at which the last word ends, if it is written so in a file.
+    end: Option<(u32, u32)>,
+    // The text and its line whose tokens are left out.
+    left_out: Option<(u32, u32)>,
+    // The number of the text of the last token, or of the file that was included after it.
+    last_text: u32,
+    // The place of the last token of the source that no macro gave.
     read: Location,
 }
 
@@ -53,7 +64,10 @@ impl<'a> Model for Output<'a> {
     ghost view = { λ o. record {
       form = o.form;
       rules = o.rules;
+      texts = o.texts;
       laid = o.layout;
+      text = o.text;
+      is_marked = o.has_marks;
       end = o.end;
       items = string_bytes o.lines;
       left_out = o.left_out;
@@ -67,63 +81,156 @@ impl<'a> TokenSink for Output<'a> {
 
     #[inline(always)]
     fn take(&mut self, token: TokenRef<'_>) -> Result<(), AllocError> {
-        if token.origin.call.is_none() {
+        if token.origin.call.is_none() && token.origin.text == SOURCE_TEXT {
             self.read = token.location;
         }
-        if self.is_left_out(line_of(token)) {
+        self.last_text = text_of(token);
+        if self.is_left_out(self.last_text, line_of(token)) {
             return Ok(());
         }
         match self.form {
             Form::Lines => self.push_on_its_line(token),
             Form::Compact => self.push_on_last_line(token),
             Form::Tokens => self.push_item(token),
-            Form::Directives => Ok(()),
+            Form::Directives | Form::Definitions => Ok(()),
         }
     }
 }
 
 impl<'a> Output<'a> {
     /// Returns the output of a source that is read by these rules, before its first item.
-    pub fn new(alloc: Global, form: Form, rules: Rules, texts: &'a Texts<'a>) -> Output<'a>
+    pub fn new(
+        alloc: Global,
+        form: Form,
+        has_names: bool,
+        rules: Rules,
+        texts: Texts<'a>,
+    ) -> Output<'a>
         ensures { result ≡ record {
           form = form;
           rules = rules;
+          texts = texts.entry;
           laid = record { text = []; line = 1; is_line_begun = false };
+          text = source_text;
+          is_marked = is_marked texts.entry source_text;
           end = None;
           items = [];
           left_out = None;
         } }
     {
+        let source = texts.source.text;
+        let has_marks = !texts.source.marks.is_empty();
         Output {
             alloc,
             texts,
             form,
+            has_names,
             rules,
             layout: Layout::new(alloc),
+            text: SOURCE_TEXT,
+            passed: 0,
+            has_marks,
             lines: String::new(alloc),
-            columns: Columns::new(texts.source),
+            columns: ColumnsOfTexts::new(source),
             end: None,
             left_out: None,
+            last_text: SOURCE_TEXT,
             read: NOWHERE,
         }
     }
 
-    /// Leaves out the tokens to come of this line, and of no other.
-    pub fn leave_out(&mut self, line: u32)
-        ensures { self.new ≡ record self.old { left_out = Some line } }
+    /// Returns the texts that tokens come from.
+    pub fn texts(&self) -> &Texts<'a>
+        ensures { result.now ≡ self.now.texts }
     {
-        self.left_out = Some(line);
+        &self.texts
     }
 
-    /// Whether the tokens of this line are left out.
+    /// Returns the number of the text of the last token, or of the file that was included after it.
+    pub fn last_text(&self) -> u32 {
+        self.last_text
+    }
+
+    /// Adds the text of a file to those that tokens come from.
+    pub fn include(
+        &mut self,
+        file: File<'a>,
+        inclusion: Option<Inclusion>,
+    ) -> Result<(), AllocError>
+        ensures { OnOk result (self.new ≡ record self.old {
+          texts = with_file self.old.texts file.entry.text.now (has_marks file.entry);
+        }) }
+    {
+        self.last_text = self.texts.count();
+        self.texts.include(file, inclusion)
+    }
+
+    /// Adds the content of a definition to the texts that tokens come from.
+    pub fn add_content(&mut self, content: &'a str) -> Result<(), AllocError>
+        ensures { OnOk result (self.new ≡ record self.old { texts = with_content self.old.texts content.now }) }
+    {
+        self.texts.add(content)
+    }
+
+    /// Leaves out the tokens to come of this line of this text, and of no other.
+    pub fn leave_out(&mut self, text: u32, line: u32)
+        ensures { self.new ≡ record self.old { left_out = Some (text, line) } }
+    {
+        self.left_out = Some((text, line));
+    }
+
+    /// Whether the tokens of this line of this text are left out.
     #[inline(always)]
-    pub fn is_left_out(&self, line: u32) -> bool
-        ensures { result ≡ is_left_out self.now.left_out line }
+    pub fn is_left_out(&self, text: u32, line: u32) -> bool
+        ensures { result ≡ is_left_out self.now.left_out text line }
     {
         match self.left_out {
-            Some(other) => other == line,
+            Some((other, left_out)) => other == text && left_out == line,
             None => false,
         }
+    }
+
+    // Goes to the text with this number, on whose line something is put, by a `#line` line if another text was before.
+    #[inline(always)]
+    fn go_to_text(&mut self, text: u32, line: u32) -> Result<(), AllocError>
+        ensures form { self.new.form ≡ self.old.form }
+        ensures rules { self.new.rules ≡ self.old.rules }
+        ensures texts { self.new.texts ≡ self.old.texts }
+        ensures left_out { self.new.left_out ≡ self.old.left_out }
+        ensures goes { OnOk result (GoesTo self.old text line self.new) }
+    {
+        if text == self.text && !self.has_marks {
+            return Ok(());
+        }
+        self.go_to_other_text(text, line)
+    }
+
+    #[inline(never)]
+    fn go_to_other_text(&mut self, text: u32, line: u32) -> Result<(), AllocError>
+        requires { text ≡ self.old.text → IsTrue self.old.is_marked }
+        ensures form { self.new.form ≡ self.old.form }
+        ensures rules { self.new.rules ≡ self.old.rules }
+        ensures texts { self.new.texts ≡ self.old.texts }
+        ensures left_out { self.new.left_out ≡ self.old.left_out }
+        ensures goes { OnOk result (GoesTo self.old text line self.new) }
+    {
+        let Some(file) = self.texts.file(text) else {
+            return Ok(());
+        };
+        let passed = file.marks.partition_point(|mark| mark.line < line);
+        if text == self.text && passed == self.passed {
+            return Ok(());
+        }
+        let mark = match passed.checked_sub(1).and_then(|last| file.marks.get(last)) {
+            Some(mark) if !mark.label.is_empty() => written_mark(self.alloc, *mark, line)?,
+            _ => mark_of(self.alloc, self.rules, self.has_names, file, line)?,
+        };
+        self.layout.push_mark(mark.as_str(), line)?;
+        self.text = text;
+        self.passed = passed;
+        self.has_marks = !file.marks.is_empty();
+        self.end = None;
+        Ok(())
     }
 
     /// Returns the place in the source of the last token that no macro gave, directives included, and `NOWHERE` before
@@ -137,11 +244,13 @@ impl<'a> Output<'a> {
     fn push_on_its_line(&mut self, token: TokenRef<'_>) -> Result<(), AllocError>
         ensures form { self.new.form ≡ self.old.form }
         ensures rules { self.new.rules ≡ self.old.rules }
+        ensures texts { self.new.texts ≡ self.old.texts }
         ensures left_out { self.new.left_out ≡ self.old.left_out }
-        ensures puts { OnOk result (PutsWord self.old token.entry.origin.text (token_of token.entry)
-            (line_of token.entry) self.new) }
+        ensures puts { OnOk result (PutsLineWord self.old token.entry.origin.text (token_of token.entry)
+            (text_of_line token.entry) (line_of token.entry) self.new) }
     {
         let (text, place, line) = (token.origin.text, token.location, line_of(token));
+        self.go_to_text(text_of(token), line)?;
         match token.value {
             ValueRef::Ident(name) => self.push_word(text, place, line, false, name),
             ValueRef::Punct(punct) => {
@@ -164,21 +273,23 @@ impl<'a> Output<'a> {
     ) -> Result<(), AllocError>
         ensures form { self.new.form ≡ self.old.form }
         ensures rules { self.new.rules ≡ self.old.rules }
+        ensures texts { self.new.texts ≡ self.old.texts }
         ensures left_out { self.new.left_out ≡ self.old.left_out }
         ensures puts { OnOk result (PutsText self.old text place is_closing line word.now self.new) }
         ensures text { IsUtf8 word.now }
     {
-        if !is_in_source(text, place) {
+        if !self.texts.is_in_file(text, place) {
             return self.push_made_word(line, word);
         }
         let start = place.start;
-        let gap = if self.end == Some(start) || is_closing && !self.texts.is_after_blank(start) {
+        let is_beside = self.end == Some((text, start));
+        let gap = if is_beside || is_closing && !self.texts.is_after_blank(text, start) {
             Gap::Nothing
         } else {
             Gap::Space
         };
         self.layout.push_word(line, gap, word)?;
-        self.end = Some(place.end);
+        self.end = Some((text, place.end));
         Ok(())
     }
 
@@ -187,6 +298,7 @@ impl<'a> Output<'a> {
     fn push_made_word(&mut self, line: u32, word: &str) -> Result<(), AllocError>
         ensures form { self.new.form ≡ self.old.form }
         ensures rules { self.new.rules ≡ self.old.rules }
+        ensures texts { self.new.texts ≡ self.old.texts }
         ensures left_out { self.new.left_out ≡ self.old.left_out }
         ensures put { OnOk result (self.new ≡ record self.old {
           laid = on_line self.old.laid line Gap.Space word.now;
@@ -202,6 +314,7 @@ impl<'a> Output<'a> {
     fn push_number(&mut self, token: TokenRef<'_>) -> Result<(), AllocError>
         ensures form { self.new.form ≡ self.old.form }
         ensures rules { self.new.rules ≡ self.old.rules }
+        ensures texts { self.new.texts ≡ self.old.texts }
         ensures left_out { self.new.left_out ≡ self.old.left_out }
         ensures puts { OnOk result (PutsWord self.old token.entry.origin.text (token_of token.entry)
             (line_of token.entry) self.new) }
@@ -219,6 +332,7 @@ impl<'a> Output<'a> {
     fn push_on_last_line(&mut self, token: TokenRef<'_>) -> Result<(), AllocError>
         ensures form { self.new.form ≡ self.old.form }
         ensures rules { self.new.rules ≡ self.old.rules }
+        ensures texts { self.new.texts ≡ self.old.texts }
         ensures left_out { self.new.left_out ≡ self.old.left_out }
         ensures puts { OnOk result (PutsWord self.old token.entry.origin.text (token_of token.entry)
             self.old.laid.line self.new) }
@@ -236,52 +350,74 @@ impl<'a> Output<'a> {
     {
         let spot = self.texts.spot(token.origin.text, token.location);
         if let Some(word) = written_word(self.alloc, self.rules, token.value, spot)? {
-            return json::push_token(&mut self.lines, &mut self.columns, token, self.texts, word);
+            return json::push_token(&mut self.lines, &mut self.columns, token, &self.texts, word);
         }
         let word = made_word(self.alloc, self.rules, token.value, spot)?;
         json::push_token(
             &mut self.lines,
             &mut self.columns,
             token,
-            self.texts,
+            &self.texts,
             word.as_str(),
         )
     }
 
-    /// Takes a directive.
-    pub fn push_directive(&mut self, token: &Token) -> Result<(), AllocError>
+    /// Takes a directive of the text with this number.
+    pub fn push_directive(&mut self, text: u32, token: &Token) -> Result<(), AllocError>
         requires { is_ordinary token.now.value ≡ false }
         ensures form { self.new.form ≡ self.old.form }
         ensures rules { self.new.rules ≡ self.old.rules }
+        ensures texts { self.new.texts ≡ self.old.texts }
         ensures left_out { self.new.left_out ≡ self.old.left_out }
-        ensures puts { OnOk result (Puts self.old.form false self.old source_text token.now None self.new) }
+        ensures puts { OnOk result (Puts self.old.form false self.old text token.now None self.new) }
     {
-        let spot = self.texts.spot(SOURCE_TEXT, token.location);
+        let spot = self.texts.spot(text, token.location);
         let line = match self.form {
             Form::Compact => format!(in self.alloc; "{}", token.value)?,
+            Form::Definitions => return Ok(()),
             Form::Lines | Form::Tokens | Form::Directives => {
                 directive_text(self.alloc, self.rules, &token.value, spot)?
             }
         };
-        self.end = None;
-        self.read = token.location;
+        self.last_text = text;
+        if text == SOURCE_TEXT {
+            self.read = token.location;
+        }
         match self.form {
-            Form::Lines => self
-                .layout
-                .push_directive(token.location.line, line.as_str()),
+            Form::Lines => {
+                self.go_to_text(text, token.location.line)?;
+                self.push_directive_line(token.location.line, line.as_str())
+            }
             Form::Compact | Form::Directives => {
                 let last = self.layout.line();
-                self.layout.push_directive(last, line.as_str())
+                self.push_directive_line(last, line.as_str())
             }
+            Form::Definitions => Ok(()),
             Form::Tokens => json::push_directive(
                 &mut self.lines,
                 &mut self.columns,
                 &token.value,
-                self.texts,
+                &self.texts,
+                text,
                 token.location,
                 line.as_str(),
             ),
         }
+    }
+
+    // Puts a directive on a line by itself.
+    fn push_directive_line(&mut self, line: u32, word: &str) -> Result<(), AllocError>
+        ensures form { self.new.form ≡ self.old.form }
+        ensures rules { self.new.rules ≡ self.old.rules }
+        ensures texts { self.new.texts ≡ self.old.texts }
+        ensures left_out { self.new.left_out ≡ self.old.left_out }
+        ensures put { OnOk result (self.new ≡ record self.old {
+          laid = with_directive self.old.laid line word.now;
+          end = None;
+        }) }
+    {
+        self.end = None;
+        self.layout.push_directive(line, word)
     }
 
     /// Takes an error with this name and a place in this text, which is an item of the output if items are printed.
@@ -302,7 +438,7 @@ impl<'a> Output<'a> {
             &mut self.lines,
             &mut self.columns,
             name,
-            self.texts,
+            &self.texts,
             text,
             location,
             message,
@@ -333,6 +469,49 @@ fn line_of(token: TokenRef<'_>) -> u32
         Some(call) => call.line,
         None => token.location.line,
     }
+}
+
+// The number of the text of that line.
+#[inline(always)]
+fn text_of(token: TokenRef<'_>) -> u32
+    ensures { result ≡ text_of_line token.entry }
+{
+    match token.origin.call {
+        Some(call) => call.text,
+        None => token.origin.text,
+    }
+}
+
+// The `#line` line by which the next line is this one after a `#line` of its text.
+fn written_mark(alloc: Global, mark: LineMark<'_>, line: u32) -> Result<String, AllocError> {
+    let between = line.saturating_sub(mark.line).saturating_sub(1);
+    format!(in alloc;
+        "#line {} {}",
+        mark.number.saturating_add(between),
+        mark.label
+    )
+}
+
+// The `#line` line by which the next line is this one of a file, by the rules of the source's version.
+fn mark_of(
+    alloc: Global,
+    rules: Rules,
+    has_names: bool,
+    file: File<'_>,
+    line: u32,
+) -> Result<String, AllocError> {
+    let number = if rules.numbers_next_line {
+        line
+    } else {
+        line.saturating_sub(1)
+    };
+    let mut mark = format!(in alloc; "#line {number} ")?;
+    if has_names {
+        push_quoted(&mut mark, file.name)?;
+    } else {
+        write!(mark, "{}", file.number)?;
+    }
+    Ok(mark)
 }
 
 // Whether the punctuator ends what comes before it, and is no part of a longer one.

@@ -12,6 +12,10 @@ use crate::texts::Spot;
 pub struct Place<'a> {
     /// The text that it is in.
     pub text: &'a str,
+    /// The number of that text.
+    pub number: u32,
+    /// The name of that text in messages.
+    pub name: &'a str,
     /// The byte offset at which it begins.
     pub start: usize,
     /// The text of its line before it.
@@ -34,6 +38,8 @@ impl<'a> Place<'a> {
         let behind = spot.text.get(end..)?;
         Some(Place {
             text: spot.text,
+            number: spot.number,
+            name: spot.name,
             start,
             before: last_line(before),
             here: first_line(here),

@@ -22,6 +22,15 @@ pub(crate) struct Question {
     pub location: Location,
 }
 
+/// A line of the text that includes a file.
+#[derive(Clone, Copy)]
+struct Inclusion {
+    // Its number.
+    line: u32,
+    // The place in the source of what follows the word of its `#include`.
+    rest: Location,
+}
+
 /// Where an operand of `&&` and one of `||` begin among the words of a condition, and what is open since.
 #[derive(Clone, Copy)]
 struct Group {
@@ -56,6 +65,8 @@ pub(crate) struct Probe {
     line: u32,
     // In the order of their lines.
     questions: Vec<Question>,
+    // In the same order.
+    inclusions: Vec<Inclusion>,
     // For each open block the number of its `#elif` lines so far.
     elifs: Vec<usize>,
 }
@@ -70,6 +81,7 @@ impl Probe {
             text: String::new(alloc),
             line: 1,
             questions: Vec::new(alloc),
+            inclusions: Vec::new(alloc),
             elifs: Vec::new(alloc),
         };
         let mut lexer = Lexer::with_rules(alloc, source, rules);
@@ -80,7 +92,7 @@ impl Probe {
                 Ok(word) => match word.value {
                     WordValue::Hash if word.start_of_line => is_directive = true,
                     WordValue::NewLine => {
-                        probe.take_directive(words.as_slice())?;
+                        probe.take_directive(words.as_slice(), word.location.start)?;
                         words.clear();
                         is_directive = false;
                     }
@@ -104,13 +116,37 @@ impl Probe {
         }
     }
 
-    // Takes the words of a directive after its `#`.
-    fn take_directive(&mut self, words: &[Word]) -> Result<(), AllocError> {
+    /// The place in the source of what follows the word of the `#include` that a line of the text is.
+    pub(crate) fn inclusion(&self, line: u32) -> Option<Location> {
+        let inclusions = self.inclusions.as_slice();
+        let before = inclusions.partition_point(|inclusion| inclusion.line < line);
+        match inclusions.get(before) {
+            Some(inclusion) if inclusion.line == line => Some(inclusion.rest),
+            _ => None,
+        }
+    }
+
+    // Takes the words of a directive after its `#`, whose line ends at this byte offset.
+    fn take_directive(&mut self, words: &[Word], end: u32) -> Result<(), AllocError> {
         let Some((first, rest)) = words.split_first() else {
             return Ok(());
         };
         match name_of(first).unwrap_or("") {
-            "define" | "undef" | "else" | "extension" => self.push_directive("", words),
+            "define" | "undef" | "else" | "extension" | "pragma" => {
+                self.push_directive("", words)
+            }
+            "include" => {
+                let Location {
+                    end: start,
+                    line,
+                    ..
+                } = first.location;
+                self.inclusions.push(Inclusion {
+                    line: self.line,
+                    rest: Location { start, end, line },
+                })?;
+                self.push_directive("include", &[])
+            }
             "ifdef" | "ifndef" => {
                 self.elifs.push(0)?;
                 self.push_directive("", words)

@@ -1,17 +1,18 @@
 //! Messages as compilers print them.
 
 ghost use Rattle.std.specs.Prelude.{◌≡◌, ◌++◌, OnOk, string_bytes};
-ghost use Rattle.glslpp_parts.specs.Reports.{bold, colour, ended, severity_text, IsReported, IsSaid};
+ghost use Rattle.glslpp_parts.specs.Reports.{bold, colour, ended, file_of_site, severity_text, IsReported, IsSaid};
 ghost use Rattle.glslpp_parts.specs.inner.Adding.{IsLonger, IsPlaced};
 
 use crate::diagnostic::{Diagnostic, Severity, Site};
 use crate::excerpt::Excerpt;
 use crate::json;
 use crate::place::Place;
+use crate::texts::{Inclusion, Texts};
 use std::alloc::AllocError;
 
 /// What a message has instead of a file and a line, if its place is in a definition of the command line.
-pub(crate) const COMMAND_LINE: &str = "<command line>";
+pub const COMMAND_LINE: &str = "<command line>";
 
 /// How messages are written.
 #[derive(Clone, Copy)]
@@ -55,32 +56,82 @@ impl Style {
     }
 }
 
-/// What all messages on one file have in common.
+/// What all messages on one source have in common.
 #[derive(Clone, Copy)]
 pub struct Reporter<'a> {
     /// How they are written.
     pub style: Style,
-    /// The name of the file.
+    /// The name of the source.
     pub file: &'a str,
 }
 
 impl<'a> Reporter<'a> {
     /// Appends a message: `file:line:column: error: message`, its line with a caret under the place, and its note in
     /// the same form; or an object of JSON on a line.
-    pub fn push(&self, text: &mut String, diagnostic: &Diagnostic<'_>) -> Result<(), AllocError>
-        ensures { OnOk result (IsSaid self.now.style self.now.file.now diagnostic.now.severity
-            (string_bytes diagnostic.now.message) (string_bytes text.old) (string_bytes text.new)) }
+    pub fn push(
+        &self,
+        text: &mut String,
+        texts: &Texts<'_>,
+        diagnostic: &Diagnostic<'_>,
+    ) -> Result<(), AllocError>
+        ensures { OnOk result (IsSaid self.now.style (file_of_site self.now.file.now diagnostic.now.site)
+            diagnostic.now.severity (string_bytes diagnostic.now.message) (string_bytes text.old)
+            (string_bytes text.new)) }
     {
         match self.style {
-            Style::Json => json::push_diagnostic(text, self.file, diagnostic),
+            Style::Json => json::push_diagnostic(text, self.file, texts, diagnostic),
             Style::Plain | Style::Coloured => self.push_report(text, diagnostic),
         }
     }
 
+    /// Appends the `#include` lines by which one comes to the text with this number, from the innermost on, if it is
+    /// that of an included file and messages are text.
+    pub fn push_inclusions(
+        &self,
+        text: &mut String,
+        texts: &Texts<'_>,
+        number: u32,
+    ) -> Result<(), AllocError> {
+        let Some(innermost) = texts.inclusion(number) else {
+            return Ok(());
+        };
+        if matches!(self.style, Style::Json) {
+            return Ok(());
+        }
+        self.push_includer(text, texts, "In file included from ", innermost)?;
+        let mut last = innermost;
+        for _ in 0..innermost.text {
+            let Some(next) = texts.inclusion(last.text) else {
+                break;
+            };
+            text.push_str(",\n")?;
+            self.push_includer(text, texts, "                 from ", next)?;
+            last = next;
+        }
+        text.push_str(":\n")
+    }
+
+    // Appends the file and the line of an `#include` after these words.
+    fn push_includer(
+        &self,
+        text: &mut String,
+        texts: &Texts<'_>,
+        words: &str,
+        inclusion: Inclusion,
+    ) -> Result<(), AllocError> {
+        let name = texts.name(inclusion.text);
+        let (bold, end) = (self.style.bold(), self.style.end());
+        if name == COMMAND_LINE {
+            return write!(text, "{words}{bold}{name}{end}");
+        }
+        write!(text, "{words}{bold}{name}:{}{end}", inclusion.location.line)
+    }
+
     // Appends a message and what is said beside it as text.
     fn push_report(&self, text: &mut String, diagnostic: &Diagnostic<'_>) -> Result<(), AllocError>
-        ensures { OnOk result (IsReported self.now.style self.now.file.now diagnostic.now.severity
-            (string_bytes diagnostic.now.message) (string_bytes text.old) (string_bytes text.new)) }
+        ensures { OnOk result (IsReported self.now.style (file_of_site self.now.file.now diagnostic.now.site)
+            diagnostic.now.severity (string_bytes diagnostic.now.message) (string_bytes text.old)
+            (string_bytes text.new)) }
     {
         let message = diagnostic.message.as_str();
         self.push_lines(text, diagnostic.severity, message, diagnostic.site)?;
@@ -116,8 +167,8 @@ impl<'a> Reporter<'a> {
         message: &str,
         site: Site<'_>,
     ) -> Result<(), AllocError>
-        ensures { OnOk result (IsReported self.now.style self.now.file.now severity message.now
-            (string_bytes text.old) (string_bytes text.new)) }
+        ensures { OnOk result (IsReported self.now.style (file_of_site self.now.file.now site.entry)
+            severity message.now (string_bytes text.old) (string_bytes text.new)) }
     {
         self.push_bold(text)?;
         self.push_place(text, site)?;
@@ -128,10 +179,13 @@ impl<'a> Reporter<'a> {
 
     // Appends the name of a place.
     fn push_place(&self, text: &mut String, site: Site<'_>) -> Result<(), AllocError>
-        ensures { OnOk result (IsPlaced self.now.file.now (string_bytes text.old) (string_bytes text.new)) }
+        ensures { OnOk result (IsPlaced (file_of_site self.now.file.now site.entry) (string_bytes text.old)
+            (string_bytes text.new)) }
     {
         match site {
-            Site::InSource(line, column, _) => write!(text, "{}:{line}:{column}: ", self.file),
+            Site::InSource(line, column, place) => {
+                write!(text, "{}:{line}:{column}: ", place.name)
+            }
             Site::OnCommandLine(_) => write!(text, "{COMMAND_LINE}: "),
             Site::InFile => write!(text, "{}: ", self.file),
         }

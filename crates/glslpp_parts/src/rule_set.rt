@@ -20,13 +20,17 @@ pub enum RuleSet {
 }
 
 impl RuleSet {
-    /// The rules for a source of this version. A version that names no profile has that of the desktop.
+    /// The rules for a source of this version. GLSL's are those with includes. A version that names no profile has that
+    /// of the desktop.
     pub fn rules_for(self, version: Version) -> Rules
         ensures { result ≡ rules_for self version }
     {
         match self {
             RuleSet::Glsl => {
-                Rules::glsl(version.number, version.profile.unwrap_or(Profile::Core))
+                Rules::glsl(
+                    version.number,
+                    version.profile.unwrap_or(Profile::Core),
+                ).with_includes()
             }
             RuleSet::PpRs => Rules::PP_RS,
         }

@@ -2,84 +2,158 @@
 //!
 //! Whether a name is defined where a condition is computed, and whether the condition is computed at all, is left to
 //! the preprocessor, which reads a [`Probe`] with a line for each name of a condition. The names that it gives for such
-//! a line are not defined, and it gives none where the condition isn't computed.
+//! a line are not defined, and it gives none where the condition isn't computed. It includes the probes of files where
+//! the source includes these.
 
-ghost use Rattle.std.specs.Prelude.{◌-◌, ◌^◌, ◌<◌, length};
-
+use crate::changes::Definition;
 use crate::definitions::add_definitions;
-use crate::extensions::define_extension;
+use crate::extensions::EXTENSION_CONTENT;
 use crate::failure::Failure;
-use crate::findings::Findings;
+use crate::include_line::{Asked, asked_file};
 use crate::probe::Probe;
-use crate::rule_set::Setting;
-use crate::texts::Texts;
-use crate::warning::Warning;
+use crate::texts::{File, Inclusion, Texts};
 use pp_rs::SOURCE_LIMIT;
-use pp_rs::pp::Preprocessor;
-use pp_rs::token::{PreprocessorError, TokenValue};
+use pp_rs::pp::{Origin, Preprocessor, SOURCE_TEXT};
+use pp_rs::rules::Rules;
+use pp_rs::token::{Location, Token, TokenValue};
 use std::alloc::{AllocError, Global};
 
-/// Finds the names that are not defined in the conditions of a source that are computed, up to the first condition with
-/// an error, and no further than the budget allows.
-pub(crate) fn find_undefined_names(
-    alloc: Global,
-    findings: &mut Findings<'_>,
-    source: &str,
-    setting: Setting<'_>,
-) -> Result<(), AllocError>
-    requires { length source.now < 2 ^ 32 - 1 }
-{
-    let probe = Probe::of(alloc, setting.rules, source)?;
-    let text = probe.text.as_str();
-    if text.len() >= SOURCE_LIMIT {
-        return Ok(());
-    }
-    let mut texts = Texts::new(alloc, text);
-    let mut items = setting.begin(alloc, text)?;
-    let found = match add_definitions(alloc, &mut items, &mut texts, setting.definitions) {
-        Ok(()) => take_answers(alloc, findings, &probe, setting.extensions, &mut items),
-        Err(Failure::OutOfMemory) => Err(AllocError),
-        Err(Failure::Told(_text)) => Ok(()),
-    };
-    drop(items);
-    found
+/// A name in a condition that is not defined.
+#[derive(Drop)]
+pub struct UndefinedName {
+    /// The number of the text that it is in.
+    pub text: u32,
+    /// Its place there.
+    pub location: Location,
+    /// What is said of it.
+    pub message: String,
 }
 
-// Takes what the preprocessor gives for the questions, up to the first error or the end of the budget.
-fn take_answers(
+/// The names that are found so far, and the probes of the texts that were read so far.
+#[derive(Drop)]
+pub struct UndefinedNames<'a> {
     alloc: Global,
-    findings: &mut Findings<'_>,
-    probe: &Probe,
-    extensions: &[&str],
-    items: &mut Preprocessor<'_>,
-) -> Result<(), AllocError> {
-    let mut answered = 0;
-    // A macro that an `#extension` line defines adds to what is left, so the items are counted.
-    for _ in 0..u64::MAX {
-        let Some(item) = items.next() else {
-            return Ok(());
+    rules: Rules,
+    texts: Texts<'a>,
+    // Each with the number of its text, in the order of these.
+    probes: Vec<(u32, Probe)>,
+    // The text and the line in its probe that gave the last name.
+    answered: Option<(u32, u32)>,
+    found: Vec<UndefinedName>,
+}
+
+impl<'a> UndefinedNames<'a> {
+    /// No names of a source that is read by these rules.
+    pub fn new(
+        alloc: Global,
+        rules: Rules,
+        source: File<'a>,
+    ) -> Result<UndefinedNames<'a>, AllocError> {
+        let mut names = UndefinedNames {
+            alloc,
+            rules,
+            texts: Texts::new(alloc, source),
+            probes: Vec::new(alloc),
+            answered: None,
+            found: Vec::new(alloc),
         };
-        match item {
-            Ok(token) => {
-                define_extension(items, &token.value, extensions)?;
-                let line = items.call_line().unwrap_or(token.location.line);
-                if let TokenValue::Ident(name) = &token.value
-                    && let Some(question) = probe.question(line)
-                    && line != answered
-                {
-                    answered = line;
-                    let text = message_of(alloc, name.as_str(), question.name.as_str())?;
-                    findings.push(Warning::Undef, question.location, text.as_str())?;
-                }
-            }
-            Err((PreprocessorError::OutOfMemory, _)) if items.is_over_budget() => {
-                return Ok(());
-            }
-            Err((PreprocessorError::OutOfMemory, _)) => return Err(AllocError),
-            Err((_error, _)) => return Ok(()),
+        names.push_probe(SOURCE_TEXT, source)?;
+        Ok(names)
+    }
+
+    // Makes the probe of a text. One that is too long has none.
+    fn push_probe(&mut self, number: u32, file: File<'a>) -> Result<(), AllocError> {
+        if file.read.len() < SOURCE_LIMIT {
+            let probe = Probe::of(self.alloc, self.rules, file.read)?;
+            self.probes.push((number, probe))?;
+        }
+        Ok(())
+    }
+
+    fn probe(&self, number: u32) -> Option<&Probe> {
+        let probes = self.probes.as_slice();
+        match probes.get(probes.partition_point(|(other, _)| *other < number)) {
+            Some((other, probe)) if *other == number => Some(probe),
+            _ => None,
         }
     }
-    Ok(())
+
+    /// The text of the probe of the text with this number.
+    pub fn probe_text(&self, number: u32) -> &str {
+        match self.probe(number) {
+            Some(probe) => probe.text.as_str(),
+            None => "",
+        }
+    }
+
+    /// The texts.
+    pub fn texts(&self) -> &Texts<'a> {
+        &self.texts
+    }
+
+    /// Adds the definitions before the source.
+    pub fn define(
+        &mut self,
+        items: &mut Preprocessor<'_>,
+        definitions: &[Definition<'a>],
+    ) -> Result<(), Failure> {
+        add_definitions(self.alloc, items, &mut self.texts, definitions)
+    }
+
+    /// Adds the macro of an extension.
+    pub fn add_extension(&mut self) -> Result<(), AllocError> {
+        self.texts.add(EXTENSION_CONTENT)
+    }
+
+    /// Adds a file that is included, and returns the number of its text.
+    pub fn include(
+        &mut self,
+        file: File<'a>,
+        inclusion: Option<Inclusion>,
+    ) -> Result<u32, AllocError> {
+        let number = self.texts.count();
+        self.texts.include(file, inclusion)?;
+        self.push_probe(number, file)?;
+        Ok(number)
+    }
+
+    /// Takes what the preprocessor gives for a question, if it is the first for this.
+    pub fn take(&mut self, token: &Token, origin: Origin) -> Result<(), AllocError> {
+        let (text, line) = match origin.call {
+            Some(call) => (call.text, call.line),
+            None => (origin.text, token.location.line),
+        };
+        let TokenValue::Ident(name) = &token.value else {
+            return Ok(());
+        };
+        if self.answered == Some((text, line)) {
+            return Ok(());
+        }
+        let Some(question) = self.probe(text).and_then(|probe| probe.question(line)) else {
+            return Ok(());
+        };
+        let found = UndefinedName {
+            text,
+            location: question.location,
+            message: message_of(self.alloc, name.as_str(), question.name.as_str())?,
+        };
+        self.answered = Some((text, line));
+        self.found.push(found)?;
+        Ok(())
+    }
+
+    /// What the `#include` has that is a line of the probe of the text with this number.
+    pub fn asked(&self, text: u32, line: u32) -> Result<Option<Asked<'a>>, AllocError> {
+        let Some(rest) = self.probe(text).and_then(|probe| probe.inclusion(line)) else {
+            return Ok(None);
+        };
+        Ok(Some(asked_file(self.alloc, self.texts.text(text), rest)?))
+    }
+
+    /// The names that were found.
+    pub fn finish(self) -> Vec<UndefinedName> {
+        self.found
+    }
 }
 
 fn message_of(alloc: Global, name: &str, asked: &str) -> Result<String, AllocError> {

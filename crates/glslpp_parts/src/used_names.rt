@@ -10,7 +10,7 @@ use std::collections::BTreeSet;
 
 /// The names that occur in a source in another place than after `#define` or `#undef` or in their own `#define`.
 #[derive(Drop)]
-pub(crate) struct UsedNames {
+pub struct UsedNames {
     alloc: Global,
     names: BTreeSet<String>,
 }
@@ -25,7 +25,7 @@ impl UsedNames {
     }
 
     /// The names of this source, which is read by these rules.
-    pub(crate) fn of(alloc: Global, rules: Rules, source: &str) -> Result<UsedNames, AllocError>
+    pub fn of(alloc: Global, rules: Rules, source: &str) -> Result<UsedNames, AllocError>
         requires { length source.now < 2 ^ 32 - 1 }
     {
         let mut lexer = Lexer::with_rules(alloc, source, rules);
@@ -46,7 +46,7 @@ impl UsedNames {
     }
 
     /// Whether a name is among them.
-    pub(crate) fn has(&self, name: &str) -> bool {
+    pub fn has(&self, name: &str) -> bool {
         self.names.contains(name)
     }
 

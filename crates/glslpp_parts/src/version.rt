@@ -1,6 +1,6 @@
 //! The names that GLSL predefines, by the `#version` of a source.
 
-ghost use Rattle.std.specs.Prelude.{◌≡◌, ◌-◌, ◌^◌, ◌<◌, ◌++◌, [], ◌∷◌, false, OnOk, IfOk, MatchOption, length};
+ghost use Rattle.std.specs.Prelude.{◌≡◌, ◌-◌, ◌^◌, ◌<◌, ◌++◌, [], ◌∷◌, false, OnOk, IfOk, MatchOption, is_some, length};
 ghost use Rattle.std.specs.Str.{chars};
 ghost use Rattle.pp_lexer.specs.Respelling.{read_values};
 ghost use Rattle.glslpp_parts.specs.Reading.{values_ahead};
@@ -41,6 +41,15 @@ pub fn declared_version(
     let mut lexer = Lexer::new(alloc, source);
     let version = read_version(&mut lexer)?;
     Ok(version.unwrap_or(otherwise))
+}
+
+/// Returns whether the first tokens of the source are a `#version`.
+pub fn has_version(alloc: Global, source: &str) -> Result<bool, AllocError>
+    requires { length source.now < 2 ^ 32 - 1 }
+    ensures { IfOk result (λ has. has ≡ is_some (version_line (after_newlines (read_values source.now)))) }
+{
+    let mut lexer = Lexer::new(alloc, source);
+    Ok(read_version(&mut lexer)?.is_some())
 }
 
 fn read_version(lexer: &mut Lexer<'_>) -> Result<Option<Version>, AllocError>

@@ -110,6 +110,16 @@ impl Warnings {
         }
     }
 
+    /// Those that are given in a file that is included: a macro there may be used elsewhere.
+    pub fn in_included(self) -> Warnings
+        ensures { result ≡ record self { unused_macros = false } }
+    {
+        Warnings {
+            unused_macros: false,
+            ..self
+        }
+    }
+
     /// Whether a kind is on.
     pub(crate) fn has(self, warning: Warning) -> bool
         ensures { result ≡ is_on self warning }

@@ -39,7 +39,7 @@ pub(crate) fn written_word<'a>(
 #[inline(always)]
 fn source_word<'a>(spot: Option<Spot<'a>>) -> Option<&'a str> {
     match spot {
-        Some(spot) if spot.is_in_source => spot.word(),
+        Some(spot) if spot.is_in_file => spot.word(),
         _ => None,
     }
 }
@@ -112,7 +112,7 @@ pub(crate) fn made_word(
         return spelled_word(alloc, value);
     };
     let joined = joined_word(alloc, spot)?;
-    if spot.is_in_source && is_text_of(alloc, rules, joined.as_str(), value)? {
+    if spot.is_in_file && is_text_of(alloc, rules, joined.as_str(), value)? {
         return Ok(joined);
     }
     spelled_word(alloc, value)
