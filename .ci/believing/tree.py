@@ -171,20 +171,22 @@ class Names:
         self.through_names()
         self.beside(module)
 
-    def meet(self, path, name):
-        self.meanings.add(f'{path}.{name}')
+    def meet(self, path, name, known_as):
+        # Two names that are exchanged mean something else, so each is noted with what it is known as.
+        self.meanings.add(f'{path}.{name}' if known_as == name else f'{path}.{name} as {known_as}')
         self.found.append(self.tree.resolve(path, name))
 
     def through_modules(self, words):
         for word in words:
             first, _, rest = word.partition('.')
             if rest and first in self.imports.modules and first not in self.bound:
-                self.meet(self.imports.modules[first], rest.split('.')[0])
+                name = rest.split('.')[0]
+                self.meet(self.imports.modules[first], name, name)
 
     def through_names(self):
         for name, (path, there) in self.imports.names.items():
             if occurs(name, self.tokens, self.bound):
-                self.meet(path, there)
+                self.meet(path, there, name)
 
     def beside(self, module):
         for name, definition in ({**module.definitions, **module.members} if module else {}).items():
