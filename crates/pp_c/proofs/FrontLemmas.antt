@@ -6,7 +6,7 @@ use Rattle.std.proofs.lemmas.List.{append-nil, replicate-append-replicate}
 use Rattle.std.proofs.Math.ListN.{replicate}
 use Rattle.pp_model.specs.Emitting.{answers_at, expansion_limit}
 use Rattle.pp_model.specs.Reading.{Expander}
-use Rattle.pp_model.specs.Run.{Call, add_define, include, next, items_by, start_by, with_added, by_rules, Comings, Runs}
+use Rattle.pp_model.specs.Run.{Call, add_define, include, next, items_by, start_by, by_rules, Comings, Runs}
 use Rattle.pp_model.specs.Run as run
 use Rattle.pp_model.specs.RunLaws.{OneReplies}
 use Rattle.pp_model.specs.SourceReader.{SourceReader}

@@ -7,7 +7,7 @@ use Rattle.std.specs.Str.{chars}
 use Rattle.pp_macros.specs.LexerErrors.{ErrorAt, AreLeft, PassesErrors}
 use Rattle.pp_macros.specs.LexerErrors as left
 use Rattle.pp_model.specs.Emitting.{answers_at, expansion_limit}
-use Rattle.pp_model.specs.Run.{Call, add_define, next, with_added, by_rules, Runs}
+use Rattle.pp_model.specs.Run.{Call, next, with_added, by_rules, Runs}
 use Rattle.pp_model.specs.Run as run
 use Rattle.pp_model.specs.declared.call.Reply.{Reply}
 use Rattle.pp_model.specs.declared.call.Reply.TheVariants as reply

@@ -21,7 +21,7 @@ use Rattle.pp_model.proofs.QuietLemmas.{IsQuietReader, NoInclude, ends_quietly}
 use Rattle.pp_rs.specs.Rules.{pp_rs}
 use Rattle.pp_rs.specs.Comes.{State, nothing, first, IsRunFrom}
 use Rattle.pp_rs.specs.declared.token.Token.{Token}
-use Rattle.pp_print.specs.SourceRuns.{Definition, tokens_of, start_of, last_outcome, Adds, IsRunOf}
+use Rattle.pp_print.specs.SourceRuns.{Definition, tokens_of, start_of, last_outcome, Adds}
 use Rattle.pp_print.specs.SourceRuns as adds
 use Rattle.pp_print.specs.RunLaws.{ARun}
 use Rattle.pp_print.specs.declared.ends.RunEnd.{RunEnd}
