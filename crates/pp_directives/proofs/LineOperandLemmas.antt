@@ -15,8 +15,8 @@ use Rattle.pp_model.specs.inner.WordsRead.{Closes}
 use Rattle.pp_model.specs.declared.read.Taken.TheVariants as given
 use Rattle.pp_model.specs.declared.splice.CallPlace.{CallPlace}
 use Rattle.pp_model.specs.declared.word.LineKind.{LineKind}
-use Rattle.pp_model.proofs.OperandCases as operand
-use Rattle.pp_model.proofs.WordLemmas.{closes, does_not_close, closes_named}
+use Rattle.pp_model.proofs.values.OperandCases as operand
+use Rattle.pp_model.proofs.values.WordLemmas.{closes, does_not_close, closes_named}
 use Rattle.pp_macros.specs.inner.Defined.{Defined, meaning_of}
 use Rattle.pp_directives.specs.inner.LineItems.{FindsItem, ReadsOn, ReadsItem, ReadsTaken, ReadsClosed, ReadsInParentheses, ReadsOperand, expander_of, taken_of_read}
 use Rattle.pp_directives.specs.declared.line_words.LineItem.{LineItem}

@@ -13,7 +13,7 @@ use Rattle.pp_model.specs.declared.read.Taken.TheVariants as given
 use Rattle.pp_model.specs.declared.word.LineKind.{LineKind}
 use Rattle.pp_model.specs.declared.word.Word.{Word}
 use Rattle.pp_model.specs.declared.word.Word.TheVariants.{Defined}
-use Rattle.pp_model.proofs.WordLemmas.{after_words, after_words-before, after_words-end}
+use Rattle.pp_model.proofs.values.WordLemmas.{after_words, after_words-before, after_words-end}
 use Rattle.pp_macros.specs.inner.Defined as definitions
 use Rattle.pp_directives.specs.inner.LineItems.{IsOnLine, ReadsItem, ReadsOperand, expander_of, taken_of_read}
 use Rattle.pp_directives.specs.declared.line_words.LineItem.{LineItem}

@@ -20,7 +20,7 @@ use Rattle.pp_model.specs.declared.directive.Directive.{Directive}
 use Rattle.pp_model.specs.declared.sight.Sight.{Sight}
 use Rattle.pp_model.specs.declared.sight.Sight.TheVariants as sight
 use Rattle.pp_model.specs.inner.Sights.{item_sight, directive_sight}
-use Rattle.pp_model.proofs.MovesLemmas.{directive_holds}
+use Rattle.pp_model.proofs.source.MovesLemmas.{directive_holds}
 use Rattle.pp_macros.specs.Item.{PlacedStep}
 use Rattle.pp_macros.specs.declared.blocks.OpenBlock.{OpenBlock}
 use Rattle.pp_macros.specs.declared.step.PlacedExit.{PlacedExit}

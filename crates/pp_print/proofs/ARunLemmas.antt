@@ -16,8 +16,8 @@ use Rattle.pp_model.proofs.existence.DefinitionLemmas.{with_one}
 use Rattle.pp_model.proofs.existence.EndLemmas.{an_end}
 use Rattle.pp_model.proofs.existence.RunLemmas.{start_finite}
 use Rattle.pp_model.proofs.existence.SourceLemmas.{HasFinite}
-use Rattle.pp_model.proofs.AskingLemmas.{HoldsUnasked, calls_unasked}
-use Rattle.pp_model.proofs.QuietLemmas.{IsQuietReader, NoInclude, ends_quietly}
+use Rattle.pp_model.proofs.source.AskingLemmas.{HoldsUnasked, calls_unasked}
+use Rattle.pp_model.proofs.runs.QuietLemmas.{IsQuietReader, NoInclude, ends_quietly}
 use Rattle.pp_rs.specs.Rules.{pp_rs}
 use Rattle.pp_rs.specs.Comes.{State, nothing, first, IsRunFrom}
 use Rattle.pp_rs.specs.declared.token.Token.{Token}

@@ -13,8 +13,8 @@ use Rattle.pp_model.specs.declared.read.Taken.{Taken}
 use Rattle.pp_model.specs.declared.step.Step.{Step}
 use Rattle.pp_model.specs.declared.step.Step.TheVariants as step
 use Rattle.pp_reference.specs.inner.Acting.{Deciding, Renumbering}
-use Rattle.pp_model.proofs.ReadsLemmas.{act_does}
-use Rattle.pp_model.proofs.RedefinitionLemmas.{define_leaves}
+use Rattle.pp_model.proofs.source.ReadsLemmas.{act_does}
+use Rattle.pp_model.proofs.source.RedefinitionLemmas.{define_leaves}
 
 abbrev pub comes : Step → SourceReader → Acted
 comes s after = record { step = s; after = after }

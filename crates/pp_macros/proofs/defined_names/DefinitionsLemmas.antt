@@ -9,7 +9,7 @@ use Rattle.std.proofs.lemmas.List.Sums.{sum_by-append, sum_by-cons, sum_by-set}
 use Rattle.std.proofs.lemmas.Option.{same_Some}
 use Rattle.pp_model.specs.Definitions.{Definition, with_change}
 use Rattle.pp_model.specs.Names.{Name, is_same_name, is_in}
-use Rattle.pp_model.proofs.OpenNamesLemmas.{not_in_tail}
+use Rattle.pp_model.proofs.taking.OpenNamesLemmas.{not_in_tail}
 use Rattle.pp_macros.specs.inner.Defined.{Defined, Macro, names_in, defined_as, AreOfNames, opened_by, meaning_of, body_tokens, more_tokens, IsChanged}
 use Rattle.pp_macros.proofs.defined_names.NameKeysLemmas.{names_same}
 use Rattle.pp_macros.proofs.defined_names.FoundNamesLemmas.{apart_too, not_first, IsFoundAt, found_at, found_within, names-set}

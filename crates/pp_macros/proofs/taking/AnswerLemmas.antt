@@ -8,7 +8,7 @@ use Rattle.pp_model.specs.declared.read.Read.{Read}
 use Rattle.pp_model.specs.Names.{Name}
 use Rattle.pp_model.specs.Calls.{pieces, arguments_of, misfit, cut_before, Pieces, is_comma, nesting_after}
 use Rattle.pp_model.specs.Emitting.{answers_at}
-use Rattle.pp_model.proofs.LevelLemmas as level
+use Rattle.pp_model.proofs.calls.LevelLemmas as level
 use Rattle.pp_macros.specs.Halting.{halt_of, result_in}
 use Rattle.pp_macros.specs.Item.{is_out_of_memory}
 use Rattle.pp_macros.specs.inner.Calling.{MacroCall}

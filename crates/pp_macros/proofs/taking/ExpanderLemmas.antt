@@ -14,7 +14,7 @@ use Rattle.pp_macros.specs.Item.{PlacedStep, is_out_of_memory}
 use Rattle.pp_macros.specs.inner.Frames.{Frame}
 use Rattle.pp_macros.specs.inner.Expander.{LeadsToNext, Expander, is_pause, taken_as, StepsFetching, StepsTaking, held, moved, TakesNext, now, later, GathersNext, closed, inside, overfull, ended, failed}
 use Rattle.pp_macros.specs.inner.Left.{regions, regions_of, holding_step, reads_left}
-use Rattle.pp_model.proofs.GatherLemmas.{after_tokens, after_tokens-before, after_tokens-closed}
+use Rattle.pp_model.proofs.calls.GatherLemmas.{after_tokens, after_tokens-before, after_tokens-closed}
 use Rattle.pp_macros.specs.inner.Reach.{total}
 use Rattle.pp_macros.specs.inner.Idle.{is_idle}
 use Rattle.pp_macros.specs.inner.Reader.{Reader, Reads, hidden_of}

@@ -11,7 +11,7 @@ use Rattle.pp_model.specs.inner.Emitting.{read_before}
 use Rattle.pp_model.specs.SpliceList.{macro_before, outermost_call}
 use Rattle.pp_model.specs.declared.read.Taken.{Taken as Given}
 use Rattle.pp_model.specs.declared.read.Taken.TheVariants as given
-use Rattle.pp_model.proofs.CollectLemmas.{after_items, after_items-before, after_items-end}
+use Rattle.pp_model.proofs.calls.CollectLemmas.{after_items, after_items-before, after_items-end}
 use Rattle.pp_macros.specs.inner.Calling.{MacroCall}
 use Rattle.pp_macros.specs.inner.CallTurns.{TurnsTo}
 use Rattle.pp_macros.specs.inner.Defined.{Defined, meaning_of}

@@ -6,7 +6,7 @@ use Rattle.pp_model.specs.Names.{Name, is_same_name, defined_name}
 use Rattle.pp_model.specs.Reading.{Reading, Expander, Listed}
 use Rattle.pp_model.specs.inner.Reading.{first_listed, after_listed, ReadsListed}
 use Rattle.pp_model.specs.Calls.{Answers, site_of}
-use Rattle.pp_model.proofs.LevelLemmas.{none_at_limit}
+use Rattle.pp_model.proofs.calls.LevelLemmas.{none_at_limit}
 use Rattle.pp_macros.specs.inner.Calling.{MacroCall}
 use Rattle.pp_macros.specs.inner.CallTurns.{TurnsTo, TurnsOrRefuses}
 use Rattle.pp_macros.specs.inner.Defined.{Defined, meaning_of}

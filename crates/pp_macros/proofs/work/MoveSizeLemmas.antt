@@ -9,7 +9,7 @@ use Rattle.pp_model.specs.Lines.{line_length}
 use Rattle.pp_model.specs.Moves.{BlockFacts, Effect, defines, Move, directive_move}
 use Rattle.pp_model.specs.declared.definition.Named.{Named}
 use Rattle.pp_model.specs.declared.directive.Directive.{Directive}
-use Rattle.pp_model.proofs.MovesLemmas.{over_line, directive_holds}
+use Rattle.pp_model.proofs.source.MovesLemmas.{over_line, directive_holds}
 use Rattle.pp_macros.proofs.work.BodyLemmas.{line_length_least}
 use Rattle.pp_macros.proofs.work.DefinedBodyLemmas.{defined_least}
 

@@ -18,7 +18,7 @@ use Rattle.pp_macros.specs.declared.blocks.OpenBlock.{OpenBlock}
 use Rattle.pp_model.specs.Moves.{BlockFacts, Effect, fails, ends, Move, failing, passing, directive_move, error_length, move_at}
 use Rattle.pp_model.specs.inner.Moves.{taking_more}
 use Rattle.pp_macros.specs.inner.SourceMoves.{move_of}
-use Rattle.pp_model.proofs.MovesLemmas.{error_taken}
+use Rattle.pp_model.proofs.source.MovesLemmas.{error_taken}
 use Rattle.pp_macros.proofs.work.DirectiveLineLemmas.{begins_directive}
 use Rattle.pp_macros.proofs.work.MoveSizeLemmas.{effect_adds, IsWithin, directive_within}
 

@@ -9,7 +9,7 @@ use Rattle.pp_model.specs.ApartMarks.{IsRest}
 use Rattle.pp_model.specs.declared.read.Read.{Read}
 use Rattle.pp_model.specs.declared.splice.Entry.{Entry}
 use Rattle.pp_model.specs.declared.splice.Entry.TheVariants.{Plain, End}
-use Rattle.pp_model.proofs.OpenNamesLemmas.{not_in_later, open_around}
+use Rattle.pp_model.proofs.taking.OpenNamesLemmas.{not_in_later, open_around}
 use Rattle.pp_model.proofs.existence.Turns.{GoesOn, Here}
 use Rattle.pp_model.specs.Emitting.{called_at}
 

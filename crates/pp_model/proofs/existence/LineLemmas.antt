@@ -19,7 +19,7 @@ use Rattle.pp_model.specs.declared.read.Taken.{Taken}
 use Rattle.pp_model.specs.declared.read.Taken.TheVariants as taken
 use Rattle.pp_model.specs.declared.word.LineKind.{LineKind}
 use Rattle.pp_model.specs.declared.word.Word.TheVariants.{Defined}
-use Rattle.pp_model.proofs.OperandCases.{no_name, named, name, in_parentheses, neither}
+use Rattle.pp_model.proofs.values.OperandCases.{no_name, named, name, in_parentheses, neither}
 use Rattle.pp_model.proofs.existence.Turns.{is_token, GoesOn, goes_on}
 use Rattle.pp_model.proofs.existence.ListLemmas.{HasFinite, every_listed}
 

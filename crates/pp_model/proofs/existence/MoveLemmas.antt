@@ -9,7 +9,7 @@ use Rattle.pp_model.specs.ExistenceLaws.{is_given_token, IsFinite}
 use Rattle.pp_model.specs.declared.definition.Named.{Named}
 use Rattle.pp_model.specs.declared.step.Step.{Step}
 use Rattle.pp_model.specs.declared.step.Step.TheVariants as step
-use Rattle.pp_model.proofs.ActsLemmas.{act_holds}
+use Rattle.pp_model.proofs.source.ActsLemmas.{act_holds}
 use Rattle.pp_model.proofs.existence.DefinitionLemmas.{without_one}
 
 -- an error or the end is given, after which nothing is read

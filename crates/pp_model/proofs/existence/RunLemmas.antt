@@ -20,9 +20,9 @@ use Rattle.pp_model.specs.declared.call.Reply.{Reply}
 use Rattle.pp_model.specs.declared.call.Reply.TheVariants as reply
 use Rattle.pp_model.specs.declared.outcome.Outcome.{Outcome}
 use Rattle.pp_model.specs.declared.outcome.Outcome.TheVariants as outcome
-use Rattle.pp_model.proofs.RunLemmas.{each_state}
-use Rattle.pp_model.proofs.LevelLemmas.{one_answer, one_item_at}
-use Rattle.pp_model.proofs.ReadsLemmas.{source_reads_one}
+use Rattle.pp_model.proofs.runs.RunLemmas.{each_state}
+use Rattle.pp_model.proofs.calls.LevelLemmas.{one_answer, one_item_at}
+use Rattle.pp_model.proofs.source.ReadsLemmas.{source_reads_one}
 use Rattle.pp_model.proofs.existence.Turns.{next_item}
 use Rattle.pp_model.proofs.existence.ArgumentLemmas.{an_answer}
 use Rattle.pp_model.proofs.existence.DefinitionLemmas.{with_one}

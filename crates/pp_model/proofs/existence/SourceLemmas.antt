@@ -27,7 +27,7 @@ use Rattle.pp_model.proofs.existence.EveryExpander.{every}
 use Rattle.pp_model.proofs.existence.DefinitionLemmas.{with_one, same_definition}
 use Rattle.pp_model.proofs.existence.LineValueLemmas.{a_condition, a_line_number}
 use Rattle.pp_model.proofs.existence.MoveLemmas.{stops, moves, left, act_less_left}
-use Rattle.pp_model.proofs.ReadsLemmas.{that_does}
+use Rattle.pp_model.proofs.source.ReadsLemmas.{that_does}
 use Rattle.pp_model.specs.Numbering.{list_numbering}
 
 -- reading goes on after a step with this outcome, or a token was given

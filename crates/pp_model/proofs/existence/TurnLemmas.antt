@@ -10,9 +10,9 @@ use Rattle.pp_model.specs.ApartMarks.{IsRest}
 use Rattle.pp_model.specs.declared.read.Read.{Read}
 use Rattle.pp_model.specs.declared.read.Taken.{Taken}
 use Rattle.pp_model.specs.declared.read.Taken.TheVariants as taken
-use Rattle.pp_model.proofs.OpenNamesLemmas.{opening_known, opening_not_masked}
-use Rattle.pp_model.proofs.ApartMarksLemmas.{call_leaves_rest}
-use Rattle.pp_model.proofs.FoundLemmas.{found_same}
+use Rattle.pp_model.proofs.taking.OpenNamesLemmas.{opening_known, opening_not_masked}
+use Rattle.pp_model.proofs.taking.ApartMarksLemmas.{call_leaves_rest}
+use Rattle.pp_model.proofs.taking.FoundLemmas.{found_same}
 use Rattle.pp_model.proofs.existence.Turns.{is_token, Item, GoesOn, goes_on, next_item, Here, token_painted}
 use Rattle.pp_model.proofs.existence.CoveredLists.{still_closed, Front, moved, here, front_goes, front_unheld, size}
 use Rattle.pp_model.proofs.existence.TakingLemmas.{taking, Comes}

@@ -14,8 +14,8 @@ use Rattle.pp_model.specs.declared.block.Part.TheVariants as part
 use Rattle.pp_model.specs.declared.directive.Directive.{Directive}
 use Rattle.pp_model.specs.declared.sight.Sight.{Sight}
 use Rattle.pp_model.specs.declared.sight.Sight.TheVariants as sight
-use Rattle.pp_model.proofs.MovesLemmas.{skips, Passes, plain, unread, parting, skipping, closing, Decides, opening, choosing, directive_holds}
-use Rattle.pp_model.proofs.ReadsLemmas.{HoldsAfter, holds_after}
+use Rattle.pp_model.proofs.source.MovesLemmas.{skips, Passes, plain, unread, parting, skipping, closing, Decides, opening, choosing, directive_holds}
+use Rattle.pp_model.proofs.source.ReadsLemmas.{HoldsAfter, holds_after}
 use Rattle.pp_rs.proofs.blocks.BlockStackLemmas.{mapped_some}
 use Rattle.pp_rs.proofs.blocks.KnownAfterLemmas.{HasRead, HasReadAround, one_keeps, error_keeps, bare_keeps, unknown_keeps, line_keeps, opening_keeps, unread_keeps, closing_keeps, parting_keeps, skipping_keeps, choosing_keeps}
 

@@ -10,7 +10,7 @@ use Rattle.pp_model.specs.Blocks.{Truths, Block, blocks_at, has_taken_branch}
 use Rattle.pp_model.specs.Calls.{Answers}
 use Rattle.pp_model.specs.Run.{items_by}
 use Rattle.pp_model.specs.SourceReader.{SourceReader}
-use Rattle.pp_model.proofs.BlockLemmas.{one_branch}
+use Rattle.pp_model.proofs.source.BlockLemmas.{one_branch}
 use Rattle.pp_rs.specs.LiveBranch.{AtMostOneIsChosen, HasLiveBranches, RunHasLiveBranches}
 use Rattle.pp_rs.proofs.blocks.BlockPositionLemmas.{each_weaker, each_after}
 use Rattle.pp_rs.proofs.blocks.BranchActsLemmas.{HasReadAll, step_keeps_branches}

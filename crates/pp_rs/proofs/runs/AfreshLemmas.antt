@@ -11,7 +11,7 @@ use Rattle.pp_lexer.specs.Rules.{pp_rs}
 use Rattle.pp_model.specs.RespellLaws.{calls_for, replies_with}
 use Rattle.pp_model.specs.Run.{Runs, done, given, failed, items_of, start}
 use Rattle.pp_model.specs.declared.outcome.Outcome.TheVariants as outcome
-use Rattle.pp_model.proofs.RespellLemmas.{runs_read_afresh}
+use Rattle.pp_model.proofs.respelling.RespellLemmas.{runs_read_afresh}
 use Rattle.pp_macros.specs.Item.{Fault, Item}
 use Rattle.pp_rs.specs.Afresh.{IsOutput, AreReadAfresh, text_of}
 use Rattle.pp_lexer.specs.declared.token.Location.{Location}

@@ -17,7 +17,7 @@ use Rattle.pp_model.specs.Names.{Name, is_identifier, line_name}
 use Rattle.pp_model.specs.Numbering.{list_numbering}
 use Rattle.pp_model.specs.Places.{PlacedFault, place_of}
 use Rattle.pp_model.specs.Sights.{sight_of}
-use Rattle.pp_model.proofs.AskingLemmas.{AsksNothing, IsTakenUnasked, IsUnaskedIfFault, token_unasked, before_unasked, paren_unasked, AsksBy, move_asks, answers_unasked}
+use Rattle.pp_model.proofs.source.AskingLemmas.{AsksNothing, IsTakenUnasked, IsUnaskedIfFault, token_unasked, before_unasked, paren_unasked, AsksBy, move_asks, answers_unasked}
 use Rattle.pp_macros.specs.Item.{PlacedStep, wants_memory}
 use Rattle.pp_macros.specs.inner.Calling.{MacroCall}
 use Rattle.pp_macros.specs.inner.CallTurns.{Sought, no_call, refused, gathered, sought_by, Seeks, alone, called, Finds, TurnsTo, passes, gives, object, seeks, paren_of}

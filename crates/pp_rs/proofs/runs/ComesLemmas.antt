@@ -6,8 +6,8 @@ use Rattle.pp_model.specs.declared.outcome.Outcome.{Outcome}
 use Rattle.pp_model.specs.declared.outcome.Outcome.TheVariants as outcome
 use Rattle.pp_model.specs.Emitting.{answers_at, expansion_limit}
 use Rattle.pp_model.specs.ExpansionLaws.{OneItem}
-use Rattle.pp_model.proofs.LevelLemmas.{one_answer, one_item_at}
-use Rattle.pp_model.proofs.ReadsLemmas.{source_reads_one}
+use Rattle.pp_model.proofs.calls.LevelLemmas.{one_answer, one_item_at}
+use Rattle.pp_model.proofs.source.ReadsLemmas.{source_reads_one}
 use Rattle.pp_rs.specs.Comes.{State, source_rules, Comes, Gives, nothing, first}
 
 one_taken : OneItem source_rules (answers_at expansion_limit)

@@ -10,7 +10,7 @@ use Rattle.pp_model.specs.declared.read.Read.{Read}
 use Rattle.pp_model.specs.Names.{Name, is_same_name, is_identifier, line_name}
 use Rattle.pp_model.specs.Definitions.{Definition}
 use Rattle.pp_model.specs.Painting.{read_in}
-use Rattle.pp_model.proofs.SpelledRunLemmas.{or_none}
+use Rattle.pp_model.proofs.respelling.SpelledRunLemmas.{or_none}
 use Rattle.pp_macros.specs.inner.CallTurns.{TurnsTo, passes, gives, object, seeks}
 use Rattle.pp_macros.specs.inner.Defined.{Macro, meaning_of, opened_by}
 use Rattle.pp_macros.specs.inner.Frames.{Frame, new_frame, bare_call}

@@ -13,7 +13,7 @@ use Rattle.pp_model.specs.declared.call.Call.{Call as Called}
 use Rattle.pp_model.specs.declared.call.Reply.{Reply}
 use Rattle.pp_model.specs.declared.call.Reply.TheVariants as reply
 use Rattle.pp_model.specs.declared.outcome.Outcome.TheVariants as outcome
-use Rattle.pp_model.proofs.RunChainLemmas.{chain_runs, chain_runs_to_error}
+use Rattle.pp_model.proofs.runs.RunChainLemmas.{chain_runs, chain_runs_to_error}
 use Rattle.pp_rs.specs.Adding.{IsAdded, refused, faulty, added}
 use Rattle.pp_rs.specs.inner.Answering.{IsAnswered, AreReplies, goes_on, ends}
 use Rattle.pp_rs.specs.Comes.{State, Comes}

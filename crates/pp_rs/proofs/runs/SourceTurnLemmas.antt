@@ -5,7 +5,7 @@ use Rattle.std.specs.Prelude.{IsSome}
 use Rattle.pp_lexer.specs.declared.rules.Rules.{Rules}
 use Rattle.pp_model.specs.Calls.{Site, site_of}
 use Rattle.pp_model.specs.Emitting.{answers_at}
-use Rattle.pp_model.proofs.LevelLemmas.{none_at_limit}
+use Rattle.pp_model.proofs.calls.LevelLemmas.{none_at_limit}
 use Rattle.pp_model.specs.Names.{Name}
 use Rattle.pp_model.specs.Reading.{Expander, masked_names}
 use Rattle.pp_model.specs.SourceReader.{SourceReader}

@@ -7,8 +7,8 @@ use Rattle.pp_lexer.specs.Lexed.{Seen}
 use Rattle.pp_model.specs.Lines.{ends_line, line_length}
 use Rattle.pp_model.specs.Sights.{is_directive_hash}
 use Rattle.pp_model.specs.SourceReader.{is_on_directive_line}
-use Rattle.pp_model.proofs.DirectivePlaceLemmas.{end_is_no_hash}
-use Rattle.pp_model.proofs.DirectivePlaceLemmas as place
+use Rattle.pp_model.proofs.source.DirectivePlaceLemmas.{end_is_no_hash}
+use Rattle.pp_model.proofs.source.DirectivePlaceLemmas as place
 
 -- the item at a position is the first one after it
 pub item_here : (source : List Seen) (position : ℕ) (s : Seen) (rest : List Seen) → drop position source ≡ s ∷ rest → slice_get source position ≡ Some s

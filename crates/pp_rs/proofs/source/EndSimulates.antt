@@ -12,7 +12,7 @@ use Rattle.pp_model.specs.SourceReader.{Suspended, SourceReader}
 use Rattle.pp_model.specs.SourceReader.{resumed as reader_resumed}
 use Rattle.pp_model.specs.Acts.{leave, end_by, end_at, act}
 use Rattle.pp_model.specs.Emitting.{answers_at, expansion_limit}
-use Rattle.pp_model.proofs.ReadsLemmas.{act_does}
+use Rattle.pp_model.proofs.source.ReadsLemmas.{act_does}
 use Rattle.pp_model.specs.declared.step.Step.TheVariants as step
 use Rattle.pp_model.specs.declared.sight.Sight.TheVariants as sight
 use Rattle.pp_macros.specs.Item.{PlacedStep}

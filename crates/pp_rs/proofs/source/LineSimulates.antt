@@ -28,8 +28,8 @@ use Rattle.pp_model.specs.declared.outcome.Outcome.TheVariants as outcome
 use Rattle.pp_model.specs.declared.sight.Sight.TheVariants as sight
 use Rattle.pp_model.specs.declared.step.Step.{Step as Did}
 use Rattle.pp_model.specs.declared.step.Step.TheVariants as step
-use Rattle.pp_model.proofs.MovesLemmas.{skips, Passes, plain, unread, parting, skipping, closing, Decides as HasCondition, opening, choosing, directive_holds}
-use Rattle.pp_model.proofs.ReadsLemmas.{act_does}
+use Rattle.pp_model.proofs.source.MovesLemmas.{skips, Passes, plain, unread, parting, skipping, closing, Decides as HasCondition, opening, choosing, directive_holds}
+use Rattle.pp_model.proofs.source.ReadsLemmas.{act_does}
 use Rattle.pp_macros.specs.Item.{PlacedStep}
 use Rattle.pp_macros.specs.inner.Defined.{meaning_of}
 use Rattle.pp_macros.specs.inner.OpenBlocks.{last_block, outer_blocks, with_last, kept_facts, facts_among, is_live_in, block_parted, block_branched, block_change}

@@ -16,8 +16,8 @@ use Rattle.pp_model.specs.Run.{items_by, start_by}
 use Rattle.pp_model.specs.inner.Run.{after_addition as with_definition}
 use Rattle.pp_model.specs.RunStates.{IsReached}
 use Rattle.pp_model.specs.declared.read.Taken.{Taken}
-use Rattle.pp_model.proofs.RunLemmas.{each_state}
-use Rattle.pp_model.proofs.SearchLeadsLemmas.{call_leads}
+use Rattle.pp_model.proofs.runs.RunLemmas.{each_state}
+use Rattle.pp_model.proofs.calls.SearchLeadsLemmas.{call_leads}
 
 -- each step keeps it, and so do a definition that is added and a text that is included
 pub record IsKept (A : Answers) (P : SourceReader → Type 0) : Type 0 where

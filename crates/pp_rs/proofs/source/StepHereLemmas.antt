@@ -14,7 +14,7 @@ use Rattle.pp_model.specs.Acts.{Acted, pause_at, outcome_at, advanced_by, perfor
 use Rattle.pp_model.specs.inner.Acts.{items_left, after_line}
 use Rattle.pp_model.specs.Emitting.{answers_at, expansion_limit}
 use Rattle.pp_model.specs.Reads.{Steps}
-use Rattle.pp_model.proofs.ReadsLemmas.{act_does}
+use Rattle.pp_model.proofs.source.ReadsLemmas.{act_does}
 use Rattle.pp_model.specs.declared.read.Taken.TheVariants as taken
 use Rattle.pp_model.specs.declared.outcome.Outcome.{Outcome}
 use Rattle.pp_model.specs.declared.outcome.Outcome.TheVariants as outcome

@@ -8,7 +8,7 @@ use Rattle.pp_model.specs.Emitting.{answers_at, expansion_limit}
 use Rattle.pp_model.specs.LineValues.{IsAlone, IsLineNumber}
 use Rattle.pp_model.specs.LineValues as line
 use Rattle.pp_model.specs.declared.word.LineKind.TheVariants.{LineNumber}
-use Rattle.pp_model.proofs.LineExpressionLemmas.{alone_at_fault, none_copied, numbers_alone, numbers_followed}
+use Rattle.pp_model.proofs.values.LineExpressionLemmas.{alone_at_fault, none_copied, numbers_alone, numbers_followed}
 use Rattle.pp_macros.specs.inner.Defined.{Defined, meaning_of}
 use Rattle.pp_macros.proofs.taking.AnswerLemmas.{satisfies_exit, fault_of}
 use Rattle.pp_directives.specs.inner.IfParsing.{IfParser, IsAtFront, TakesExpression}

@@ -16,7 +16,7 @@ use Rattle.pp_macros.specs.inner.Parts.{addition, list_of, lists_of}
 use Rattle.std.proofs.lemmas.Result.{err_from_is_err_and}
 use Rattle.pp_model.specs.Emitting.{first_failed, more, none}
 use Rattle.pp_model.specs.inner.Emitting.{list_before}
-use Rattle.pp_model.proofs.CollectLemmas.{after_lists-before, after_items-end}
+use Rattle.pp_model.proofs.calls.CollectLemmas.{after_lists-before, after_items-end}
 use Rattle.std.proofs.lemmas.List.{append-nil, drop_more, drop_all}
 use Rattle.std.proofs.lemmas.List.Edits.{length-between}
 use Rattle.std.proofs.lemmas.List.Elements.{All-append}

@@ -3,7 +3,7 @@ use Rattle.std.specs.Prelude.{None, Result}
 use Rattle.pp_model.specs.Places.{PlacedFault}
 use Rattle.pp_model.specs.declared.read.Read.{Read}
 use Rattle.pp_model.specs.Emitting.{Each, Alone}
-use Rattle.pp_model.proofs.CollectLemmas.{after_items}
+use Rattle.pp_model.proofs.calls.CollectLemmas.{after_items}
 use Rattle.pp_macros.specs.inner.Defined.{meaning_of}
 use Rattle.pp_macros.specs.inner.Finishing.{AreShort}
 use Rattle.pp_macros.specs.inner.Frames.{names_of}

@@ -1,7 +1,7 @@
 use Rattle.pp_model.specs.Emitting.{answers_at}
 use Rattle.pp_model.specs.Reading.{argument_reading, line_reading}
 use Rattle.pp_model.specs.Reads.{source_reading}
-use Rattle.pp_model.proofs.ApartMarksLemmas.{starts_apart, keeps_marks_apart}
+use Rattle.pp_model.proofs.taking.ApartMarksLemmas.{starts_apart, keeps_marks_apart}
 use Rattle.pp_model.proofs.laws.apart_marks.Goals as goal
 
 pub returns : goal.returns

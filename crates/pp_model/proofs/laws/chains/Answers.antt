@@ -1,5 +1,5 @@
 use Rattle.pp_model.specs.Emitting.{answers_at}
-use Rattle.pp_model.proofs.RunChainLemmas.{chains_are_runs}
+use Rattle.pp_model.proofs.runs.RunChainLemmas.{chains_are_runs}
 use Rattle.pp_model.proofs.laws.chains.Goals as goal
 
 pub returns : goal.returns

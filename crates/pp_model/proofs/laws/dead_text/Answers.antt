@@ -1,6 +1,6 @@
 use Rattle.pp_model.specs.Emitting.{answers_at}
-use Rattle.pp_model.proofs.DeadTextLemmas.{dead_text_gives_nothing}
-use Rattle.pp_model.proofs.LiveRunLemmas.{runs_are_live}
+use Rattle.pp_model.proofs.source.DeadTextLemmas.{dead_text_gives_nothing}
+use Rattle.pp_model.proofs.runs.LiveRunLemmas.{runs_are_live}
 use Rattle.pp_model.proofs.laws.dead_text.Goals as goal
 
 pub returns : goal.returns

@@ -1,6 +1,6 @@
 use Rattle.pp_model.specs.Emitting.{answers_at}
 use Rattle.pp_model.specs.Reading.{argument_reading, line_reading}
-use Rattle.pp_model.proofs.ApartMarksLemmas.{only_takes_entries}
+use Rattle.pp_model.proofs.taking.ApartMarksLemmas.{only_takes_entries}
 use Rattle.pp_model.proofs.laws.entries_leave.Goals as goal
 
 pub returns : goal.returns

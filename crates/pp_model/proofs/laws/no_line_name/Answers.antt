@@ -1,6 +1,6 @@
 use Rattle.pp_model.specs.Emitting.{answers_at}
 use Rattle.pp_model.specs.Reading.{argument_reading, line_reading}
-use Rattle.pp_model.proofs.NoLineNameLemmas.{shows_no_line_name, alone_shows_no_line_name}
+use Rattle.pp_model.proofs.taking.NoLineNameLemmas.{shows_no_line_name, alone_shows_no_line_name}
 use Rattle.pp_model.proofs.laws.no_line_name.Goals as goal
 
 pub returns : goal.returns

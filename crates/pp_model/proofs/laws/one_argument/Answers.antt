@@ -1,4 +1,4 @@
-use Rattle.pp_model.proofs.LevelLemmas.{one_argument}
+use Rattle.pp_model.proofs.calls.LevelLemmas.{one_argument}
 use Rattle.pp_model.proofs.laws.one_argument.Goals as goal
 
 pub returns : goal.returns

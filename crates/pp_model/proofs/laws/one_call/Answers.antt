@@ -1,9 +1,9 @@
 use Rattle.pp_model.specs.Emitting.{answers_at}
 use Rattle.pp_model.specs.Reading.{argument_reading, line_reading}
 use Rattle.pp_model.specs.Reads.{source_reading}
-use Rattle.pp_model.proofs.TakingLemmas.{argument_reads_one, line_reads_one}
-use Rattle.pp_model.proofs.LevelLemmas.{one_answer, one_call_at}
-use Rattle.pp_model.proofs.ReadsLemmas.{source_reads_one}
+use Rattle.pp_model.proofs.taking.TakingLemmas.{argument_reads_one, line_reads_one}
+use Rattle.pp_model.proofs.calls.LevelLemmas.{one_answer, one_call_at}
+use Rattle.pp_model.proofs.source.ReadsLemmas.{source_reads_one}
 use Rattle.pp_model.proofs.laws.one_call.Goals as goal
 
 pub returns : goal.returns

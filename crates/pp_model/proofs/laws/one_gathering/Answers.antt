@@ -1,10 +1,10 @@
 use Rattle.pp_model.specs.Emitting.{answers_at}
 use Rattle.pp_model.specs.Reading.{argument_reading, line_reading}
 use Rattle.pp_model.specs.Reads.{source_reading}
-use Rattle.pp_model.proofs.CallsLemmas.{one_gathering}
-use Rattle.pp_model.proofs.LevelLemmas.{one_answer}
-use Rattle.pp_model.proofs.ReadsLemmas.{source_reads_one}
-use Rattle.pp_model.proofs.TakingLemmas.{argument_reads_one, line_reads_one}
+use Rattle.pp_model.proofs.calls.CallsLemmas.{one_gathering}
+use Rattle.pp_model.proofs.calls.LevelLemmas.{one_answer}
+use Rattle.pp_model.proofs.source.ReadsLemmas.{source_reads_one}
+use Rattle.pp_model.proofs.taking.TakingLemmas.{argument_reads_one, line_reads_one}
 use Rattle.pp_model.proofs.laws.one_gathering.Goals as goal
 
 pub returns : goal.returns

@@ -1,6 +1,6 @@
 use Rattle.pp_model.specs.Emitting.{answers_at}
-use Rattle.pp_model.proofs.LevelLemmas.{one_answer}
-use Rattle.pp_model.proofs.LineValueLemmas.{one_evaluation, one_condition, one_line_number}
+use Rattle.pp_model.proofs.calls.LevelLemmas.{one_answer}
+use Rattle.pp_model.proofs.values.LineValueLemmas.{one_evaluation, one_condition, one_line_number}
 use Rattle.pp_model.proofs.laws.one_line_value.Goals as goal
 
 pub returns : goal.returns

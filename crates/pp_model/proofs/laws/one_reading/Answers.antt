@@ -1,4 +1,4 @@
-use Rattle.pp_model.proofs.TakingLemmas.{argument_reads_one, line_reads_one}
+use Rattle.pp_model.proofs.taking.TakingLemmas.{argument_reads_one, line_reads_one}
 use Rattle.pp_model.proofs.laws.one_reading.Goals as goal
 
 pub returns : goal.returns

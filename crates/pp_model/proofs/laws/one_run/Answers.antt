@@ -1,4 +1,4 @@
-use Rattle.pp_model.proofs.RunLemmas.{one_replies_at, one_run}
+use Rattle.pp_model.proofs.runs.RunLemmas.{one_replies_at, one_run}
 use Rattle.pp_model.proofs.laws.one_run.Goals as goal
 
 pub returns : goal.returns

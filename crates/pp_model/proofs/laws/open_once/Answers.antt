@@ -1,6 +1,6 @@
 use Rattle.pp_model.specs.Emitting.{answers_at}
 use Rattle.pp_model.specs.Reading.{argument_reading, line_reading}
-use Rattle.pp_model.proofs.OpenOnceLemmas.{run_opens_once, reading_opens_once}
+use Rattle.pp_model.proofs.taking.OpenOnceLemmas.{run_opens_once, reading_opens_once}
 use Rattle.pp_model.proofs.laws.open_once.Goals as goal
 
 pub returns : goal.returns

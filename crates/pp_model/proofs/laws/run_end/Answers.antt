@@ -1,5 +1,5 @@
 use Rattle.pp_model.specs.Emitting.{answers_at}
-use Rattle.pp_model.proofs.RunEndLemmas.{end_stays, run_ends_for_good}
+use Rattle.pp_model.proofs.runs.RunEndLemmas.{end_stays, run_ends_for_good}
 use Rattle.pp_model.proofs.laws.run_end.Goals as goal
 
 pub returns : goal.returns

@@ -2,7 +2,7 @@ use Rattle.std.proofs.Common.{◌∙◌, ap, take}
 use Rattle.std.specs.Prelude.{codes}
 use Rattle.std.proofs.lemmas.Str.Pattern.{starts_text}
 use Rattle.pp_model.specs.Names.{is_same_name}
-use Rattle.pp_model.proofs.OwnNameLemmas.{begins_same}
+use Rattle.pp_model.proofs.source.OwnNameLemmas.{begins_same}
 use Rattle.pp_model.proofs.names.begins_as_own.Goals as goal
 
 pub returns : goal.returns

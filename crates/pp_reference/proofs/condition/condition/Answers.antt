@@ -2,7 +2,7 @@ use Rattle.std.proofs.Common.{rules, ◌≡◌, not, w64}
 use Rattle.std.specs.Int.{cast_unsigned}
 use Rattle.std.proofs.Math.Dec.{eqb}
 use Rattle.pp_expression.specs.Arithmetic.{is_zero}
-use Rattle.pp_model.proofs.LineExpressionLemmas.{alone_at_value}
+use Rattle.pp_model.proofs.values.LineExpressionLemmas.{alone_at_value}
 use Rattle.pp_reference.proofs.condition.condition.Goals as goal
 
 pub returns-in-Ok-clause-reads : goal.returns-in-Ok-clause-reads

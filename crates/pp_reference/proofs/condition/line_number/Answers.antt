@@ -1,7 +1,7 @@
 use Rattle.std.proofs.Common.{rules, ◌∙◌, ap, sym, is_none, not, Bool, w64, FitsSigned}
 use Rattle.std.proofs.lemmas.Int.{to_z-of_z}
 use Rattle.std.specs.Prelude.{Ok, Err}
-use Rattle.pp_model.proofs.LineExpressionLemmas.{alone_at_fault, alone_at_value, none_copied, numbers_alone, numbers_followed}
+use Rattle.pp_model.proofs.values.LineExpressionLemmas.{alone_at_fault, alone_at_value, none_copied, numbers_alone, numbers_followed}
 use Rattle.pp_reference.proofs.condition.line_number.Goals as goal
 
 pub returns-then-is_none-clause-reads : goal.returns-then-is_none-clause-reads

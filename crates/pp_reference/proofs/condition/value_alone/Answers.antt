@@ -1,7 +1,7 @@
 use Rattle.std.proofs.Common.{rules, ◌∙◌, ap, sym, w64, FitsSigned}
 use Rattle.std.proofs.lemmas.Int.{to_z-of_z}
 use Rattle.std.specs.Option.{option_copied}
-use Rattle.pp_model.proofs.LineExpressionLemmas.{alone_then}
+use Rattle.pp_model.proofs.values.LineExpressionLemmas.{alone_then}
 use Rattle.pp_reference.proofs.condition.value_alone.Goals as goal
 
 pub returns-in_ok-unwanted_word-in-Some : goal.returns-in_ok-unwanted_word-in-Some

@@ -9,9 +9,9 @@ use Rattle.pp_model.specs.Reading.{Expander, Listed, argument_reading}
 use Rattle.pp_reference.specs.inner.Seen.{seen}
 use Rattle.pp_reference.specs.inner.SeenList.{list_state}
 use Rattle.pp_reference.specs.declared.expander.Turn.TheVariants.{Item, Replaced, Called}
-use Rattle.pp_model.proofs.CollectLemmas.{after_items-before, after_lists-before, after_items-end, each_at-failed, each_at-more, each_at-end}
+use Rattle.pp_model.proofs.calls.CollectLemmas.{after_items-before, after_lists-before, after_items-end, each_at-failed, each_at-more, each_at-end}
 use Rattle.pp_model.specs.declared.read.Read.{Read}
-use Rattle.pp_model.proofs.LevelLemmas.{answers_each}
+use Rattle.pp_model.proofs.calls.LevelLemmas.{answers_each}
 use Rattle.pp_reference.proofs.TurnLemmas.{turns_mean, answer_known, resolves_fault, resolves_next}
 use Rattle.pp_reference.proofs.expand.+answers.Goals as goal
 

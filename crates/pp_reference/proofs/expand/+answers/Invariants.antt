@@ -8,7 +8,7 @@ use Rattle.pp_reference.specs.inner.Seen.{seen, EmitsFrom}
 use Rattle.pp_reference.specs.inner.SeenList.{list_state}
 use Rattle.pp_model.specs.declared.read.Read.{Read}
 use Rattle.pp_reference.specs.declared.emitted.Emitted.{Emitted}
-use Rattle.pp_model.proofs.CollectLemmas.{after_items}
+use Rattle.pp_model.proofs.calls.CollectLemmas.{after_items}
 use Rattle.pp_reference.proofs.expand.+answers.Given as goal
 
 abbrev pub decreases-answer : goal.decreases-answer

@@ -1,6 +1,6 @@
 use Rattle.std.proofs.Common.{sym, refl, ◌∙◌}
 use Rattle.pp_model.specs.Emitting.{answers_at}
-use Rattle.pp_model.proofs.WordLemmas.{closes, does_not_close}
+use Rattle.pp_model.proofs.values.WordLemmas.{closes, does_not_close}
 use Rattle.pp_reference.proofs.line_words.closed_operand.Goals as goal
 
 pub returns-then-is_close_paren-clause-closes : goal.returns-then-is_close_paren-clause-closes

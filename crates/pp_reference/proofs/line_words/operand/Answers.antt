@@ -3,7 +3,7 @@ use Rattle.std.specs.Prelude.{Result, Ok, Err, Bool}
 use Rattle.std.proofs.lemmas.Result.{IfOk-weaker}
 use Rattle.pp_model.specs.Places.{PlacedFault}
 use Rattle.pp_model.specs.Emitting.{answers_at}
-use Rattle.pp_model.proofs.OperandCases.{name, in_parentheses, neither}
+use Rattle.pp_model.proofs.values.OperandCases.{name, in_parentheses, neither}
 use Rattle.pp_reference.proofs.line_words.operand.Goals as goal
 
 pub returns-then-is_open_paren-clause-operand : goal.returns-then-is_open_paren-clause-operand

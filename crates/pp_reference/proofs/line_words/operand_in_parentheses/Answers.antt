@@ -3,8 +3,8 @@ use Rattle.std.specs.Prelude.{Result, Err, Bool}
 use Rattle.std.proofs.lemmas.Result.{IfOk-weaker}
 use Rattle.pp_model.specs.Places.{PlacedFault}
 use Rattle.pp_model.specs.Emitting.{answers_at}
-use Rattle.pp_model.proofs.OperandCases.{no_name}
-use Rattle.pp_model.proofs.WordLemmas.{closes_named}
+use Rattle.pp_model.proofs.values.OperandCases.{no_name}
+use Rattle.pp_model.proofs.values.WordLemmas.{closes_named}
 use Rattle.pp_reference.proofs.line_words.operand_in_parentheses.Goals as goal
 
 pub returns-in-Ok-clause-inside : goal.returns-in-Ok-clause-inside

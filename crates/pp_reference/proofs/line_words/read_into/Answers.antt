@@ -4,7 +4,7 @@ use Rattle.pp_model.specs.Places.{place_of, place_in, fault_in}
 use Rattle.pp_model.specs.Emitting.{answers_at}
 use Rattle.pp_model.specs.LineWords.{word_before, word_of, ended, failed}
 use Rattle.pp_model.specs.declared.word.Word.TheVariants.{Defined}
-use Rattle.pp_model.proofs.WordLemmas.{after_words-before, after_words-end}
+use Rattle.pp_model.proofs.values.WordLemmas.{after_words-before, after_words-end}
 use Rattle.pp_reference.proofs.EmittedWordLemmas.{refused_from, plain_from, answered_from, faulty_from}
 use Rattle.pp_reference.proofs.line_words.read_into.Goals as goal
 

@@ -3,7 +3,7 @@ use Rattle.pp_model.specs.Emitting.{answers_at}
 use Rattle.pp_model.specs.LineWords.{LineWords, Words}
 use Rattle.pp_reference.specs.inner.Seen.{seen}
 use Rattle.pp_reference.specs.inner.SeenList.{line_state}
-use Rattle.pp_model.proofs.WordLemmas.{after_words}
+use Rattle.pp_model.proofs.values.WordLemmas.{after_words}
 use Rattle.pp_reference.proofs.line_words.read_into.Given as goal
 
 abbrev pub invariant-words : goal.invariant-words

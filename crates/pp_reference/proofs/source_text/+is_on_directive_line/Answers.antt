@@ -4,7 +4,7 @@ use Rattle.pp_lexer.specs.Lexed.{Seen}
 use Rattle.pp_model.specs.Lines.{ends_line}
 use Rattle.pp_model.specs.Sights.{is_directive_hash}
 use Rattle.pp_model.specs.SourceReader.{is_on_directive_line}
-use Rattle.pp_model.proofs.DirectivePlaceLemmas.{on_line_before}
+use Rattle.pp_model.proofs.source.DirectivePlaceLemmas.{on_line_before}
 use Rattle.pp_reference.proofs.source_text.+is_on_directive_line.Goals as goal
 
 -- a position on the line of a directive, by the item before it

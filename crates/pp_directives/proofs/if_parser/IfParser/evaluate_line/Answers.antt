@@ -1,7 +1,7 @@
 use Rattle.std.proofs.Common.{rules, ◌∙◌, ap, sym, refl, Ok, w64, FitsSigned}
 use Rattle.std.proofs.lemmas.Int.{to_z-of_z}
 use Rattle.std.specs.Option.{option_copied}
-use Rattle.pp_model.proofs.LineExpressionLemmas.{alone_then}
+use Rattle.pp_model.proofs.values.LineExpressionLemmas.{alone_then}
 use Rattle.pp_directives.proofs.if_parser.IfParser.evaluate_line.Goals as goal
 use Rattle.pp_directives.proofs.if_parser.IfParser.evaluate_line.Goals.{in-Some+in_ok-unwanted_word-in-Some, in-None}
 

@@ -3,7 +3,7 @@ use Rattle.std.specs.Prelude.{Ok, Err}
 use Rattle.pp_lexer.specs.declared.token.PreprocessorError.TheVariants.{IntegerOverflow, UnexpectedEndOfInput}
 use Rattle.pp_model.specs.Calls.{before, closed, inside, overfull, ended, failed}
 use Rattle.pp_reference.specs.inner.Seen.{seen}
-use Rattle.pp_model.proofs.GatherLemmas.{after_tokens-before, after_tokens-closed}
+use Rattle.pp_model.proofs.calls.GatherLemmas.{after_tokens-before, after_tokens-closed}
 use Rattle.pp_reference.proofs.expander.Expander.gather.Goals as goal
 
 pub returns-in-Fault-clause-gathers : goal.returns-in-Fault-clause-gathers

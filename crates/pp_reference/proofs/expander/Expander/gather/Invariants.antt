@@ -3,7 +3,7 @@ use Rattle.pp_model.specs.Places.{PlacedFault}
 use Rattle.pp_model.specs.Reading.{Expander}
 use Rattle.pp_model.specs.Calls.{Gathered, Gathers}
 use Rattle.pp_reference.specs.inner.Seen.{seen}
-use Rattle.pp_model.proofs.GatherLemmas.{after_tokens}
+use Rattle.pp_model.proofs.calls.GatherLemmas.{after_tokens}
 use Rattle.std.proofs.Common.{◌≤◌}
 use Rattle.pp_reference.proofs.expander.Expander.gather.Given as goal
 

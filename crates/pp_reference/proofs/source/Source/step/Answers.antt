@@ -6,7 +6,7 @@ use Rattle.pp_reference.specs.inner.ReaderState.{reader_of}
 use Rattle.pp_model.specs.declared.step.Step.{Step}
 use Rattle.pp_model.specs.declared.step.Step.TheVariants as step
 use Rattle.pp_model.specs.Painting.{taken_of}
-use Rattle.pp_model.proofs.ReadsLemmas.{act_does}
+use Rattle.pp_model.proofs.source.ReadsLemmas.{act_does}
 use Rattle.pp_reference.proofs.SourceStepLemmas.{comes, step_defines, step_decides, step_renumbers, ok_more}
 use Rattle.pp_reference.proofs.source.Source.step.Goals as goal
 

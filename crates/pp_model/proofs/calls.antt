@@ -1,0 +1,5 @@
+pub mod GatherLemmas
+pub mod CollectLemmas
+pub mod SearchLeadsLemmas
+pub mod CallsLemmas
+pub mod LevelLemmas

@@ -1,0 +1,4 @@
+pub mod HoldingLemmas
+pub mod KeptTokensLemmas
+pub mod LineHoldsLemmas
+pub mod SourceHoldsLemmas

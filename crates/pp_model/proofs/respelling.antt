@@ -1,0 +1,2 @@
+pub mod SpelledRunLemmas
+pub mod RespellLemmas

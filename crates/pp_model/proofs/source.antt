@@ -1,0 +1,10 @@
+pub mod ReadsLemmas
+pub mod MovesLemmas
+pub mod ActsLemmas
+pub mod OwnNameLemmas
+pub mod RedefinitionLemmas
+pub mod DirectivePlaceLemmas
+pub mod BlockLemmas
+pub mod DeadTextLemmas
+pub mod SourceEndLemmas
+pub mod AskingLemmas
