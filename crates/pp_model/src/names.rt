@@ -42,7 +42,7 @@ fn begins_as_own(name: &Text) -> bool
 }
 
 // Whether the language defines the name itself.
-#[tactic(auto, using(crate::proofs::OwnNameLemmas::in_own_names))]
+#[tactic(auto, using(crate::proofs::source::OwnNameLemmas::in_own_names))]
 fn is_predefined(name: &Text) -> bool
     ensures { result ≡ is_in name.now own_names }
 {
