@@ -6,6 +6,7 @@ pub mod source
 pub mod holding
 pub mod runs
 pub mod respelling
+pub mod including
 pub mod ListLemmas
 pub mod TextLemmas
 pub mod PartsLemmas

@@ -35,4 +35,5 @@ pub mod LiveRuns
 pub use Rattle.pp_lexer.specs.Spelling
 pub mod RespellLaws
 pub mod RunChains
+pub mod IncludeLaws
 pub mod inner

@@ -1,3 +1,4 @@
+pub mod Alike
 pub mod Definitions
 pub mod Sights
 pub mod Blocks

@@ -9,6 +9,7 @@ ghost use Rattle.pp_model.specs.ExistenceLaws.{AnOperand, ALine, ACondition, ALi
 ghost use Rattle.pp_model.specs.ExistenceLaws.{AStep, RunDefinesFinitelyMany, AnEnd, ARun};
 ghost use Rattle.pp_model.specs.ExpansionLaws.{OneReads, OneTaking, OneGathering, OneCall, OneItem, OneArgument};
 ghost use Rattle.pp_model.specs.ExpansionLaws.{OneOperand, OneLine};
+ghost use Rattle.pp_model.specs.IncludeLaws.{AskedIsAtLine, IncludedIsInserted};
 ghost use Rattle.pp_model.specs.LiveRuns.{RunsAreLive};
 ghost use Rattle.pp_model.specs.OpenOnce.{RunOpensOnce, ListOpensOnce};
 ghost use Rattle.pp_model.specs.NoLineName.{ShowsNoLineName, AloneShowsNoLineName};
@@ -242,4 +243,12 @@ pub fn an_end()
 /// Every source has a run for every list of calls.
 pub fn a_run()
     ensures { ARun }
+{}
+
+/// Once an `#include` line asked for its text, the reader is behind that line, in live text. A text that is included
+/// there, and that holds no directive of a block across its ends, is read as if its lines stood in the text around it,
+/// behind the `#include` line, if neither has a `#line`.
+pub fn included_text()
+    ensures asked { (level : ℕ) → AskedIsAtLine (answers_at level) }
+    ensures inserted { (level : ℕ) → IncludedIsInserted (answers_at level) }
 {}

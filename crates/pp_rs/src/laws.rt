@@ -8,6 +8,7 @@ ghost use Rattle.pp_model.specs.BlockLaws.{OneBranch, NoneAfterTaken, DeadTextGi
 ghost use Rattle.pp_model.specs.Emitting.{answers_at};
 ghost use Rattle.pp_model.specs.ExistenceLaws.{ARun};
 ghost use Rattle.pp_model.specs.ExpansionLaws.{OneReads};
+ghost use Rattle.pp_model.specs.IncludeLaws.{AskedIsAtLine, IncludedIsInserted};
 ghost use Rattle.pp_model.specs.LiveRuns.{RunsAreLive};
 ghost use Rattle.pp_model.specs.OpenOnce.{RunOpensOnce, ListOpensOnce};
 ghost use Rattle.pp_model.specs.Reading.{argument_reading, line_reading};
@@ -101,6 +102,17 @@ pub fn respell()
     ensures { (level : ℕ) → RunsAreReadAfresh (answers_at level) }
 {
     pp_model::laws::respell()
+}
+
+/// Once an `#include` line asked for its text, the reader is behind that line, in live text. A text that is included
+/// there, and that holds no directive of a block across its ends, is read as if its lines stood in the text around it,
+/// behind the `#include` line, if neither has a `#line`: the replies are the same, also if more texts are included in
+/// it and behind it.
+pub fn included_text()
+    ensures asked { (level : ℕ) → AskedIsAtLine (answers_at level) }
+    ensures inserted { (level : ℕ) → IncludedIsInserted (answers_at level) }
+{
+    pp_model::laws::included_text()
 }
 
 /// A token or line of a source has at most one outcome, and reading the source passes at most one outcome next.

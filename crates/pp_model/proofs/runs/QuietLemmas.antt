@@ -35,7 +35,7 @@ abbrev pub NoInclude : Outcome → Type 0
 NoInclude (outcome.Include line) = ⊥
 NoInclude _ = ⊤
 
-abbrev StepsQuietly : Step → Type 0
+abbrev pub StepsQuietly : Step → Type 0
 StepsQuietly (step.Given o) = NoInclude o
 StepsQuietly _ = ⊤
 
@@ -93,7 +93,8 @@ module _ (A : Answers) where
     line_quiet (Ok value) next d = rw d.0 tt
     line_quiet (Err fault) next d = rw d.0 refl
 
-    does_quiet : (did : Step) (after : SourceReader) → StepsQuietly did → Does A r did after o t → IfSome o IsTakenUnasked
+    -- a step that gives no `#include` line asks for nothing
+    pub does_quiet : (did : Step) (after : SourceReader) → StepsQuietly did → Does A r did after o t → IfSome o IsTakenUnasked
     does_quiet step.Passed after none d = rw d.0 tt
     does_quiet (step.Given x) after none d = rw d.0 (given_quiet r.text x none)
     does_quiet (step.Defines named) after none d = define_quiet named (r.definitions named.name) after d

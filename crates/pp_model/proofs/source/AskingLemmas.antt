@@ -1,4 +1,5 @@
--- Only an `#include` line asks for a text: no call's fault does, nor what an expander gives if its reader never asks.
+-- Only an `#include` line asks for a text: no call's fault does, nor what an expander gives if its reader never asks; and if
+-- the reader asks, the expander does so where the reader did.
 use Rattle.std.proofs.Common.{◌≡◌, ℕ, zero, suc, Bool, true, false, if◌then◌else◌, List, [], drop, refl, ap, sym, Option, Some, None}
 use Rattle.std.specs.Prelude.{⊤, IfSome, MatchOption, Result, Ok, Err}
 use Rattle.std.specs.Option.{option_map_or}
@@ -8,12 +9,12 @@ use Rattle.pp_lexer.specs.declared.token.Integer.{Integer}
 use Rattle.pp_lexer.specs.declared.token.Location.{Location}
 use Rattle.pp_lexer.specs.declared.token.PreprocessorError.{PreprocessorError}
 use Rattle.pp_model.specs.declared.place.Place.{Place}
-use Rattle.pp_model.specs.Places.{PlacedFault, place_of, place_in}
+use Rattle.pp_model.specs.Places.{PlacedFault, place_of, place_in, fault_in}
 use Rattle.pp_model.specs.Names.{Name, is_identifier, line_name}
 use Rattle.pp_model.specs.Definitions.{Definition, Definitions}
 use Rattle.pp_model.specs.SpliceList.{outermost_call}
 use Rattle.pp_model.specs.Painting.{taken_among}
-use Rattle.pp_model.specs.Reading.{Reading, Expander, masked_names, argument_reading, reading_of}
+use Rattle.pp_model.specs.Reading.{Reading, Expander, masked_names, Opening, opening, argument_reading, reading_of}
 use Rattle.pp_model.specs.Taking.{line_number, shown_token, shown_outcome, Takes, Fetches, held, listed, read}
 use Rattle.pp_model.specs.Calls.{Gathered, before, Gathers, closed, inside, overfull, ended, failed, Answers, Called, no_call, refused, fits, is_left_paren, paren_at, called_by, Calls, alone, broken, whole, Site, misfit, site_of}
 use Rattle.pp_model.specs.Emitting.{with_macro, found_among, Emits, itself, object, name_alone, call_refused, call, Collects, done, failed as failing, item, first_before, Alones, Each, none, first_failed, more, answers_by, alone_by, ExpandsArguments, answers_at}
@@ -34,10 +35,14 @@ use Rattle.pp_model.proofs.source.MovesLemmas.{directive_holds}
 abbrev pub AsksNothing : PlacedFault → Type 0
 AsksNothing fault = fault.1.asks ≡ None
 
+-- if what is taken is a fault, it is one of these
+abbrev pub IsTakenWith : (PlacedFault → Type 0) → Taken → Type 0
+IsTakenWith Allowed (taken.Fault fault) = Allowed fault
+IsTakenWith Allowed _ = ⊤
+
 -- what is taken asks for none
 abbrev pub IsTakenUnasked : Taken → Type 0
-IsTakenUnasked (taken.Fault fault) = AsksNothing fault
-IsTakenUnasked _ = ⊤
+IsTakenUnasked x = IsTakenWith AsksNothing x
 
 -- nor does what is held, if anything is
 abbrev pub HoldsUnasked : {R : Type 0} → Expander R → Type 0
@@ -48,15 +53,19 @@ abbrev pub IsUnaskedIfFault : {X : Type 0} → Result X PlacedFault → Type 0
 IsUnaskedIfFault (Ok x) = ⊤
 IsUnaskedIfFault (Err fault) = AsksNothing fault
 
--- nor does what comes after a macro's name
-abbrev pub IsCalledUnasked : Called → Type 0
-IsCalledUnasked (no_call o) = IsTakenUnasked o
-IsCalledUnasked (refused fault) = AsksNothing fault
-IsCalledUnasked (fits arguments line) = ⊤
+-- of what comes after a macro's name, what was taken in place of a call may be one of these faults, and a call asks for none
+abbrev pub IsCalledWith : (PlacedFault → Type 0) → Called → Type 0
+IsCalledWith Allowed (no_call o) = IsTakenWith Allowed o
+IsCalledWith Allowed (refused fault) = AsksNothing fault
+IsCalledWith Allowed (fits arguments line) = ⊤
 
--- readers of a kind never ask, and stay of that kind
+-- readers of a kind give only faults that are allowed where they are then, and stay of that kind
+abbrev pub ReadsWith : {R : Type 0} → Reading R → (R → Type 0) → (R → PlacedFault → Type 0) → Type 0
+ReadsWith {R} I Quiet Allowed = (x : Taken) (r s : R) → I.Reads r x s → Quiet r → IsTakenWith (Allowed s) x × Quiet s
+
+-- they never ask
 abbrev pub ReadsUnasked : {R : Type 0} → Reading R → (R → Type 0) → Type 0
-ReadsUnasked {R} I Quiet = (x : Taken) (r s : R) → I.Reads r x s → Quiet r → IsTakenUnasked x × Quiet s
+ReadsUnasked I Quiet = ReadsWith I Quiet (λ r. AsksNothing)
 
 -- calls never ask, since no `(` is at a place that asks
 abbrev pub AnswersUnasked : Answers → Type 0
@@ -82,26 +91,51 @@ token_unasked token false shown = tt
 shown_unasked : (shown_line : ℕ → Option Integer) (after : List Entry) (token : Read) → IsTakenUnasked (shown_token shown_line after token)
 shown_unasked shown_line after token = token_unasked token (is_identifier line_name token.token.value) _
 
-outcome_unasked : (shown_line : ℕ → Option Integer) (x : Taken) → IsTakenUnasked x → IsTakenUnasked (shown_outcome shown_line x)
-outcome_unasked shown_line (taken.Token token) unasked = shown_unasked shown_line [] token
-outcome_unasked shown_line (taken.Fault fault) unasked = unasked
-outcome_unasked shown_line taken.End unasked = tt
-
--- paint changes no fault
-painted_unasked : (names : List Name) (x : Taken) → IsTakenUnasked x → IsTakenUnasked (taken_among names x)
-painted_unasked names (taken.Token token) unasked = tt
-painted_unasked names (taken.Fault fault) unasked = unasked
-painted_unasked names taken.End unasked = tt
-
--- nor does a call change whether it asks
+-- a call doesn't change whether a place asks
 place_unasked : (around : Option CallPlace) (place : Place) → place.asks ≡ None → (place_in around place).asks ≡ None
 place_unasked (Some c) place unasked = unasked
 place_unasked None place unasked = unasked
 
-found_unasked : (entries : List Entry) (x : Taken) → IsTakenUnasked x → IsTakenUnasked (found_among entries x)
-found_unasked entries (taken.Token token) unasked = tt
-found_unasked entries (taken.Fault fault) unasked = place_unasked (outermost_call entries) fault.1 unasked
-found_unasked entries taken.End unasked = tt
+-- faults that ask for nothing are allowed, and those that are allowed are so in a call, too
+pub record IsAllowance (Allowed : PlacedFault → Type 0) : Type 0 where
+  pub unasked : (fault : PlacedFault) → AsksNothing fault → Allowed fault
+  pub in_call : (around : Option CallPlace) (fault : PlacedFault) → Allowed fault → Allowed (fault_in around fault)
+
+pub only_unasked : IsAllowance AsksNothing
+only_unasked = record { unasked = λ fault none. none; in_call = λ around fault none. place_unasked around fault.1 none }
+
+module _ (Allowed : PlacedFault → Type 0) (allowance : IsAllowance Allowed) where
+  pub taken_with : (x : Taken) → IsTakenUnasked x → IsTakenWith Allowed x
+  taken_with (taken.Token token) unasked = tt
+  taken_with (taken.Fault fault) unasked = allowance.unasked fault unasked
+  taken_with taken.End unasked = tt
+
+  outcome_with : (shown_line : ℕ → Option Integer) (x : Taken) → IsTakenWith Allowed x → IsTakenWith Allowed (shown_outcome shown_line x)
+  outcome_with shown_line (taken.Token token) allowed = taken_with (shown_token shown_line [] token) (shown_unasked shown_line [] token)
+  outcome_with shown_line (taken.Fault fault) allowed = allowed
+  outcome_with shown_line taken.End allowed = tt
+
+  -- paint changes no fault
+  painted_with : (names : List Name) (x : Taken) → IsTakenWith Allowed x → IsTakenWith Allowed (taken_among names x)
+  painted_with names (taken.Token token) allowed = tt
+  painted_with names (taken.Fault fault) allowed = allowed
+  painted_with names taken.End allowed = tt
+
+  found_with : (entries : List Entry) (x : Taken) → IsTakenWith Allowed x → IsTakenWith Allowed (found_among entries x)
+  found_with entries (taken.Token token) allowed = tt
+  found_with entries (taken.Fault fault) allowed = allowance.in_call (outermost_call entries) fault allowed
+  found_with entries taken.End allowed = tt
+
+  -- nor does a call's answer change its fault
+  called_with : (line : ℕ) (answer : Result (List (List Read)) PlacedFault) → IsUnaskedIfFault answer → IsCalledWith Allowed (called_by line answer)
+  called_with line (Ok arguments) unasked = tt
+  called_with line (Err fault) unasked = unasked
+
+  -- a macro is opened by a token
+  opening_with : {R : Type 0} (I : Reading R) (e : Expander R) (x : Taken) (m : Opening) → opening I e x ≡ Some m → IsTakenWith Allowed x
+  opening_with I e (taken.Token token) m opens = tt
+  opening_with I e (taken.Fault fault) m opens = cc
+  opening_with I e taken.End m opens = tt
 
 -- one more changes no fault
 pub before_unasked : (token : Read) (rest : Result Gathered PlacedFault) → IsUnaskedIfFault rest → IsUnaskedIfFault (before token rest)
@@ -122,75 +156,81 @@ paren_unasked (taken.Token token) paren e = go (is_left_paren token.token.value)
 paren_unasked (taken.Fault fault) paren e = cc
 paren_unasked taken.End paren e = cc
 
--- nor does a call's answer change its fault
-called_unasked : (line : ℕ) (answer : Result (List (List Read)) PlacedFault) → IsUnaskedIfFault answer → IsCalledUnasked (called_by line answer)
-called_unasked line (Ok arguments) unasked = tt
-called_unasked line (Err fault) unasked = unasked
-
-module _ {R : Type 0} (I : Reading R) (Quiet : R → Type 0) (reads : ReadsUnasked I Quiet) where
-  -- what is held asks for nothing, and the reader is of the kind
+module _ {R : Type 0} (I : Reading R) (Quiet : R → Type 0) (Allowed : R → PlacedFault → Type 0) (allowance : (r : R) → IsAllowance (Allowed r))
+    (reads : ReadsWith I Quiet Allowed) where
+  -- what is held is allowed where the reader is, and the reader is of the kind
   abbrev pub IsQuiet : Expander R → Type 0
-  IsQuiet e = HoldsUnasked e × Quiet e.reader
+  IsQuiet e = IfSome e.held (IsTakenWith (Allowed e.reader)) × Quiet e.reader
 
-  -- what is taken, gathered, called and given asks for nothing if what is held does
-  fetching_unasked : (o : Taken) (e f : Expander R) → Fetches I e o f → IsQuiet e → IsTakenUnasked o × IsQuiet f
-  fetching_unasked o e f (held o1 e1 f1 h p) unasked = (rw h at unasked.0, rw p (tt, unasked.1))
-  fetching_unasked o e f (listed o1 token rest e1 f1 h b is p) unasked = (rw is (shown_unasked (I.shown_line e.reader) rest token), rw (p, h) (tt, unasked.1))
-  fetching_unasked o e f (read x o1 reader e1 f1 h b r is p) unasked =
-      let there = reads x e.reader reader r unasked.1 in
-      (rw is (outcome_unasked (I.shown_line reader) x there.0), rw (p, h) (tt, there.1))
+  -- what is taken, gathered, called and given is allowed if what is held is
+  fetching_with : (o : Taken) (e f : Expander R) → Fetches I e o f → IsQuiet e → IsTakenWith (Allowed f.reader) o × IsQuiet f
+  fetching_with o e f (held o1 e1 f1 h p) quiet = (rw p (rw h at quiet.0), rw p (tt, quiet.1))
+  fetching_with o e f (listed o1 token rest e1 f1 h b is p) quiet =
+      (rw (is, p) (taken_with (Allowed e.reader) (allowance e.reader) (shown_token (I.shown_line e.reader) rest token)
+      (shown_unasked (I.shown_line e.reader) rest token)),
+      rw (p, h) (tt, quiet.1))
+  fetching_with o e f (read x o1 reader e1 f1 h b r is p) quiet =
+      let there = reads x e.reader reader r quiet.1 in
+      (rw (is, p) (outcome_with (Allowed reader) (allowance reader) (I.shown_line reader) x there.0), rw (p, h) (tt, there.1))
 
-  taking_unasked : (o : Taken) (e f : Expander R) → Takes I e o f → IsQuiet e → IsTakenUnasked o × IsQuiet f
-  taking_unasked o e f t unasked =
-      let there = fetching_unasked t.first e f t.fetches unasked in
-      (rw t.paints (painted_unasked (masked_names f) t.first there.0), there.1)
+  taking_with : (o : Taken) (e f : Expander R) → Takes I e o f → IsQuiet e → IsTakenWith (Allowed f.reader) o × IsQuiet f
+  taking_with o e f t quiet =
+      let there = fetching_with t.first e f t.fetches quiet in
+      (rw t.paints (painted_with (Allowed f.reader) (allowance f.reader) (masked_names f) t.first there.0), there.1)
 
   gathering_unasked : (n : ℕ) (last : Place) (x : Result Gathered PlacedFault) (e f : Expander R) → Gathers I n last e x f → last.asks ≡ None
       → IsQuiet e → IsUnaskedIfFault x × IsQuiet f
-  gathering_unasked n last x e f (closed n1 l1 token e1 f1 x1 t h p) there unasked = (rw p tt, (taking_unasked _ e f t unasked).1)
-  gathering_unasked n last x e f (inside n1 k l1 token e1 g f1 rest x1 t h u p) there unasked =
-      let more = gathering_unasked k (place_of token) rest g f u refl (taking_unasked (taken.Token token) e g t unasked).1 in
+  gathering_unasked n last x e f (closed n1 l1 token e1 f1 x1 t h p) there quiet = (rw p tt, (taking_with _ e f t quiet).1)
+  gathering_unasked n last x e f (inside n1 k l1 token e1 g f1 rest x1 t h u p) there quiet =
+      let more = gathering_unasked k (place_of token) rest g f u refl (taking_with (taken.Token token) e g t quiet).1 in
       (rw p (before_unasked token rest more.0), more.1)
-  gathering_unasked n last x e f (overfull n1 l1 token e1 f1 x1 t h p) there unasked = (rw p refl, (taking_unasked _ e f t unasked).1)
-  gathering_unasked n last x e f (ended n1 l1 e1 f1 x1 t p) there unasked = (rw p there, (taking_unasked _ e f t unasked).1)
-  gathering_unasked n last x e f (failed n1 l1 fault e1 f1 x1 t p) there unasked = (rw p refl, (taking_unasked _ e f t unasked).1)
+  gathering_unasked n last x e f (overfull n1 l1 token e1 f1 x1 t h p) there quiet = (rw p refl, (taking_with _ e f t quiet).1)
+  gathering_unasked n last x e f (ended n1 l1 e1 f1 x1 t p) there quiet = (rw p there, (taking_with _ e f t quiet).1)
+  gathering_unasked n last x e f (failed n1 l1 fault e1 f1 x1 t p) there quiet = (rw p refl, (taking_with _ e f t quiet).1)
 
   module _ (A : Answers) (answers : AnswersUnasked A) where
-    call_unasked : (d : Definition) (c : Called) (e f : Expander R) → Calls I A d e c f → IsQuiet e → IsCalledUnasked c × IsQuiet f
-    call_unasked d c e f (alone x e1 f1 c1 t h p) unasked =
-        let taken = taking_unasked x e f t unasked in
+    call_with : (d : Definition) (c : Called) (e f : Expander R) → Calls I A d e c f → IsQuiet e → IsCalledWith (Allowed f.reader) c × IsQuiet f
+    call_with d c e f (alone x e1 f1 c1 t h p) quiet =
+        let taken = taking_with x e f t quiet in
         (rw p taken.0, taken.1)
-    call_unasked d c e f (broken x paren fault e1 g f1 c1 t h u p) unasked =
-        let more = gathering_unasked 0 paren (Err fault) g f u (paren_unasked x paren h) (taking_unasked x e g t unasked).1 in
+    call_with d c e f (broken x paren fault e1 g f1 c1 t h u p) quiet =
+        let more = gathering_unasked 0 paren (Err fault) g f u (paren_unasked x paren h) (taking_with x e g t quiet).1 in
         (rw p more.0, more.1)
-    call_unasked d c e f (whole x paren gathered answer e1 g f1 c1 t h u a p) unasked =
+    call_with d c e f (whole x paren gathered answer e1 g f1 c1 t h u a p) quiet =
         let there = paren_unasked x paren h in
-        let more = gathering_unasked 0 paren (Ok gathered) g f u there (taking_unasked x e g t unasked).1 in
-        (rw p (called_unasked gathered.closing.line answer (answers d (site_of I f paren gathered.tokens) answer there a)), more.1)
+        let more = gathering_unasked 0 paren (Ok gathered) g f u there (taking_with x e g t quiet).1 in
+        (rw p (called_with (Allowed f.reader) (allowance f.reader) gathered.closing.line answer
+        (answers d (site_of I f paren gathered.tokens) answer there a)),
+        more.1)
 
-    pub item_unasked : (o : Taken) (e f : Expander R) → Emits I A e o f → IsQuiet e → IsTakenUnasked o × IsQuiet f
-    item_unasked o e f (itself x o1 e1 f1 t h p) unasked =
-        let taken = taking_unasked x e f t unasked in
-        (rw p (found_unasked f.list x taken.0), taken.1)
-    item_unasked o e f (object x o1 m e1 g f1 t h k i) unasked =
-        item_unasked o (with_macro m m.token.location.line [] g) f i (taking_unasked x e g t unasked).1
-    item_unasked o e f (name_alone x y o1 m e1 g g1 f1 t h k c p q) unasked =
-        let taken = taking_unasked x e g t unasked in
-        let called = call_unasked m.definition (no_call y) g g1 c taken.1 in
-        (rw p taken.0, rw q (called.0, called.1.1))
-    item_unasked o e f (call_refused x o1 fault m e1 g f1 t h k c p) unasked =
-        let called = call_unasked m.definition (refused fault) g f c (taking_unasked x e g t unasked).1 in
-        (rw p (found_unasked f.list (taken.Fault fault) called.0), called.1)
-    item_unasked o e f (call x o1 arguments line m e1 g g1 f1 t h k c i) unasked =
-        let called = call_unasked m.definition (fits arguments line) g g1 c (taking_unasked x e g t unasked).1 in
-        item_unasked o (with_macro m line arguments g1) f i called.1
+    pub item_with : (o : Taken) (e f : Expander R) → Emits I A e o f → IsQuiet e → IsTakenWith (Allowed f.reader) o × IsQuiet f
+    item_with o e f (itself x o1 e1 f1 t h p) quiet =
+        let taken = taking_with x e f t quiet in
+        (rw p (found_with (Allowed f.reader) (allowance f.reader) f.list x taken.0), taken.1)
+    item_with o e f (object x o1 m e1 g f1 t h k i) quiet =
+        item_with o (with_macro m m.token.location.line [] g) f i (taking_with x e g t quiet).1
+    item_with o e f (name_alone x y o1 m e1 g g1 f1 t h k c p q) quiet =
+        let called = call_with m.definition (no_call y) g g1 c (taking_with x e g t quiet).1 in
+        (rw p (opening_with (Allowed f.reader) (allowance f.reader) I g x m h), rw q (called.0, called.1.1))
+    item_with o e f (call_refused x o1 fault m e1 g f1 t h k c p) quiet =
+        let called = call_with m.definition (refused fault) g f c (taking_with x e g t quiet).1 in
+        (rw p (found_with (Allowed f.reader) (allowance f.reader) f.list (taken.Fault fault) ((allowance f.reader).unasked fault called.0)), called.1)
+    item_with o e f (call x o1 arguments line m e1 g g1 f1 t h k c i) quiet =
+        let called = call_with m.definition (fits arguments line) g g1 c (taking_with x e g t quiet).1 in
+        item_with o (with_macro m line arguments g1) f i called.1
 
-    -- the items of a list ask for nothing, if readers and calls never ask
-    pub list_unasked : (x : Result (List Read) PlacedFault) (e : Expander R) → Collects I A e x → IsQuiet e → IsUnaskedIfFault x
-    list_unasked x e (done e1 f x1 i p) unasked = rw p tt
-    list_unasked x e (failing fault e1 f x1 i p) unasked = rw p (item_unasked (taken.Fault fault) e f i unasked).0
-    list_unasked x e (item token rest x1 e1 f i c p) unasked =
-        rw p (first_unasked token rest (list_unasked rest f c (item_unasked (taken.Token token) e f i unasked).1))
+module _ {R : Type 0} (I : Reading R) (Quiet : R → Type 0) (reads : ReadsUnasked I Quiet) (A : Answers) (answers : AnswersUnasked A) where
+  -- what is given asks for nothing, if readers and calls never ask
+  pub item_unasked : (o : Taken) (e f : Expander R) → Emits I A e o f → HoldsUnasked e × Quiet e.reader
+      → IsTakenUnasked o × (HoldsUnasked f × Quiet f.reader)
+  item_unasked = item_with I Quiet (λ r. AsksNothing) (λ r. only_unasked) reads A answers
+
+  -- nor do the items of a list
+  pub list_unasked : (x : Result (List Read) PlacedFault) (e : Expander R) → Collects I A e x → HoldsUnasked e × Quiet e.reader → IsUnaskedIfFault x
+  list_unasked x e (done e1 f x1 i p) quiet = rw p tt
+  list_unasked x e (failing fault e1 f x1 i p) quiet = rw p (item_unasked (taken.Fault fault) e f i quiet).0
+  list_unasked x e (item token rest x1 e1 f i c p) quiet =
+      rw p (first_unasked token rest (list_unasked rest f c (item_unasked (taken.Token token) e f i quiet).1))
 
 -- a list of tokens gives tokens and its end
 listed_unasked : ReadsUnasked argument_reading (λ listed. ⊤)
