@@ -13,6 +13,7 @@ pub mod PlainFrontsLemmas
 pub mod SpacesLemmas
 pub mod StraightLemmas
 pub mod NewlinesLemmas
+pub mod LanesLemmas
 pub mod PlainCommentsLemmas
 pub mod PlainPhasesLemmas
 pub mod PositionsLemmas

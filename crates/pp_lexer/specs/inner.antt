@@ -12,3 +12,4 @@ pub mod Scan
 pub mod Passing
 pub mod PlainWords
 pub mod Positions
+pub mod Lanes

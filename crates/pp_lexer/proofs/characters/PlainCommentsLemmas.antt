@@ -1,9 +1,11 @@
 -- Comments at the front of a plain text.
-use Rattle.std.proofs.Common.{◌≡◌, ℕ, ◌+◌, ◌<◌, ◌≤◌, List, [], ◌∷◌, length, take, drop, get_or, Bool, true, false, ◌&&◌, ◌==◌, length-drop, add-one, add-zero, refl, sym, ◌∙◌, ap, subst, arith, Some, Option}
+use Rattle.std.proofs.Common.{◌≡◌, ℕ, zero, suc, ◌+◌, ◌-◌, ◌<◌, ◌≤◌, List, [], ◌∷◌, length, take, drop, get_or, Bool, true, false, ◌&&◌, ◌==◌, length-drop, add-one, add-zero, refl, sym, ◌∙◌, ap, subst, arith, Some, Option}
 use Rattle.std.proofs.Math.Bool.{and-false}
+use Rattle.std.proofs.lemmas.Bool.{and_parts}
 use Rattle.std.specs.List.{list_all}
 use Rattle.std.specs.Str.{chars, IsUtf8, IsCharBoundary}
-use Rattle.std.proofs.lemmas.List.{drop-drop}
+use Rattle.std.proofs.lemmas.List.{drop-drop, get_or-drop as get_or_after}
+use Rattle.std.proofs.lemmas.List.Folds.{list_all_more}
 use Rattle.std.proofs.lemmas.Str.{IsCharBoundary-from_drop, IsUtf8-drop, chars-nil}
 use Rattle.std.proofs.Math.Seq.{drop-cons}
 use Rattle.pp_lexer.specs.Comments.{is_slash, is_star, line_length, replaced}
@@ -11,7 +13,7 @@ use Rattle.pp_lexer.specs.Continuations.{continued}
 use Rattle.pp_lexer.specs.Cursor.{Placed, Cursor, first_of, after_of, passed}
 use Rattle.pp_lexer.specs.Lines.{is_line_break, pieces}
 use Rattle.pp_lexer.specs.Reading.{spots}
-use Rattle.pp_lexer.specs.inner.Fronts.{spots_from, left, goes_on, is_straight}
+use Rattle.pp_lexer.specs.inner.Fronts.{spots_from, left, goes_on, is_straight, is_quiet}
 use Rattle.pp_lexer.specs.inner.PlainWords.{IsPlainComment}
 use Rattle.pp_lexer.specs.inner.Readers.{placed_from, joined, uncommented, past_line, past_block}
 use Rattle.pp_lexer.proofs.characters.CommentsLemmas.{past_block_after, block_goes_on, line_comment_step, block_comment_step}
@@ -20,6 +22,13 @@ use Rattle.pp_lexer.proofs.characters.FrontsLemmas.{ascii_chars, utf8_after}
 use Rattle.pp_lexer.proofs.characters.NewlinesLemmas.{pieces_newline}
 use Rattle.pp_lexer.proofs.characters.PlainFrontsLemmas.{get_or-drop}
 use Rattle.pp_lexer.proofs.characters.StraightLemmas.{Straight, straight_parts, reader, joined_first, line_passed, cut_before_line_end}
+
+pub record Quiet (c : ℕ) : Type 0 where
+  pub straight : is_straight c ≡ true
+  pub no_star : (c == 42) ≡ false
+
+quiet_parts : (c : ℕ) → is_quiet c ≡ true → Quiet c
+quiet_parts c h = grind arith
 
 -- the text does not go on with a carriage return, and its first character is ASCII
 abbrev pub NoReturn : List ℕ → Type 0
@@ -123,6 +132,22 @@ module _ (body : List ℕ) (i newlines : ℕ) (star : Bool) (s : IsBlockSoFar bo
             ∙ ap (past_block_after star) (sym (joined_feed (line + newlines) (at + i) rest u h))
             ∙ ap (λ c. past_block_after star (joined (left (line + newlines) (at + i) (c ∷ rest)))) (sym feed) ∙ here small no_return line at;
       }
+
+-- characters other than a star and a newline leave it so
+pub block_quiet : (body : List ℕ) (i newlines n : ℕ) → IsBlockSoFar body i newlines false → i + n ≤ length body
+    → list_all is_quiet (take n (drop i body)) ≡ true → IsBlockSoFar body (i + n) newlines false
+block_quiet body i newlines zero s le h = subst (λ k. IsBlockSoFar body k newlines false) (sym (add-zero i)) s
+block_quiet body i newlines (suc n) s le h =
+    let rest = drop i body in
+    let size : length rest ≡ length body - i = length-drop i body in
+    let parts = and_parts _ _ (sym (list_all_more is_quiet rest n 0 (omega (arith, size))) ∙ ap (λ k. list_all is_quiet (take k rest)) (add-one n) ∙ h) in
+    let before : IsBlockSoFar body (i + n) newlines false = block_quiet body i newlines n s (omega arith) parts.0 in
+    let c = get_or body (i + n) 0 in
+    let there : get_or rest n 0 ≡ c = get_or_after i body n 0 in
+    let q : Quiet c = quiet_parts c (ap is_quiet (sym there) ∙ parts.1) in
+    let more : IsBlockSoFar body (i + n + 1) newlines (c == 42) = block_more body (i + n) newlines false before (omega arith) refl q.straight in
+    let place : i + n + 1 ≡ i + suc n = omega arith in
+    subst (λ k. IsBlockSoFar body k newlines false) place (subst (IsBlockSoFar body (i + n + 1) newlines) q.no_star more)
 
 passed_one : (p : Placed) (ps : List Placed) (offset total : ℕ) → passed 1 (reader (p ∷ ps) offset total) ≡ reader ps p.end total
 passed_one p [] offset total = refl

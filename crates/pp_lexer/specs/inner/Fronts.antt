@@ -40,6 +40,10 @@ is_straight b = nat_lt b 128 && goes_on b
 abbrev pub is_starless : ℕ → Bool
 is_starless b = not (b == 10) && (not (b == 13) && (not (b == 92) && not (b == 42)))
 
+-- an ASCII character that a block comment goes on with, whatever comes next, other than a newline
+abbrev pub is_quiet : ℕ → Bool
+is_quiet b = nat_lt b 128 && is_starless b
+
 -- characters of one line, one byte each
 abbrev pub run : ℕ → ℕ → List ℕ → List Spot
 run line at [] = []

@@ -12,6 +12,7 @@ use number::plain_number;
 use punctuation::plain_punctuation;
 
 mod comment;
+mod lanes;
 mod number;
 mod punctuation;
 

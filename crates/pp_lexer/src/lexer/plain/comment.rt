@@ -7,6 +7,7 @@ ghost use Rattle.pp_lexer.specs.Lines.{is_line_break};
 ghost use Rattle.pp_lexer.specs.inner.Fronts.{goes_on, is_straight, is_starless};
 ghost use Rattle.pp_lexer.specs.inner.PlainWords.{IsPlainComment};
 
+use crate::lexer::plain::lanes::quiet_length;
 use memchr::memchr3;
 
 /// A comment at the front of a text: how many bytes it takes, and how many newlines are among them.
@@ -117,21 +118,27 @@ fn block_comment(bytes: &[u8]) -> Option<Comment>
     ensures { MatchOption result ⊤ (IsPlainComment bytes.now) }
 {
     let body = &bytes[2..];
+    let mut at: usize = 0;
     let mut newlines: usize = 0;
     let mut was_star = false;
-    for (i, byte) in body.iter().enumerate() {
-        if was_star && *byte == 47 {
+    'characters: while at < body.len() {
+        let byte = body[at];
+        if was_star && byte == 47 {
             return Some(Comment {
-                taken: i + 3,
+                taken: at + 3,
                 newlines,
             });
         }
-        if *byte == 10 {
+        if byte == 10 {
             newlines += 1;
-        } else if !is_straight(*byte) {
+        } else if !is_straight(byte) {
             return None;
         }
-        was_star = *byte == 42;
+        was_star = byte == 42;
+        at += 1;
+        if !was_star {
+            at += quiet_length(&body[at..]);
+        }
     }
     None
 }
