@@ -308,7 +308,8 @@ asked_at_line level rules source line e f reached given =
     A : Answers
     A = answers_at level
 
-    by_item : (o : Taken) (e f : Expander SourceReader) → Emits (source_reading A) A e o f → IsReading e → IsTakenWith (AsksHere f.reader) o × IsReading f
+    by_item : (o : Taken) (e f : Expander SourceReader) → Emits (source_reading A) A e o f → IsReading e
+        → IsTakenWith (AsksHere f.reader) o × IsReading f
     by_item = item_with (source_reading A) ReadsTexts AsksHere asks_here (source_asks A) A (calls_unasked level)
 
     state : IsReading e
