@@ -2,8 +2,9 @@
 
 For each module of the library the page has a part between two marks, `<!-- MODULE: written by .ci/believed -->` and
 `<!-- MODULE: end -->`. `renewed` writes these parts: under a heading for each type, and for the functions of each source, the
-doc comments, signatures and clauses, word for word. A `clone` has one line. An impl that names a type of the repository that
-isn't public isn't there.
+doc comments, signatures and clauses, word for word. What the page says once isn't repeated: a `clone`, and a `try_new` that
+tests the condition of `new`, have one line, and a law that another module has is left to that one. An impl that names a type
+of the repository that isn't public isn't there.
 """
 import re
 import textwrap
@@ -14,6 +15,8 @@ PAGE, GUIDE = 'docs/REFERENCE.md', 'docs/GUIDE.md'
 CRATE = 'pp_rs'
 # the modules at which a user of `pp_rs` finds what is public, and the types with which a module begins
 MODULES, FIRST = ('pp', 'rules', 'token', 'lexer', 'laws', 'lexer::laws'), ('Preprocessor', 'Lexer', 'Token')
+# what the head of the page says of each `clone`
+SAID_OF_COPIES = ('Returns a copy.', 'The only error is `OutOfMemory`, as `out_of_memory` returns it.')
 # errors that no source gives: a row says why in place of an example
 WITHOUT_SOURCE = ('MacroNotDefined', 'OutOfMemory')
 
@@ -49,8 +52,11 @@ class Reference:
         self.types = {declared.name for declared in public.types}
         for declared in dict.fromkeys(public.types):
             self.declared(declared)
-        for promise in public.promises.values():
-            if not self.is_private(promise):
+        here = [promise for promise in public.promises.values() if not self.is_private(promise)]
+        self.paths = {promise.path for promise in here}
+        self.laws = {promise.path for promise in here if module_of(promise.source) == 'lexer::laws'}
+        for promise in here:
+            if module_of(promise.source) != 'laws' or promise.path not in self.laws:
                 self.promised(promise)
         self.errors = variants(tree)
 
@@ -86,12 +92,23 @@ class Reference:
             key = owner if owner in self.types or not named else named[-1]
             group = self.group(source, key, key)
         if path.endswith('::clone') and promise.signature:
-            said = ' '.join(comment(source, promise.signature[0])).replace('///', ' ')
-            group.copies.append(f'- `clone(&self, alloc)`: {" ".join(said.split())}')
+            said = sentences(source, promise)
+            for known in SAID_OF_COPIES:
+                said = said.replace(known, '').strip()
+            group.copies.append('- `clone(&self, alloc)`' + (f': {said}' if said else ''))
+        elif self.is_tested(promise):
+            group.copies.append(f'- `{path.split("::")[-1]}`: {plain(sentences(source, promise))}')
         elif path.endswith(' as Clone'):
             group.copies.append('- `clone(&self)`: Returns a copy at the same position. It takes no memory.')
         else:
             group.quotes.append(of_promise(promise))
+
+    def is_tested(self, promise):
+        """Whether it is a `try_new`, which returns what `new` does, or `None` if its condition doesn't hold."""
+        owner, _, name = promise.path.rpartition('::')
+        untested = f'{owner}::{name.removeprefix("try_")}'
+        signature = promise.source.text(promise.signature)
+        return name.startswith('try_') and '-> Option<' in signature and untested in self.paths
 
     def part(self, module):
         groups = self.groups[module]
@@ -148,6 +165,16 @@ def variants(tree):
 def comment(source, line):
     """The doc comment above a line."""
     return [source.lines[n] for n in comment_lines(source, line)]
+
+
+def sentences(source, promise):
+    """The doc comment of a call, as one line."""
+    return ' '.join(' '.join(comment(source, promise.signature[0])).replace('///', ' ').split())
+
+
+def plain(text):
+    """A line without the brackets of its links."""
+    return re.sub(r'\[(`[^`]+`)\](\([^)]*\))?', r'\1', text)
 
 
 def comment_lines(source, line):
