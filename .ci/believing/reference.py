@@ -3,8 +3,8 @@
 For each module of the library the page has a part between two marks, `<!-- MODULE: written by .ci/believed -->` and
 `<!-- MODULE: end -->`. `renewed` writes these parts: under a heading for each type, and for the functions of each source, the
 doc comments, signatures and clauses, word for word. What the page says once isn't repeated: a `clone`, and a `try_new` that
-tests the condition of `new`, have one line, and a law that another module has is left to that one. An impl that names a type
-of the repository that isn't public isn't there.
+tests the condition of `new`, have one line, a law that another module has is left to that one, and the errors are explained in
+docs/GUIDE.md. An impl that names a type of the repository that isn't public isn't there.
 """
 import re
 import textwrap
@@ -17,6 +17,8 @@ CRATE = 'pp_rs'
 MODULES, FIRST = ('pp', 'rules', 'token', 'lexer', 'laws', 'lexer::laws'), ('Preprocessor', 'Lexer', 'Token')
 # what the head of the page says of each `clone`
 SAID_OF_COPIES = ('Returns a copy.', 'The only error is `OutOfMemory`, as `out_of_memory` returns it.')
+# the type whose variants docs/GUIDE.md explains, and how the page says so
+ERRORS, EXPLAINED = 'PreprocessorError', '- [GUIDE.md](GUIDE.md#errors) has the cause, the place and an example of each error.'
 # errors that no source gives: a row says why in place of an example
 WITHOUT_SOURCE = ('MacroNotDefined', 'OutOfMemory')
 
@@ -79,6 +81,9 @@ class Reference:
         else:
             key = declared.name
             is_open = text.startswith('pub enum') or any(re.match(r'    pub ', source.lines[n]) for n in lines)
+            if declared.name == ERRORS:
+                lines = [n for n in lines if not source.lines[n].strip().startswith('///')]
+                self.group(source, key, ERRORS).copies.append(EXPLAINED)
             quote = with_comment(source, lines if is_open else lines[:1]).removesuffix(' {')
         self.group(source, key, declared.name).quotes.append(quote)
 
