@@ -17,6 +17,8 @@ CRATE = 'pp_rs'
 MODULES, FIRST = ('pp', 'rules', 'token', 'lexer', 'laws', 'lexer::laws'), ('Preprocessor', 'Lexer', 'Token')
 # what the head of the page says of each `clone`
 SAID_OF_COPIES = ('Returns a copy.', 'The only error is `OutOfMemory`, as `out_of_memory` returns it.')
+# what docs/DIFFERENCES.md says of all that is new
+SAID_OF_NEW = re.compile(r'( |\n/// )'.join(['', 'pp-rs', r'0\.2\.1', 'has', 'no', 'such', r'(function|iterator)\.']))
 # the type whose variants docs/GUIDE.md explains, and how the page says so
 ERRORS, EXPLAINED = 'PreprocessorError', '- [GUIDE.md](GUIDE.md#errors) has the cause, the place and an example of each error.'
 # errors that no source gives: a row says why in place of an example
@@ -192,7 +194,7 @@ def comment_lines(source, line):
 def with_comment(source, lines):
     """Some lines with the doc comment above them, without the indentation that all have, and without what begins a body."""
     numbers = [*comment_lines(source, lines[0]), *lines]
-    text = textwrap.dedent('\n'.join(source.lines[n] for n in numbers)).rstrip()
+    text = SAID_OF_NEW.sub('', textwrap.dedent('\n'.join(source.lines[n] for n in numbers)).rstrip())
     return text if text.endswith('}') and '{\n' in text else re.sub(r' \{\}?$', '', text)
 
 
