@@ -1,13 +1,8 @@
 -- The lines of blocks before one of them, from the items before it.
 use Rattle.std.proofs.Common.{◌≡◌, ◌∙◌, ℕ, zero, suc, ◌+◌, ◌≤◌, Bool, true, false, List, [], ◌∷◌, ◌++◌, length, take, refl, ap, sym, subst, Option, Some, None, arith}
-use Rattle.std.specs.Prelude.{Ok, Err}
 use Rattle.std.proofs.lemmas.List.{take-take}
 use Rattle.std.specs.List.{AllByRecursion as Each, cons_option}
 use Rattle.pp_lexer.specs.Lexed.{Seen}
-use Rattle.pp_lexer.specs.Items.{Lexeme}
-use Rattle.pp_lexer.specs.declared.lexer.item.Token.{Token as LexerToken}
-use Rattle.pp_lexer.specs.declared.lexer.item.TokenValue.{TokenValue as LexerTokenValue}
-use Rattle.pp_lexer.specs.declared.lexer.item.TokenValue.TheVariants.{Hash, NewLine}
 use Rattle.pp_model.specs.Sights.{sight_of, is_directive_hash}
 use Rattle.pp_model.specs.Blocks.{line_at, block_lines, Block, open_blocks, blocks_at}
 use Rattle.pp_model.specs.declared.block.BlockLine.{BlockLine}
@@ -15,32 +10,9 @@ use Rattle.pp_model.specs.declared.sight.Sight.{Sight}
 use Rattle.pp_model.specs.declared.sight.Sight.TheVariants as sight
 use Rattle.pp_macros.proofs.work.QuietLemmas.{quiet_item}
 use Rattle.pp_macros.proofs.work.DirectiveLineLemmas.{begins_directive}
+use Rattle.pp_model.proofs.including.BlockLinesLemmas.{alone, same_sight}
 use Rattle.pp_rs.proofs.blocks.BlockPositionLemmas.{StandsWithin, line_stands, each_after, block_lines_within, last_lies_before}
 use Rattle.pp_rs.proofs.blocks.SurroundingsLemmas.{none_within, open_at}
-
-alone_value : (position : ℕ) (token : LexerToken) (value : LexerTokenValue) (at_start comments : Bool)
-    → block_lines position (record { item = Ok (record token { value = value; start_of_line = at_start }); had_comments = comments } ∷ []) ≡ []
-alone_value position token Hash true comments = refl
-alone_value position token Hash false comments = refl
-alone_value position token NewLine at_start comments = refl
-alone_value position token _ at_start comments = refl
-
-alone_lexeme : (position : ℕ) (item : Lexeme) (comments : Bool) → block_lines position (record { item = item; had_comments = comments } ∷ []) ≡ []
-alone_lexeme position (Ok token) comments = alone_value position token token.value token.start_of_line comments
-alone_lexeme position (Err fault) comments = refl
-
--- an item alone is no line of a block
-pub alone : (position : ℕ) (s : Seen) → block_lines position (s ∷ []) ≡ []
-alone position s = alone_lexeme position s.item s.had_comments
-
-same_lexeme : (item : Lexeme) (comments : Bool) (next : Seen) (later other : List Seen)
-    → sight_of (record { item = item; had_comments = comments } ∷ next ∷ later) ≡ sight_of (record { item = item; had_comments = comments } ∷ next ∷ other)
-same_lexeme (Ok token) comments next later other = refl
-same_lexeme (Err fault) comments next later other = refl
-
--- what stands in front is known by two items
-pub same_sight : (s next : Seen) (later other : List Seen) → sight_of (s ∷ next ∷ later) ≡ sight_of (s ∷ next ∷ other)
-same_sight s next later other = same_lexeme s.item s.had_comments next later other
 
 -- where the line of a block stands in front, the next item begins none
 word_quiet : (position : ℕ) (s next : Seen) (later : List Seen) (line : BlockLine) (shown : Sight) → sight_of (s ∷ next ∷ later) ≡ shown

@@ -1,40 +1,11 @@
 -- The lines of blocks among some items, and among fewer of them.
-use Rattle.std.proofs.Common.{◌≡◌, ◌∙◌, ◌⊎◌, inl, inr, ℕ, zero, suc, ◌+◌, ◌≤◌, List, [], ◌∷◌, ◌++◌, take, refl, ap, sym, append-nil, append_assoc, Option, Some, None}
+use Rattle.std.proofs.Common.{◌≡◌, ◌∙◌, ◌⊎◌, inl, inr, ℕ, ◌≤◌, List, [], ◌∷◌, ◌++◌, take, refl, ap, sym, append-nil, append_assoc, Option, Some, None}
 use Rattle.std.specs.List.{cons_option}
 use Rattle.std.proofs.lemmas.List.{take-take, append_cancel_left}
 use Rattle.pp_lexer.specs.Lexed.{Seen}
-use Rattle.pp_model.specs.Sights.{sight_of}
-use Rattle.pp_model.specs.Blocks.{line_at, block_lines, open_blocks, blocks_at}
+use Rattle.pp_model.specs.Blocks.{block_lines, open_blocks, blocks_at}
 use Rattle.pp_model.specs.declared.block.BlockLine.{BlockLine}
-use Rattle.pp_rs.proofs.blocks.CutLinesLemmas.{alone, same_sight}
-
--- these lines are the first of those
-pub record ComeFirst (lines all : List BlockLine) : Type 0 where
-  pub others : List BlockLine
-  pub split : all ≡ lines ++ others
-
-cons_more : (found : Option BlockLine) (lines others : List BlockLine) → cons_option found (lines ++ others) ≡ cons_option found lines ++ others
-cons_more (Some line) lines others = refl
-cons_more None lines others = refl
-
--- the lines among the first of the items are the first lines
-pub lines_first : (n position : ℕ) (items : List Seen) → ComeFirst (block_lines position (take n items)) (block_lines position items)
-lines_first zero position items = record { others = block_lines position items; split = refl }
-lines_first (suc n) position [] = record { others = []; split = refl }
-lines_first (suc zero) position (s ∷ rest) = record {
-  others = block_lines position (s ∷ rest);
-  split = ap (λ lines. lines ++ block_lines position (s ∷ rest)) (sym (alone position s));
-}
-lines_first (suc (suc n)) position (s ∷ []) = record { others = []; split = sym (append-nil (block_lines position (s ∷ []))) }
-lines_first (suc (suc n)) position (s ∷ next ∷ later) =
-    let more = lines_first (suc n) (position + 1) (next ∷ later) in
-    record {
-      others = more.others;
-      split = ap (λ lines. cons_option (line_at position (sight_of (s ∷ next ∷ later))) lines) more.split
-          ∙ cons_more (line_at position (sight_of (s ∷ next ∷ later))) (block_lines (position + 1) (next ∷ take n later)) more.others
-          ∙ ap (λ shown. cons_option (line_at position shown) (block_lines (position + 1) (next ∷ take n later)) ++ more.others)
-          (same_sight s next later (take n later));
-    }
+use Rattle.pp_model.proofs.including.BlockLinesLemmas.{ComeFirst, lines_first}
 
 -- at most one line is cut in no two
 not_cut : (found : Option BlockLine) (first second : List BlockLine) → cons_option found [] ≡ first ++ second → (first ≡ []) ⊎ (second ≡ [])
