@@ -324,6 +324,248 @@ static void check_most(void) {
     check("items of a source without end", call_by(bomb, MOST, 4 * MOST) == PP_PARTIAL && count_outer() == 50);
 }
 
+/* A tree of texts for #include lines, each named by its last word, as a front end has it. */
+typedef struct {
+    const char *name, *text;
+} named;
+
+static const named tree[] = {
+    {"a", "x\n#include \"b\"\ny"},          {"b", "#define B 7\nz"}, {"open", "#if 1\np"}, {"itself", "#include \"itself\"\n"},
+    {"cut", "q\xc3\xa9"},                   {"deep1", "1\n#include \"deep2\"\n1"}, {"deep2", "2\n#include \"deep3\"\n2 D"},
+    {"deep3", "#define D 3 __LINE__\nD"},
+};
+
+#define MOST_TEXTS 256
+#define ROOM 4096
+static struct {
+    char words[16384];
+    size_t words_length;
+    pp_definition entries[MOST_TEXTS];
+    size_t count;
+    pp_item items[ROOM + 1];
+    uint8_t texts[ROOM + 1];
+    uint32_t numbers[ROOM + 1];
+    pp_sizes sizes;
+    uint64_t lines;
+    size_t numbers_room;
+    pp_options options;
+} in;
+
+static void begin_including(void) {
+    memset(&in, 0, sizeof in);
+    in.options.size = sizeof in.options;
+    in.options.rules = PP_RULES_CORE;
+    in.options.version = 450;
+    in.numbers_room = ROOM;
+}
+
+static uint32_t include_over(const char *text, size_t items_room, size_t texts_room) {
+    memset(in.items, GUARD, sizeof in.items);
+    memset(in.texts, GUARD, sizeof in.texts);
+    memset(in.numbers, GUARD, sizeof in.numbers);
+    return pp_preprocess_including(&in.options, in.lines, (const uint8_t *)text, strlen(text), (const uint8_t *)in.words,
+                                   in.words_length, in.entries, in.count, in.items, items_room, in.texts, texts_room,
+                                   in.numbers, in.numbers_room, &in.sizes);
+}
+
+static void put(uint64_t name_start, const char *content, uint64_t after) {
+    pp_definition *entry = &in.entries[in.count++];
+    memset(entry, 0, sizeof *entry);
+    entry->name_start = name_start;
+    entry->content_start = in.words_length;
+    entry->content_length = strlen(content);
+    entry->after = after;
+    entry->error = GUARD;
+    memcpy(in.words + in.words_length, content, strlen(content));
+    in.words_length += strlen(content);
+}
+
+static uint64_t outer_items(void) {
+    uint64_t count = 0;
+    for (uint64_t at = 0; at < in.sizes.items; at += 1 + in.items[at].children) count++;
+    return count;
+}
+
+/* Answers the line that asks by the text that has its name, if one has. */
+static void answer_line(const char *text) {
+    const pp_item *line = &in.items[in.sizes.items - 1];
+    uint32_t number = in.numbers[in.sizes.items - 1];
+    const char *whole = number ? in.words + in.entries[number - 1].content_start : text;
+    for (size_t n = 0; n < sizeof tree / sizeof *tree; n++) {
+        size_t length = strlen(tree[n].name);
+        if (line->end - line->start == length + 3 && memcmp(whole + line->start + 2, tree[n].name, length) == 0)
+            put(PP_TEXT, tree[n].text, outer_items());
+    }
+    in.lines++;
+}
+
+/* Reads a source with all that it includes. */
+static uint32_t include_all(const char *text) {
+    uint32_t status;
+    begin_including();
+    while ((status = include_over(text, ROOM, ROOM)) == PP_INCLUDE) answer_line(text);
+    return status;
+}
+
+/* The items that no other holds, as text: a number or a name, or the number of an error; and each text's number. */
+static bool gives(const char *wanted) {
+    static char found[8192];
+    size_t length = 0;
+    for (uint64_t at = 0; at < in.sizes.items; at += 1 + in.items[at].children) {
+        const pp_item *it = &in.items[at];
+        if (it->kind == PP_ERROR) length += (size_t)sprintf(found + length, "!%u", it->error);
+        else if (it->kind == PP_INTEGER) length += (size_t)sprintf(found + length, "%u", (unsigned)it->value);
+        else length += (size_t)sprintf(found + length, "%.*s", (int)it->text_length, (const char *)in.texts + it->value);
+        length += (size_t)sprintf(found + length, ":%u ", (unsigned)in.numbers[at]);
+        for (uint64_t held = at + 1; held <= at + it->children; held++)
+            if (in.numbers[held] != in.numbers[at]) return false;
+    }
+    if (length) found[length - 1] = 0;
+    else found[0] = 0;
+    if (strcmp(found, wanted) == 0) return true;
+    fprintf(stderr, "found %s, wanted %s\n", found, wanted);
+    return false;
+}
+
+static void check_including(void) {
+    const char *two = "#include \"a\"\nB __LINE__";
+    begin_including();
+    bool asks = include_over(two, ROOM, ROOM) == PP_INCLUDE && in.sizes.items == 3 && in.sizes.texts == 0;
+    const pp_item *error = in.items, *place = error + 1, *line = error + 2;
+    asks &= error->kind == PP_ERROR && error->error == PP_UNKNOWN_DIRECTIVE && error->children == 2 && error->start == 1;
+    asks &= place->kind == PP_PLACE && place->start == 1 && place->end == 8 && place->line == 1 && place->children == 0;
+    asks &= line->kind == PP_INCLUDE_LINE && line->start == 8 && line->end == 12 && line->line == 1 && line->children == 0;
+    check("an #include line asks", asks && in.numbers[0] == 0 && in.numbers[2] == 0);
+    answer_line(two);
+    asks = include_over(two, ROOM, ROOM) == PP_INCLUDE && gives("!12:0 x:1 !12:1") && in.entries[0].error == 0;
+    line = in.items + in.sizes.items - 1;
+    check("so does one in a text", asks && line->kind == PP_INCLUDE_LINE && line->start == 10 && line->end == 14 && line->line == 2);
+    check("texts within texts", include_all(two) == PP_DONE && gives("!12:0 x:1 !12:1 z:2 y:1 7:2 2:0"));
+    check("texts three deep", include_all("#include \"deep1\"\nD") == PP_DONE &&
+          gives("!12:0 1:1 !12:1 2:2 !12:2 3:3 2:3 2:2 3:3 3:3 1:1 3:3 2:3"));
+    begin_including();
+    in.lines = UINT64_MAX;
+    check("all lines are passed", include_over(two, ROOM, ROOM) == PP_DONE && gives("!12:0 B:0 2:0") && in.items[0].children == 2);
+    in.options.most_items = 1;
+    check("fewer items than the line is at", include_over(two, ROOM, ROOM) == PP_PARTIAL && in.sizes.items == 3);
+    in.lines = 0;
+    check("a line that is the last item asks", include_over(two, ROOM, ROOM) == PP_INCLUDE);
+    in.options.most_items = 3;
+    check("an #include line that isn't found", include_all("#include \"no\"\nb") == PP_DONE && gives("!12:0 b:0"));
+    check("a block of a text is its own", include_all("#include \"open\"\n#else\nb") == PP_DONE && gives("!12:0 p:1 !19:1 !15:0 b:0"));
+    check("a dead #include asks for nothing", include_all("#if 0\n#include \"a\"\n#endif\nb") == PP_DONE && gives("b:0"));
+    bool asks_not = include_all("#define F(x) x\nF(\n#include \"b\"\n) c") == PP_DONE && in.count == 0;
+    check("nor does one in a call", asks_not && in.items[0].error == PP_UNKNOWN_DIRECTIVE && in.items[0].children == 1);
+    check("a text that includes itself", include_all("#include \"itself\"\nb") == PP_TOO_DEEP && in.count == 201);
+    in.count--;
+    check("it is the error, and reading goes on", include_over("#include \"itself\"\nb", ROOM, ROOM) == PP_DONE &&
+          outer_items() == 202 && in.items[in.sizes.items - 1].kind == PP_IDENT);
+}
+
+/* Each answer once more, with texts. */
+static void check_including_refused(void) {
+    const char *two = "#include \"a\"\nB __LINE__";
+    include_all(two);
+    pp_sizes needed = in.sizes;
+    bool small = include_over(two, needed.items - 1, needed.texts) == PP_TOO_SMALL && in.sizes.items == needed.items;
+    small &= include_over(two, needed.items, needed.texts - 1) == PP_TOO_SMALL && in.sizes.texts == needed.texts;
+    small &= include_over(two, needed.items, needed.texts) == PP_DONE;
+    bool kept = true;
+    for (const uint8_t *at = (const uint8_t *)(in.items + needed.items); at < (const uint8_t *)(in.items + ROOM + 1); at++) kept &= *at == GUARD;
+    for (size_t at = needed.texts; at <= ROOM; at++) kept &= in.texts[at] == GUARD;
+    for (size_t at = needed.items; at <= ROOM; at++) kept &= in.numbers[at] == 0x01010101u * GUARD;
+    check("texts need room too", small && kept);
+    in.numbers_room = 2;
+    check("numbers without room aren't written", include_over(two, ROOM, ROOM) == PP_DONE && in.numbers[1] == 0 && in.numbers[2] == 0x01010101u * GUARD);
+    in.options.rules = 4;
+    check("texts by no rules", include_over(two, ROOM, ROOM) == PP_BAD_OPTIONS);
+    in.options.rules = PP_RULES_ES;
+    in.options.budget = 5;
+    check("texts over a budget", include_over(two, ROOM, ROOM) == PP_OVER_BUDGET);
+    begin_including();
+    put(PP_TEXT, "b", 1);
+    in.lines = 1;
+    in.entries[0].content_length = 2;
+    check("a text beyond the words", include_over(two, ROOM, ROOM) == PP_BAD_DEFINITION);
+    in.entries[0].content_length = UINT64_MAX;
+    check("a text whose end has no number", include_over(two, ROOM, ROOM) == PP_BAD_DEFINITION);
+    begin_including();
+    put(PP_TEXT, "q\xc3\xa9", 1);
+    in.lines = 1;
+    in.entries[0].content_length = 2;
+    check("a text that cuts a character", include_over(two, ROOM, ROOM) == PP_BAD_DEFINITION);
+    in.entries[0].content_length = 3;
+    check("a text with it", include_over(two, ROOM, ROOM) == PP_DONE && in.entries[0].error == 0);
+    in.entries[0].name_start = 0;
+    in.entries[0].name_length = 1;
+    check("a definition among texts", include_over("q", ROOM, ROOM) == PP_DONE && in.entries[0].error == 0);
+    in.words_length = 2;
+    check("texts that are no UTF-8", include_over(two, ROOM, ROOM) == PP_NOT_UTF8);
+    plain_options();
+    define(0, PP_TEXT, 1, 2, 0);
+    check("a call that takes no texts", call_by(source, MOST, 4 * MOST) == PP_BAD_DEFINITION);
+    check("nor does one without options", call(MOST, 4 * MOST) == PP_BAD_DEFINITION);
+    size_t most = UINT32_MAX;
+    uint8_t *long_words = (uint8_t *)mmap(NULL, most, PROT_READ, MAP_PRIVATE | MAP_ANONYMOUS | MAP_NORESERVE, -1, 0);
+    if (long_words != MAP_FAILED) {
+        pp_definition text = {.name_start = PP_TEXT, .content_length = most, .after = 1};
+        begin_including();
+        check("a text that is too long", pp_preprocess_including(&in.options, 1, (const uint8_t *)two, strlen(two), long_words, most,
+              &text, 1, in.items, ROOM, in.texts, ROOM, in.numbers, ROOM, &in.sizes) == PP_TOO_LONG);
+        munmap(long_words, most);
+    }
+    /* Each allocation fails in turn, over texts within texts. */
+    include_all("#include \"deep1\"\nD");
+    needed = in.sizes;
+    bool answered = true;
+    uint64_t number = 0;
+    do {
+        asked = 0;
+        failing = ++number;
+        uint32_t status = include_over("#include \"deep1\"\nD", ROOM, ROOM);
+        answered &= status == PP_OUT_OF_MEMORY || (status == PP_DONE && in.sizes.items == needed.items);
+    } while (asked >= failing && number < 10000);
+    failing = 0;
+    check("an allocation that fails in texts is answered", answered && number > 10 && number < 10000);
+}
+
+/* A null pointer where the length is 0, alone and beside the others. */
+static void check_nulls(void) {
+    bool same = true, lexed = true, included = true;
+    begin_including();
+    for (unsigned nulls = 0; nulls < 64; nulls++) {
+        const uint8_t *text = nulls & 1 ? NULL : (const uint8_t *)"";
+        const uint8_t *some_words = nulls & 2 ? NULL : (const uint8_t *)"";
+        pp_definition *none = nulls & 4 ? NULL : definitions;
+        pp_item *no_items = nulls & 8 ? NULL : items;
+        uint8_t *no_texts = nulls & 16 ? NULL : texts;
+        uint32_t *no_numbers = nulls & 32 ? NULL : in.numbers;
+        plain_options();
+        same &= pp_preprocess(text, 0, some_words, 0, none, 0, no_items, 0, no_texts, 0, &sizes) == PP_DONE && sizes.items == 0;
+        same &= pp_preprocess_with(&options, text, 0, some_words, 0, none, 0, no_items, 0, no_texts, 0, &sizes) == PP_DONE;
+        same &= pp_preprocess((const uint8_t *)"a b", 3, some_words, 0, none, 0, no_items, 0, no_texts, 0, &sizes) == PP_TOO_SMALL &&
+                sizes.items == 2 && sizes.texts == 2;
+        same &= pp_preprocess((const uint8_t *)"#if 0", 5, some_words, 0, none, 0, items, MOST, no_texts, 0, &sizes) == PP_DONE &&
+                sizes.items == 2 && items[0].error == PP_UNFINISHED_BLOCK;
+        included &= pp_preprocess_including(&in.options, 0, text, 0, some_words, 0, none, 0, no_items, 0, no_texts, 0, no_numbers, 0,
+                                            &sizes) == PP_DONE && sizes.items == 0;
+        included &= pp_preprocess_including(&in.options, 0, (const uint8_t *)"#include", 8, some_words, 0, none, 0, items, MOST,
+                                            no_texts, 0, no_numbers, 0, &sizes) == PP_INCLUDE && sizes.items == 3;
+        lexed &= pp_lex(text, 0, no_items, 0, no_texts, 0, &sizes) == PP_DONE && sizes.items == 0;
+        lexed &= pp_lex((const uint8_t *)"a", 1, no_items, 0, no_texts, 0, &sizes) == PP_TOO_SMALL && sizes.items == 1;
+        pp_position it = {0, 0};
+        lexed &= pp_line_column(text, 0, nulls, &it) == PP_DONE && it.line == 1 && it.column == 1;
+    }
+    check("null pointers of length 0", same);
+    check("the same with texts", included);
+    check("the same to the lexer", lexed);
+    /* An empty text, of words that are null. */
+    begin_including();
+    put(PP_TEXT, "", 1);
+    check("an empty text of no words", pp_preprocess_including(&in.options, 1, (const uint8_t *)"#include\nb", 10, NULL, 0, in.entries, 1,
+          in.items, ROOM, in.texts, ROOM, in.numbers, ROOM, &in.sizes) == PP_DONE && gives("!12:0 b:0"));
+}
+
 /* A source with lines of each kind: the position of each byte and beyond. */
 static void check_positions(void) {
     static const char lines[] = "a\xc3\xa9\\\nb\r\nc\rd\n";
@@ -365,6 +607,9 @@ int main(int count, char **arguments) {
     check_rules();
     check_budget();
     check_most();
+    check_including();
+    check_including_refused();
+    check_nulls();
     check_positions();
     return 0;
 }

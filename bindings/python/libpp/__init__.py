@@ -16,7 +16,9 @@ import enum
 import itertools
 import os
 import struct
-from typing import Callable, Dict, Iterable, Iterator, List, Mapping, NamedTuple, Optional, Tuple, Type, Union
+from typing import (
+    Any, Callable, Dict, Iterable, Iterator, List, Mapping, NamedTuple, Optional, Sequence, Tuple, Type, Union
+)
 
 __all__ = [
     "Definition",
@@ -24,11 +26,13 @@ __all__ = [
     "ErrorKind",
     "Flag",
     "Glsl",
+    "IncludeLine",
     "Item",
     "Kind",
     "OverBudget",
     "Profile",
     "Token",
+    "TooDeep",
     "lex",
     "line_column",
     "preprocess",
@@ -155,16 +159,32 @@ class Token(NamedTuple):
     """The value of an integer."""
     tokens: Tuple[Token, ...] = ()
     """The tokens of a directive's line, unexpanded."""
+    source: int = 0
+    """In which text it is, of `stream` with texts to include: 0 for the source, then one number more for each definition and each
+    text, in the order in which they came."""
 
 
 class Error(Exception):
     """What is wrong with a source or a definition, and where. An iterator gives it, and goes on after it."""
 
-    def __init__(self, kind: ErrorKind, start: int, end: int, line: int, token: Optional[Token] = None) -> None:
-        super().__init__(kind, start, end, line, token)
+    def __init__(
+        self,
+        kind: ErrorKind,
+        start: int,
+        end: int,
+        line: int,
+        token: Optional[Token] = None,
+        source: int = 0,
+        rest: Optional[Tuple[int, ...]] = None,
+    ) -> None:
+        super().__init__(kind, start, end, line, token, source, rest)
         self.kind, self.start, self.end, self.line = kind, start, end, line
         self.token = token
         """The token that can't stand there, of an UNEXPECTED_TOKEN."""
+        self.source = source
+        """In which text it is, as of a `Token`."""
+        self.rest = rest
+        """What follows the word of an `#include` line that asks for its text: from where to where, and the line."""
 
     def __str__(self) -> str:
         token = f" `{self.token.text}`" if self.token else ""
@@ -200,8 +220,28 @@ class Glsl(NamedTuple):
     profile: Profile = Profile.CORE
 
 
+class IncludeLine(NamedTuple):
+    """An `#include` line that asks for its text."""
+
+    rest: str
+    """What follows the word up to the line's end, with blanks and comments: ` "lights.glsl"`."""
+    start: int
+    """Where that begins in its text, in bytes."""
+    end: int
+    line: int
+    source: int
+    """In which text the line is, as of a `Token`."""
+
+
+Includes = Callable[[IncludeLine], Union[str, bytes, None]]
+
+
 class OverBudget(Exception):
     """The items need more steps than the budget has."""
+
+
+class TooDeep(Exception):
+    """A text was to be included inside of 200 others."""
 
 
 def preprocess(
@@ -223,17 +263,52 @@ def preprocess(
 
 
 def stream(
-    source: Union[str, bytes], definitions: Definitions = (), rules: Optional[Glsl] = None, budget: int = 0
+    source: Union[str, bytes],
+    definitions: Definitions = (),
+    rules: Optional[Glsl] = None,
+    budget: int = 0,
+    includes: Optional[Includes] = None,
 ) -> Iterator[Item]:
     """The same items, made as they are read: some at a time, each time twice as many as before, from the beginning. What
-    `preprocess` raises is raised as soon as it is met."""
+    `preprocess` raises is raised as soon as it is met.
+
+    With `includes` each `#include` line is asked for its text: the function is called with the line, and what it returns comes in
+    place of the line, if it isn't None. Otherwise the item is the error UNKNOWN_DIRECTIVE at the word. Errors of the lexer in
+    dead text and on skipped lines aren't given then. Raises TooDeep if the text is inside of 200 others."""
     data, added = _data(source), _added(definitions)
+    if includes:
+        yield from _including(data, added, rules, budget, includes)
+        return
     given, most = 0, _FIRST_ITEMS
     answer = _PARTIAL
     while answer == _PARTIAL:
         answer, items = _preprocess(data, added, _Options(rules, budget, most))
         yield from itertools.islice(items, given, None)
         given, most = most, 2 * most
+
+
+def _including(
+    data: bytes, added: _Added, rules: Optional[Glsl], budget: int, includes: Includes
+) -> Iterator[Item]:
+    given, most, lines = 0, _FIRST_ITEMS, 0
+    answer = _PARTIAL
+    while answer in (_PARTIAL, _INCLUDE):
+        answer, items = _preprocess(data, added, _Options(rules, budget, most), lines)
+        for item in itertools.islice(items, given, None):
+            given += 1
+            line = _include_line(item, data, added)
+            if not line:
+                yield item
+                continue
+            # It is the last one.
+            lines += 1
+            text = includes(line)
+            if text is None:
+                yield item
+            else:
+                added.insert(_place_of(given, added), _Text(_data(text), given))
+        if answer == _PARTIAL:
+            most *= 2
 
 
 def lex(source: Union[str, bytes]) -> Iterator[Item]:
@@ -286,8 +361,10 @@ class _Options(ctypes.Structure):
 # A pp_item: kind, error, flags, children, width, start, end, line, text_length and value.
 _ITEM = struct.Struct("=HHIIiIIIIQ")
 _WORDS_OF_AN_ITEM = _ITEM.size // 8
-_ERROR = 0
-_DONE, _TOO_SMALL, _PARTIAL = 0, 1, 7
+_ERROR, _INCLUDE_LINE = 0, 10
+_DONE, _TOO_SMALL, _PARTIAL, _INCLUDE = 0, 1, 7, 9
+# Where the name of an included text begins.
+_TEXT = (1 << 64) - 1
 # How many items are asked for first.
 _FIRST_ITEMS = 256
 _REFUSED: Dict[int, Tuple[Type[Exception], str]] = {
@@ -296,6 +373,7 @@ _REFUSED: Dict[int, Tuple[Type[Exception], str]] = {
     5: (MemoryError, "the library has no memory left"),
     6: (OverBudget, "the items need more steps than the budget has"),
     8: (ValueError, "the library doesn't know these rules"),
+    10: (TooDeep, "texts are included more than 200 deep"),
 }
 _KINDS = {int(it): it for it in Kind}
 _FLAGS = [Flag(it) for it in range(64)]
@@ -316,9 +394,13 @@ def _load() -> ctypes.CDLL:
     room = [ctypes.c_void_p, ctypes.c_size_t, *text, ctypes.POINTER(_Sizes)]
     words = [*text, ctypes.POINTER(_Definition), ctypes.c_size_t]
     library.pp_preprocess_with.argtypes = [ctypes.POINTER(_Options), *text, *words, *room]
+    numbers = [ctypes.c_void_p, ctypes.c_size_t]
+    library.pp_preprocess_including.argtypes = [
+        ctypes.POINTER(_Options), ctypes.c_uint64, *text, *words, *room[:-1], *numbers, room[-1]
+    ]
     library.pp_lex.argtypes = [*text, *room]
     library.pp_line_column.argtypes = [*text, ctypes.c_uint64, ctypes.POINTER(_Position)]
-    for call in (library.pp_preprocess_with, library.pp_lex, library.pp_line_column):
+    for call in (library.pp_preprocess_with, library.pp_preprocess_including, library.pp_lex, library.pp_line_column):
         call.restype = ctypes.c_uint32
     library.pp_error_sentence.argtypes, library.pp_error_sentence.restype = [ctypes.c_uint32], ctypes.c_char_p
     return library
@@ -327,30 +409,76 @@ def _load() -> ctypes.CDLL:
 _LIBRARY = _load()
 
 
-def _definitions(added: Iterable[Definition]) -> Tuple[bytes, ctypes.Array[_Definition]]:
-    """The words of definitions, and where each is in them. No list is empty, since its pointer would lead to nothing."""
-    words, entries = b"", []
+class _Text(NamedTuple):
+    """A text that is included once so many items were given."""
+
+    content: bytes
+    after: int
+
+
+_Added = List[Union[Definition, _Text]]
+
+
+def _definitions(added: _Added) -> Tuple[bytes, ctypes.Array[_Definition]]:
+    """The words of definitions and texts, and where each is in them. No list is empty, since its pointer would lead to nothing."""
+    words, entries = bytearray(), []
     for it in added:
-        name, content = it.name.encode(), it.content.encode()
-        entries.append(_Definition(len(words), len(name), len(words) + len(name), len(content), it.after))
+        if isinstance(it, _Text):
+            name, name_start, content = b"", _TEXT, it.content
+        else:
+            name, name_start, content = it.name.encode(), len(words), it.content.encode()
+        entries.append(_Definition(name_start, len(name), len(words) + len(name), len(content), it.after))
         words += name + content
-    return words, (_Definition * (len(entries) + 1))(*entries)
+    return bytes(words), (_Definition * (len(entries) + 1))(*entries)
 
 
-def _added(definitions: Definitions) -> List[Definition]:
+def _added(definitions: Definitions) -> _Added:
     given = definitions.items() if isinstance(definitions, Mapping) else definitions
     return [Definition(*it) for it in given]
+
+
+def _place_of(given: int, added: _Added) -> int:
+    """Where a text stands in the list that is included after so many items: before the definitions that aren't added yet."""
+    reached = itertools.accumulate((it.after for it in added), max)
+    return sum(after <= given for after in reached)
+
+
+def _include_line(item: Item, data: bytes, added: _Added) -> Optional[IncludeLine]:
+    """The line that the item asks with, if it does. Each definition that was added has no error, so it has a number."""
+    if not isinstance(item, Error) or not item.rest:
+        return None
+    start, end, line = item.rest
+    content = added[item.source - 1].content if item.source else data
+    text = content.encode() if isinstance(content, str) else content
+    return IncludeLine(text[start:end].decode(), start, end, line, item.source)
 
 
 def _data(source: Union[str, bytes]) -> bytes:
     return source.encode() if isinstance(source, str) else bytes(memoryview(source))
 
 
-def _preprocess(source: Union[str, bytes], added: List[Definition], options: _Options) -> Tuple[int, Iterator[Item]]:
-    """The answer of a call and its items. Raises the first error of a definition."""
+def _preprocess(
+    source: Union[str, bytes], added: _Added, options: _Options, lines: Optional[int] = None
+) -> Tuple[int, Iterator[Item]]:
+    """The answer of a call and its items: if `lines` is given, one that asks for texts once it has passed so many lines. Raises the
+    first error of a definition."""
     words, entries = _definitions(added)
-    call = _LIBRARY.pp_preprocess_with
-    given = _items(_data(source), lambda data, room: call(options, *data, words, len(words), entries, len(added), *room))
+    put = words, len(words), entries, len(added)
+    if lines is None:
+        given = _items(_data(source), lambda data, room: _LIBRARY.pp_preprocess_with(options, *data, *put, *room))
+    else:
+        numbers: List[ctypes.Array[ctypes.c_uint32]] = []
+
+        def call(data: Tuple[Any, ...], room: Tuple[Any, ...]) -> int:
+            items, count, texts, length, sizes = room
+            numbers[:] = [(ctypes.c_uint32 * count)()]
+            return int(
+                _LIBRARY.pp_preprocess_including(
+                    options, lines, *data, *put, items, count, texts, length, numbers[0], count, sizes
+                )
+            )
+
+        given = _items(_data(source), call, numbers)
     for entry in entries[: len(added)]:
         if entry.error:
             raise Error(ErrorKind(entry.error), entry.start, entry.end, entry.line)
@@ -364,8 +492,11 @@ def _check(answer: int) -> None:
         raise kind(sentence)
 
 
-def _items(data: bytes, call: Callable[..., int]) -> Tuple[int, Iterator[Item]]:
-    """The answer of a call, which is made with more room until there is enough, and its items. The first room is a guess."""
+def _items(
+    data: bytes, call: Callable[..., int], numbers: Sequence[ctypes.Array[ctypes.c_uint32]] = ()
+) -> Tuple[int, Iterator[Item]]:
+    """The answer of a call, which is made with more room until there is enough, and its items, in texts with these numbers. The first
+    room is a guess."""
     sizes = _Sizes(len(data) // 2 + 16, len(data) + 16)
     answer = _TOO_SMALL
     while answer == _TOO_SMALL:
@@ -374,28 +505,35 @@ def _items(data: bytes, call: Callable[..., int]) -> Tuple[int, Iterator[Item]]:
         answer = call((data, len(data)), (items, count, texts, length, sizes))
     _check(answer)
     written = memoryview(items).cast("B")[: sizes.items * _ITEM.size]
-    return answer, _read(_ITEM.iter_unpack(written), ctypes.string_at(texts, sizes.texts))
+    of_texts = itertools.chain(*numbers, itertools.repeat(0))
+    return answer, _read(zip(_ITEM.iter_unpack(written), of_texts), ctypes.string_at(texts, sizes.texts))
 
 
-_Entries = Iterator[Tuple[int, ...]]
+# Each with the number of its text.
+_Entry = Tuple[Tuple[int, ...], int]
+_Entries = Iterator[_Entry]
 
 
 def _read(entries: _Entries, texts: bytes) -> Iterator[Item]:
-    for entry in entries:
+    for entry, source in entries:
         if entry[0] != _ERROR:
-            yield _token(entry, entries, texts)
+            yield _token((entry, source), entries, texts)
             continue
-        # It holds its place in the source, and after it the token that it carries.
-        _, _, _, _, _, start, end, line, _, _ = next(entries)
-        token = _token(next(entries), entries, texts) if entry[3] > 1 else None
-        yield Error(ErrorKind(entry[1]), start, end, line, token)
+        # It holds its place in the source, and after it the token that it carries, or the rest of a line that asks for a text.
+        place, _ = next(entries)
+        held = next(entries) if entry[3] > 1 else None
+        if held and held[0][0] == _INCLUDE_LINE:
+            yield Error(ErrorKind(entry[1]), *place[5:8], source=source, rest=held[0][5:8])
+        else:
+            token = _token(held, entries, texts) if held else None
+            yield Error(ErrorKind(entry[1]), *place[5:8], token, source)
 
 
-def _token(entry: Tuple[int, ...], entries: _Entries, texts: bytes) -> Token:
-    number, _, flags, children, _, start, end, line, length, value = entry
-    kind, held = _KINDS[number], tuple(_token(next(entries), entries, texts) for _ in range(children))
+def _token(held: _Entry, entries: _Entries, texts: bytes) -> Token:
+    (number, _, flags, children, _, start, end, line, length, value), source = held
+    kind, tokens = _KINDS[number], tuple(_token(next(entries), entries, texts) for _ in range(children))
     if kind is Kind.INTEGER:
         text = str(value) if flags & Flag.SIGNED else f"{value}u"
-        return Token(kind, text, start, end, line, _FLAGS[flags], value)
+        return Token(kind, text, start, end, line, _FLAGS[flags], value, source=source)
     text = _FIRST_WORDS.get(kind) or texts[value : value + length].decode()
-    return Token(kind, text, start, end, line, _FLAGS[flags], None, held)
+    return Token(kind, text, start, end, line, _FLAGS[flags], None, tokens, source)

@@ -1,8 +1,9 @@
 //! Prints the items of the source on standard input as they are read, a line each: tokens with their bytes, and errors with
-//! their lines:
+//! their lines. With texts that have names, lines like `#include "NAME"` are answered by these:
 //!
-//!     read [--glsl=VERSION[,compatibility|,es]] [--budget=STEPS] [--first=ITEMS] [NAME=CONTENT | next]... < shader.frag
+//!     read [--glsl=VERSION[,compatibility|,es]] [--budget=STEPS] [--first=ITEMS] [:NAME:TEXT]... [NAME=CONTENT | next]... < shader.frag
 use pp_rs::reader::{Error, Profile, Reader, Rules};
+use pp_rs::token::Token;
 use std::io::{self, Read, Write};
 
 // It compiles only if a reader may be handed to another thread, and shared.
@@ -20,18 +21,36 @@ fn rules_of(text: &str) -> Option<Rules> {
     Some(Rules::glsl(version.parse().ok()?, profile))
 }
 
-fn print(item: Option<<Reader as Iterator>::Item>, out: &mut impl Write) -> io::Result<()> {
+// Prints an item, and in which text it is, if not in the source. A line that asks for a text that has a name is answered.
+fn print(
+    item: Result<Token, Error>,
+    reader: &mut Reader,
+    texts: &[(String, String)],
+    out: &mut impl Write,
+) -> io::Result<()> {
+    if reader.text_number() > 0 {
+        write!(out, "[{}] ", reader.text_number())?;
+    }
     match item {
-        Some(Ok(token)) => {
+        Ok(token) => {
             let place = token.location;
-            writeln!(out, "{} {}..{}", token.value, place.start, place.end)
+            writeln!(out, "{} {}..{}", token.value, place.start, place.end)?;
         }
-        Some(Err(Error::Source { error, place })) => {
+        Err(Error::Source { error, place }) => {
             let line = place.line();
-            writeln!(out, "{} {}..{} L{}", error, place.start, place.end, line)
+            writeln!(out, "{} {}..{} L{}", error, place.start, place.end, line)?;
         }
-        Some(Err(error)) => writeln!(out, "{}", error),
-        None => writeln!(out, "None"),
+        Err(error) => writeln!(out, "{}", error)?,
+    }
+    let name = reader
+        .include_line()
+        .map(|line| line.split('"').nth(1).unwrap_or(""));
+    match texts.iter().find(|(known, _)| name == Some(known)) {
+        Some((_, text)) => match reader.include(text) {
+            Ok(()) => writeln!(out, "included"),
+            Err(error) => writeln!(out, "not included: {}", error),
+        },
+        None => Ok(()),
     }
 }
 
@@ -39,8 +58,12 @@ fn main() -> io::Result<()> {
     let mut source = String::new();
     io::stdin().read_to_string(&mut source)?;
     let (mut rules, mut budget, mut first) = (Rules::PpRs, 0, usize::MAX);
-    let mut calls = Vec::new();
+    let (mut calls, mut texts) = (Vec::new(), Vec::new());
     for word in std::env::args().skip(1) {
+        if let Some((name, text)) = word.strip_prefix(':').and_then(|rest| rest.split_once(':')) {
+            texts.push((name.to_string(), text.to_string()));
+            continue;
+        }
         match word.split_once('=') {
             Some(("--glsl", text)) => rules = rules_of(text).expect("rules"),
             Some(("--budget", steps)) => budget = steps.parse().expect("a number of steps"),
@@ -48,7 +71,10 @@ fn main() -> io::Result<()> {
             _ => calls.push(word),
         }
     }
-    let mut reader = Reader::with_rules(&source, rules);
+    let mut reader = match texts.len() {
+        0 => Reader::with_rules(&source, rules),
+        _ => Reader::with_includes(&source, rules),
+    };
     reader.set_budget(budget);
     let mut out = io::BufWriter::new(io::stdout());
     for word in &calls {
@@ -59,11 +85,17 @@ fn main() -> io::Result<()> {
                     writeln!(out, "refused: {} {}..{}", error, place.start, place.end)?
                 }
             },
-            None => print(reader.next(), &mut out)?,
+            None => match reader.next() {
+                Some(item) => print(item, &mut reader, &texts, &mut out)?,
+                None => writeln!(out, "None")?,
+            },
         }
     }
-    for item in reader.take(first) {
-        print(Some(item), &mut out)?;
+    for _ in 0..first {
+        match reader.next() {
+            Some(item) => print(item, &mut reader, &texts, &mut out)?,
+            None => break,
+        }
     }
     out.flush()
 }

@@ -6,6 +6,8 @@ use crate::token::*;
 pub struct Items {
     items: Vec<raw::Item>,
     texts: String,
+    // The number of the text of each item, if texts may be included.
+    numbers: Vec<u32>,
     /// Whether more items may follow.
     pub is_front: bool,
 }
@@ -15,6 +17,8 @@ pub struct Fault {
     pub error: PreprocessorError,
     pub location: Location,
     pub place: Location,
+    /// The rest of an `#include` line that asks for its text.
+    pub rest: Option<Location>,
 }
 
 #[rustfmt::skip]
@@ -72,12 +76,18 @@ pub fn error_of(number: u16, carried: Option<TokenValue>) -> Option<Preprocessor
 }
 
 impl Items {
-    pub fn new(items: Vec<raw::Item>, texts: Vec<u8>, is_front: bool) -> Items {
+    pub fn new(items: Vec<raw::Item>, texts: Vec<u8>, numbers: Vec<u32>, is_front: bool) -> Items {
         Items {
             items,
             texts: String::from_utf8(texts).expect("texts are UTF-8"),
+            numbers,
             is_front,
         }
+    }
+
+    /// The number of the text in which the item of a number is.
+    pub fn text_number(&self, at: usize) -> u32 {
+        self.numbers.get(at).copied().unwrap_or(0)
     }
 
     /// The item of a number, and the number of the one after it and what it holds.
@@ -90,16 +100,19 @@ impl Items {
         let place = location(&self.items[*at + 1]);
         // After its place.
         let mut held = *at + 2;
-        let carried = if held < end {
-            Some(self.token(&mut held).value)
-        } else {
-            None
-        };
+        let (mut rest, mut carried) = (None, None);
+        if held < end {
+            match self.items[held].kind {
+                raw::INCLUDE_LINE => rest = Some(location(&self.items[held])),
+                _ => carried = Some(self.token(&mut held).value),
+            }
+        }
         *at = end;
         Some(Err(Fault {
             error: error_of(item.error, carried).expect("an error"),
             location: location(item),
             place,
+            rest,
         }))
     }
 

@@ -65,6 +65,11 @@ pub const TOO_LONG: u32 = 3;
 pub const OUT_OF_MEMORY: u32 = 5;
 pub const OVER_BUDGET: u32 = 6;
 pub const PARTIAL: u32 = 7;
+pub const INCLUDE: u32 = 9;
+pub const TOO_DEEP: u32 = 10;
+
+/// Where the name of an included text begins.
+pub const TEXT: u64 = u64::MAX;
 
 pub const RULES_PP_RS: u32 = 0;
 pub const RULES_CORE: u32 = 1;
@@ -78,6 +83,7 @@ pub const FLOAT: u16 = 4;
 pub const VERSION: u16 = 5;
 pub const EXTENSION: u16 = 6;
 pub const PRAGMA: u16 = 7;
+pub const INCLUDE_LINE: u16 = 10;
 pub const FIRST_PUNCTUATOR: u16 = 16;
 
 pub const SIGNED: u32 = 1;
@@ -100,6 +106,24 @@ extern "C" {
         items_length: usize,
         texts: *mut u8,
         texts_length: usize,
+        sizes: *mut Sizes,
+    ) -> u32;
+
+    pub fn pp_preprocess_including(
+        options: *const Options,
+        lines: u64,
+        source: *const u8,
+        source_length: usize,
+        words: *const u8,
+        words_length: usize,
+        definitions: *mut Definition,
+        definitions_length: usize,
+        items: *mut Item,
+        items_length: usize,
+        texts: *mut u8,
+        texts_length: usize,
+        numbers: *mut u32,
+        numbers_length: usize,
         sizes: *mut Sizes,
     ) -> u32;
 }

@@ -1,4 +1,5 @@
-//! What pp-rs doesn't have: GLSL's rules, a budget, items that are made as they are read, and the place of each error.
+//! What pp-rs doesn't have: GLSL's rules, a budget, items that are made as they are read, the place of each error, and
+//! included texts.
 //!
 //! ```
 //! use pp_rs::reader::{Error, Profile, Reader, Rules};
@@ -18,7 +19,7 @@
 //! ```
 use crate::items::Items;
 use crate::raw;
-use crate::source::{OverBudget, Source};
+use crate::source::{NoItems, Source};
 use crate::token::{Location, PreprocessorError, Token};
 use std::fmt;
 
@@ -102,11 +103,33 @@ impl std::error::Error for Error {
     }
 }
 
+/// Why a text was not included.
+#[derive(Clone, Copy, PartialEq, Eq, Debug)]
+#[non_exhaustive]
+pub enum IncludeError {
+    /// The last item was no `#include` line that asks for its text.
+    NotAsked,
+    /// 200 texts are around already.
+    TooDeep,
+}
+
+impl fmt::Display for IncludeError {
+    fn fmt(&self, f: &mut fmt::Formatter<'_>) -> fmt::Result {
+        f.write_str(match self {
+            IncludeError::NotAsked => "no line asks for a text",
+            IncludeError::TooDeep => "texts are included more than 200 deep",
+        })
+    }
+}
+
+impl std::error::Error for IncludeError {}
+
 /// A source as an iterator of its preprocessed tokens, which are made as they are read. It goes on after an error of the
 /// source.
 ///
 /// Some items are made at a time, each time twice as many as before, from the beginning of the source. An `add_define`
-/// between items lets the next `next` begin anew too: the items before it stay what they were.
+/// between items lets the next `next` begin anew too, and so does an [`include`](Reader::include): the items before it
+/// stay what they were.
 pub struct Reader<'a> {
     source: Source<'a>,
     items: Option<Items>,
@@ -114,6 +137,9 @@ pub struct Reader<'a> {
     asked: u64,
     at: usize,
     is_over_budget: bool,
+    // Of the last item: the number of its text, and the rest of its line if it asks for a text.
+    text: u32,
+    rest: Option<Location>,
 }
 
 impl<'a> Reader<'a> {
@@ -131,7 +157,37 @@ impl<'a> Reader<'a> {
             asked: 0,
             at: 0,
             is_over_budget: false,
+            text: 0,
+            rest: None,
         }
+    }
+
+    /// Reads a source by these rules, and asks each `#include` line for its text. So that a name between `"` is no token,
+    /// errors of the lexer in dead text and on skipped lines aren't given, as by GLSL's rules.
+    ///
+    /// `next` returns the error `UnknownDirective` at the word, and [`include_line`](Reader::include_line) what follows
+    /// it. [`include`](Reader::include) puts a text in place of the line, and without it reading goes on after it.
+    ///
+    /// ```
+    /// use pp_rs::reader::{Profile, Reader, Rules};
+    ///
+    /// let source = "#include \"pi.glsl\"\nfloat a = PI;";
+    /// let mut reader = Reader::with_includes(source, Rules::glsl(310, Profile::Es));
+    /// let mut texts = Vec::new();
+    /// while let Some(item) = reader.next() {
+    ///     match reader.include_line().map(str::trim) {
+    ///         Some("\"pi.glsl\"") => reader.include("#define PI 3.14\n")?,
+    ///         Some(_) => break,
+    ///         None => texts.push(item?.value.to_string()),
+    ///     }
+    /// }
+    /// assert_eq!(texts, ["float", "a", "=", "3.14", ";"]);
+    /// # Ok::<(), Box<dyn std::error::Error>>(())
+    /// ```
+    pub fn with_includes(input: &'a str, rules: Rules) -> Reader<'a> {
+        let mut reader = Reader::with_rules(input, rules);
+        reader.source.ask_includes();
+        reader
     }
 
     /// Bounds the steps that the items may take, from the first item on, or not if it is 0, as without this call.
@@ -154,17 +210,62 @@ impl<'a> Reader<'a> {
         Ok(())
     }
 
+    /// The rest of the line of the last item, after the word `include`, if it is a line that asks for its text.
+    pub fn include_line(&self) -> Option<&str> {
+        let rest = self.rest?;
+        let text = self.source.text(self.text)?;
+        text.get(rest.start as usize..rest.end as usize)
+    }
+
+    /// Puts a text in place of the `#include` line that `next` returned last. Its definitions stay, its blocks and `#line`
+    /// are its own, and behind its end reading goes on after the line. The errors are `NotAsked`, and `TooDeep` if 200
+    /// texts are around; after either nothing is changed.
+    pub fn include(&mut self, text: &str) -> Result<(), IncludeError> {
+        if self.rest.is_none() {
+            return Err(IncludeError::NotAsked);
+        }
+        self.source.include(text, self.asked);
+        match self.source.items(self.most()) {
+            Err(NoItems::TooDeep) => {
+                self.source.exclude();
+                return Err(IncludeError::TooDeep);
+            }
+            items => self.items = items.ok(),
+        }
+        self.rest = None;
+        Ok(())
+    }
+
+    /// The number of the text in which the place of the last item is: 0 for the source, and then one number more for each
+    /// definition that was added and each text that was included. A token that a macro gives is in the text of the macro's
+    /// body or of the argument. Without [`with_includes`](Reader::with_includes) it is always 0.
+    pub fn text_number(&self) -> u32 {
+        self.text
+    }
+
+    // How many items to make.
+    fn most(&self) -> u64 {
+        FIRST.max(2 * self.asked)
+    }
+
     // The next of the items that were made, if there is one, or the end.
     fn next_made(&mut self) -> Option<Option<<Self as Iterator>::Item>> {
         let items = self.items.as_ref()?;
+        let at = self.at;
         match items.item(&mut self.at) {
             None if items.is_front => None,
-            item => Some(item.map(|item| {
-                item.map_err(|fault| Error::Source {
+            None => Some(None),
+            Some(item) => {
+                self.text = items.text_number(at);
+                self.rest = item.as_ref().err().and_then(|fault| fault.rest);
+                if self.rest.is_some() {
+                    self.source.pass_line();
+                }
+                Some(Some(item.map_err(|fault| Error::Source {
                     error: fault.error,
                     place: fault.place,
-                })
-            })),
+                })))
+            }
         }
     }
 }
@@ -173,6 +274,7 @@ impl<'a> Iterator for Reader<'a> {
     type Item = Result<Token, Error>;
 
     fn next(&mut self) -> Option<Self::Item> {
+        self.rest = None;
         if self.is_over_budget {
             return None;
         }
@@ -181,9 +283,10 @@ impl<'a> Iterator for Reader<'a> {
                 self.asked += 1;
                 return item;
             }
-            match self.source.items(FIRST.max(2 * self.asked)) {
+            match self.source.items(self.most()) {
                 Ok(items) => self.items = Some(items),
-                Err(OverBudget) => {
+                // No text is too deep here, since each was tried.
+                Err(NoItems::OverBudget | NoItems::TooDeep) => {
                     self.is_over_budget = true;
                     return Some(Err(Error::OverBudget));
                 }

@@ -10,9 +10,9 @@
  *
  * What is proved of these calls holds as long as the caller upholds this:
  *
- * - No pointer is null or badly aligned, also if its length is 0: for an empty list hand in any other one.
+ * - No pointer is null or badly aligned. One whose length is 0 may be null: that is tested and not proved.
  * - Each pointer leads to at least as many elements as the length after it says.
- * - Nothing that a call writes (definitions, items, texts, sizes) overlaps anything else that it is given.
+ * - Nothing that a call writes (definitions, items, texts, numbers, sizes) overlaps anything else that it is given.
  * - No other thread writes to any of this during a call, or reads what the call writes.
  * - malloc, realloc and free are one allocator's and align as C says, and no call is made from a signal handler or in a
  *   forked child of a process with threads.
@@ -26,7 +26,7 @@
 #include <stdint.h>
 
 /* The version of this interface, from 1. A library of a later one has all that is declared here. */
-#define PP_API_VERSION 1
+#define PP_API_VERSION 2
 
 #ifdef __cplusplus
 extern "C" {
@@ -40,15 +40,19 @@ enum {
     PP_TOO_LONG = 3,       /* the source or a content has 2^32 - 1 bytes or more */
     PP_BAD_DEFINITION = 4, /* a name or a content doesn't lie in the words, or cuts a character of theirs */
     PP_OUT_OF_MEMORY = 5,  /* an allocation failed */
-    /* the others are pp_preprocess_with's alone */
+    /* the others are of calls with options alone */
     PP_OVER_BUDGET = 6, /* the items need more steps than the budget has */
     PP_PARTIAL = 7,     /* as many items as were asked for are there; more may follow */
-    PP_BAD_OPTIONS = 8  /* the options have another size or other rules than this library knows */
+    PP_BAD_OPTIONS = 8, /* the options have another size or other rules than this library knows */
+    /* the last two are pp_preprocess_including's alone */
+    PP_INCLUDE = 9,  /* the last item is an #include line that asks for its text */
+    PP_TOO_DEEP = 10 /* a text was handed in inside of 200 others */
 };
 
 /* What an item is. */
 enum {
-    PP_ERROR = 0, /* it holds a PP_PLACE, and after it the token that it carries, if it is PP_UNEXPECTED_TOKEN */
+    PP_ERROR = 0, /* it holds a PP_PLACE, and after it the token that it carries, if it is PP_UNEXPECTED_TOKEN, or the
+                     PP_INCLUDE_LINE of an #include that asks for its text, which is PP_UNKNOWN_DIRECTIVE */
     PP_PLACE,     /* where the error stands in the source. The item of a lexer's error says 0..0 on line 1 */
     PP_IDENT,
     PP_INTEGER,
@@ -56,8 +60,9 @@ enum {
     PP_VERSION, /* #version: it holds the tokens of its line, unexpanded */
     PP_EXTENSION,
     PP_PRAGMA,
-    PP_NEW_LINE, /* the last two are pp_lex's alone */
+    PP_NEW_LINE, /* these two are pp_lex's alone */
     PP_HASH,
+    PP_INCLUDE_LINE, /* what follows the word of an #include up to the line's end; pp_preprocess_including's alone */
     PP_ADD_ASSIGN = 16, PP_SUB_ASSIGN, PP_MUL_ASSIGN, PP_DIV_ASSIGN, PP_MOD_ASSIGN, PP_LEFT_SHIFT_ASSIGN,
     PP_RIGHT_SHIFT_ASSIGN, PP_AND_ASSIGN, PP_XOR_ASSIGN, PP_OR_ASSIGN, PP_INCREMENT, PP_DECREMENT, PP_LOGICAL_AND,
     PP_LOGICAL_OR, PP_LOGICAL_XOR, PP_LESS_EQUAL, PP_GREATER_EQUAL, PP_EQUAL_EQUAL, PP_NOT_EQUAL, PP_LEFT_SHIFT,
@@ -92,7 +97,7 @@ typedef struct pp_item {
     uint32_t flags;
     uint32_t children; /* how many of the items that follow it holds, with those that these hold */
     int32_t width;     /* of a number, in bits: 32, or by GLSL's rules 16 or 64 too */
-    uint32_t start;    /* byte offsets in the source, or in the content of a definition */
+    uint32_t start;    /* byte offsets in the source, in the content of a definition or in an included text */
     uint32_t end;
     uint32_t line; /* from 1 */
     uint32_t text_length;
@@ -120,7 +125,7 @@ typedef struct pp_definition {
 } pp_definition;
 
 /* How many items there are, with those that others hold, and how many bytes their texts have. It is so with PP_DONE,
- * PP_TOO_SMALL and PP_PARTIAL; after another answer it says nothing. */
+ * PP_TOO_SMALL, PP_PARTIAL and PP_INCLUDE; after another answer it says nothing. */
 typedef struct pp_sizes {
     uint64_t items;
     uint64_t texts;
@@ -164,6 +169,32 @@ uint32_t pp_preprocess(const uint8_t *source, size_t source_length, const uint8_
 uint32_t pp_preprocess_with(const pp_options *options, const uint8_t *source, size_t source_length, const uint8_t *words,
                             size_t words_length, pp_definition *definitions, size_t definitions_length, pp_item *items,
                             size_t items_length, uint8_t *texts, size_t texts_length, pp_sizes *sizes);
+
+/* The same, and the call stops after an #include line, once it has passed `lines` others: the answer is PP_INCLUDE, the last
+ * item the error PP_UNKNOWN_DIRECTIVE at the word `include`, and the last of `items` its PP_INCLUDE_LINE, what follows the
+ * word. Call again with `lines` one more. To include a text add one definition for it, behind those that were added so far,
+ * with PP_TEXT as name_start, the text as its content, and as `after` the number of items so far, those that others hold
+ * not counted: it comes in place of the line. Without one reading goes on after the line.
+ *
+ *     uint64_t lines = 0;
+ *     while (pp_preprocess_including(&options, lines, ...) == PP_INCLUDE) {
+ *         ... look for the text, and if there is one add it to `words` and to `definitions` ...
+ *         lines++;
+ *     }
+ *
+ * Into numbers[n] is written in which text items[n] is, if there is room: 0 for `source`, and then one number more for
+ * each of the list that was added or included. An item that a macro gives is in the text of the macro's body or of the
+ * argument. That is tested and not proved.
+ *
+ * Definitions are of all texts, and blocks and #line of one: a block that is open at a text's end is PP_UNFINISHED_BLOCK.
+ * A text must be UTF-8, which pp_line_column says of it alone. If 200 texts are around it the answer is PP_TOO_DEEP, and no
+ * items are there: call again without it. An #include in the arguments of a macro asks for nothing. So that a name between
+ * `"` is no token, errors of the lexer in dead text and on skipped lines aren't given, as by GLSL's rules. */
+#define PP_TEXT UINT64_MAX
+uint32_t pp_preprocess_including(const pp_options *options, uint64_t lines, const uint8_t *source, size_t source_length,
+                                 const uint8_t *words, size_t words_length, pp_definition *definitions,
+                                 size_t definitions_length, pp_item *items, size_t items_length, uint8_t *texts,
+                                 size_t texts_length, uint32_t *numbers, size_t numbers_length, pp_sizes *sizes);
 
 /* Gives the tokens of `source` before preprocessing, newlines and number signs among them. Proved of PP_DONE: they are those
  * of the written rules, errors and what comes after them too. */

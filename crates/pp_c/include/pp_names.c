@@ -5,7 +5,8 @@
 #define LENGTH(list) (sizeof(list) / sizeof *(list))
 
 static const char *const kinds[] = {
-    "Error", "Place", "Ident", "Integer", "Float", "Version", "Extension", "Pragma", "NewLine", "Hash"
+    "Error", "Place", "Ident", "Integer", "Float", "Version", "Extension", "Pragma", "NewLine", "Hash",
+    "IncludeLine"
 };
 
 static const char *const punctuators[] = {

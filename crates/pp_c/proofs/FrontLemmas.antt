@@ -20,11 +20,11 @@ use Rattle.pp_c.specs.Fronts.{FrontsStay}
 use Rattle.pp_c.specs.Preprocessed.{times_asked, outcomes_of, replies_to_next}
 use Rattle.pp_c.specs.declared.items.Definition.{Definition}
 
--- each call adds a definition
+-- each call adds a definition or includes a text
 abbrev AreAdding : List Call → Type 0
 AreAdding [] = ⊤
 AreAdding (add_define name content ∷ calls) = AreAdding calls
-AreAdding (include text ∷ calls) = ⊥
+AreAdding (include text ∷ calls) = AreAdding calls
 AreAdding (next ∷ calls) = ⊥
 
 -- the calls of a call that stops, and those of another, begin alike; the first only adds definitions after that
@@ -41,13 +41,13 @@ none_asked : (count : ℕ) → count ≡ 0 → (calls : List Call) → replicate
 none_asked count e calls = rw e refl
 
 -- once all items were given, definitions are added
-adds_only : (words : List ℕ) (all made : ℕ) (definitions : List Definition) → all ≤ made → AreAdding (calls_from words all made definitions)
+adds_only : (words : List ℕ) (all made : ℕ) (definitions : List Definition) → all ≤ made → AreAdding (calls_from false words all made definitions)
 adds_only words all made [] h =
     let e : all - made ≡ 0 = omega (arith, h) in
     rw e tt
 adds_only words all made (definition ∷ definitions) h =
     let e : min definition.after all - made ≡ 0 = omega (arith, h) in
-    rw (none_asked (min definition.after all - made) e (adding words definition ∷ calls_from words all (max made (min definition.after all)) definitions))
+    rw (none_asked (min definition.after all - made) e (adding words definition ∷ calls_from false words all (max made (min definition.after all)) definitions))
     (adds_only words all (max made (min definition.after all)) definitions (omega (arith, h)))
 
 -- as many calls of `next`, and then some more
@@ -57,7 +57,7 @@ asked_more few many h =
     sym (replicate-append-replicate few (many - few) next ∙ ap (λ n. replicate n next) e)
 
 begin_alike : (words : List ℕ) (few many made : ℕ) (definitions : List Definition) → made ≤ few → few ≤ many
-    → BeginAlike (calls_from words few made definitions) (calls_from words many made definitions)
+    → BeginAlike (calls_from false words few made definitions) (calls_from false words many made definitions)
 begin_alike words few many made [] begun less =
     let e : many - made - (few - made) ≡ many - few = omega (arith, begun, less) in
     record {
@@ -70,7 +70,7 @@ begin_alike words few many made [] begun less =
     }
 begin_alike words few many made (definition ∷ definitions) begun less = elim (cases_lt few definition.after) [
   | inl beyond ↦ (let a : min definition.after few ≡ few = omega (arith, beyond) in
-      let rest = λ (all : ℕ). adding words definition ∷ calls_from words all (max made (min definition.after all)) definitions in
+      let rest = λ (all : ℕ). adding words definition ∷ calls_from false words all (max made (min definition.after all)) definitions in
       let n : min definition.after many - made - (few - made) ≡ min definition.after many - few = omega (arith, begun, less, beyond) in
       record {
         front = replicate (few - made) next;
@@ -90,9 +90,9 @@ begin_alike words few many made (definition ∷ definitions) begun less = elim (
         front = before it.front;
         added = it.added;
         more = it.more;
-        first = ap (λ m. replicate (m - made) next ++ adding words definition ∷ calls_from words few (max made m) definitions) a
+        first = ap (λ m. replicate (m - made) next ++ adding words definition ∷ calls_from false words few (max made m) definitions) a
             ∙ ap before it.first ∙ sym (append_assoc (replicate (definition.after - made) next) (adding words definition ∷ it.front) it.added);
-        second = ap (λ m. replicate (m - made) next ++ adding words definition ∷ calls_from words many (max made m) definitions) b
+        second = ap (λ m. replicate (m - made) next ++ adding words definition ∷ calls_from false words many (max made m) definitions) b
             ∙ ap before it.second ∙ sym (append_assoc (replicate (definition.after - made) next) (adding words definition ∷ it.front) it.more);
         only = it.only;
       })
@@ -113,8 +113,8 @@ module _ (C : Comings) (rules : Rules) where
   none_given e calls replies (run.done e1 r p) h = rw p refl
   none_given e calls replies (run.added n c t e1 cs rest r has a p) h = rw p (none_given _ cs rest a h)
   none_given e calls replies (run.refused n c f e1 cs rest r has a p) h = rw p (none_given _ cs rest a h)
-  none_given e calls replies (run.included t e1 cs rest r room a p) h = absurd h
-  none_given e calls replies (run.too_deep t e1 cs rest r full a p) h = absurd h
+  none_given e calls replies (run.included t e1 cs rest r room a p) h = rw p (none_given _ cs rest a h)
+  none_given e calls replies (run.too_deep t e1 cs rest r full a p) h = rw p (none_given _ cs rest a h)
   none_given e calls replies (run.given o e1 f cs rest r comes not a p) h = absurd h
   none_given e calls replies (run.failed fault e1 f cs r comes p) h = absurd h
 

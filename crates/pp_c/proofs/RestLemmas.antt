@@ -1,13 +1,14 @@
 -- The items that are left after the last definition, and all of them together.
-use Rattle.std.proofs.Common.{◌≡◌, ◌+◌, arith, true, false, [], ◌∷◌, ◌++◌, map, length, refl, Option, Some, None, is_some, MatchOption}
+use Rattle.std.proofs.Common.{◌≡◌, ◌+◌, arith, true, false, [], ◌∷◌, ◌++◌, map, length, refl, Option, Some, None, MatchOption}
+use Rattle.std.specs.Prelude.{Bool, option_map}
 use Rattle.std.proofs.lemmas.List.{replicate_more, map_push, length_push}
 use Rattle.std.proofs.Math.ListN.{replicate}
 use Rattle.pp_model.specs.Run.{next}
 use Rattle.pp_rs.specs.Kept.{Preprocessing, is_spent}
 use Rattle.pp_rs.specs.Giving.{AreGiven, nothing, one_more}
 use Rattle.pp_rs.specs.TokenRefs.{token_of}
-use Rattle.pp_c.specs.Preprocessed.{Given, given_entries, token as made_token}
-use Rattle.pp_c.specs.inner.Making.{GivesNext, Made, NextIsWritten, answers_of, made_of, IsSmall, HasCome, IsUntil, GoesOn, HasRest, GivesRest, GivesToEnd, IsPossible, HasAdded, HasAll, AddsOne}
+use Rattle.pp_c.specs.Preprocessed.{Given, given_entries, asks, token as made_token}
+use Rattle.pp_c.specs.inner.Making.{GivesNext, Made, NextIsWritten, is_front, IsSmall, HasRest, GivesRest, GivesToEnd}
 use Rattle.pp_c.specs.inner.Making as made
 use Rattle.pp_c.specs.inner.Taking.{Takes, TakesToken}
 use Rattle.pp_c.specs.declared.output.Output.{Output}
@@ -33,10 +34,10 @@ module _ (begun : Preprocessing) (first : Output) (old : Preprocessing) (output 
       rw (← replicate_more (length h.more) next)
       (made_then begun old new (replicate (length h.more) next) (next ∷ []) (map Some h.more) (answer ∷ []) h.made (made_one answer old new gives))
 
-  rest_by : (answer : Option Given) → GivesNext old answer new → MatchOption answer (after ≡ output) (λ given. Takes output (given_entries given) after)
-      → true ≡ is_some answer → GivesRest begun first new after
-  rest_by None gives takes e = cc
-  rest_by (Some g) gives takes e = record {
+  rest_by : (answer : Option Given) (asking : Bool) → GivesNext old answer new → MatchOption answer (after ≡ output) (λ given. Takes output (given_entries given) after)
+      → Some asking ≡ option_map asks answer → GivesRest begun first new after
+  rest_by None asking gives takes e = cc
+  rest_by (Some g) asking gives takes e = record {
     more = h.more ++ g ∷ [];
     made = rw (length_push h.more g, map_push Some h.more g) (rest_made (Some g) gives);
     takes = takes_item first output after h.more g small h.takes takes;
@@ -44,16 +45,16 @@ module _ (begun : Preprocessing) (first : Output) (old : Preprocessing) (output 
   }
 
   end_by : (answer : Option Given) → GivesNext old answer new → MatchOption answer (after ≡ output) (λ given. Takes output (given_entries given) after)
-      → false ≡ is_some answer → GivesToEnd begun first new after
+      → None ≡ option_map asks answer → GivesToEnd begun first new after
   end_by (Some g) gives takes e = cc
   end_by None gives takes e = record { more = h.more; made = rest_made None gives; takes = rw takes h.takes }
 
   -- one more
-  pub rest_more : NextIsWritten old new output after true → GivesRest begun first new after
-  rest_more w = rest_by w.answer w.gives w.takes w.is_more
+  pub rest_more : (asking : Bool) → NextIsWritten old new output after (Some asking) → GivesRest begun first new after
+  rest_more asking w = rest_by w.answer asking w.gives w.takes w.is_more
 
   -- the end
-  pub rest_end : (progress : Progress) → progress.has_ended ≡ false → NextIsWritten old new output after false → HasRest progress begun first new after
+  pub rest_end : (progress : Progress) → is_front progress.end ≡ true → NextIsWritten old new output after None → HasRest progress begun first new after
   rest_end progress going w = record {
     ended = λ e. cc;
     rest = λ e. end_by w.answer w.gives w.takes w.is_more;
@@ -70,7 +71,7 @@ module _ (begun : Preprocessing) (first : Output) (small : IsSmall first) where
   rest_given old output h last taken (nothing p s e f) = rw (e, f) h
   rest_given old output h last taken (one_more token now p between s given came line takes) =
       let before = rest_given old output h now between given in
-      rest_more begun first now between last taken (rest_small now between before) before (record {
+      rest_more begun first now between last taken (rest_small now between before) before false (record {
         answer = Some (made_token (token_of token));
         gives = next_token now last before.unspent (token_of token) came;
         takes = takes;

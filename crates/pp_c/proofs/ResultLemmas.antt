@@ -1,11 +1,16 @@
 -- What holds if a result is `Ok`.
-use Rattle.std.proofs.Common.{◌≡◌, Result, Ok, Err, OnOk, IfOk, IsOk, refl, ap}
+use Rattle.std.proofs.Common.{◌≡◌, Result, Ok, Err, OnOk, IfOk, IsOk, refl, ap, subst}
 use Rattle.std.specs.Result.{result_and}
 
 -- one fact of the value for another
 pub if_ok_then : {T E : Type 0} {P Q : T → Type 0} (result : Result T E) → ((value : T) → P value → Q value) → IfOk result P → IfOk result Q
 if_ok_then (Ok value) f h = f value h
 if_ok_then (Err error) f h = h
+
+-- what holds of a value that is known
+pub if_ok_at : {T E : Type 0} (P : T → Type 0) (result : Result T E) (value : T) → result ≡ Ok value → IfOk result P → P value
+if_ok_at P (Ok other) value e h = let same : other ≡ value = cc in subst P same h
+if_ok_at P (Err error) value e h = cc
 
 -- what holds then, if it is
 pub if_ok : {T E P : Type 0} (result : Result T E) → IsOk result → OnOk result P → P

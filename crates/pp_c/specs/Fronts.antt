@@ -11,7 +11,7 @@ abbrev pub FrontsStay : Type 0
 FrontsStay =
     (rules : Rules) (source words : List ℕ) (definitions : List Definition) (front given : List Given)
     (has_ended : Bool)
-    → AreItemsBy rules source words definitions false front
-    → AreItemsBy rules source words definitions has_ended given
+    → AreItemsBy rules false source words definitions false front
+    → AreItemsBy rules false source words definitions has_ended given
     → length front ≤ length given
     → (rest : List Outcome) × (outcomes_of has_ended given ≡ outcomes_of false front ++ rest)

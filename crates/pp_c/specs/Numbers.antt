@@ -182,6 +182,10 @@ new_line_kind = 8
 abbrev pub hash_kind : ℕ
 hash_kind = 9
 
+-- the kind of the rest of an `#include` line that asks for its text
+abbrev pub include_line_kind : ℕ
+include_line_kind = 10
+
 -- the bit, if the condition holds
 abbrev pub bit_if : Bool → ℕ → ℕ
 bit_if condition bit = if condition then bit else 0

@@ -1,6 +1,6 @@
 -- What the options of a call ask for.
-use Rattle.std.specs.Prelude.{◌≡◌, ℕ, ◌<◌, if◌then◌else◌, nat_eq, Option, Some, None}
-use Rattle.pp_rs.specs.Rules.{pp_rs, glsl}
+use Rattle.std.specs.Prelude.{◌≡◌, ℕ, ◌<◌, ◌-◌, ◌^◌, if◌then◌else◌, nat_eq, Option, Some, None}
+use Rattle.pp_rs.specs.Rules.{pp_rs, glsl, with_includes}
 use Rattle.pp_rs.specs.declared.rules.Profile.TheVariants.{Core, Compatibility, Es}
 use Rattle.pp_rs.specs.declared.rules.Rules.{Rules}
 use Rattle.pp_c.specs.declared.options.Options.{Options}
@@ -29,3 +29,15 @@ unless_zero count = if nat_eq count 0 then None else Some count
 -- after how many items a call stops, if not at the end
 abbrev pub most_in : Options → Option ℕ
 most_in options = unless_zero options.most_items
+
+-- the same rules, by which an `#include` line is asked for its text
+abbrev pub asking_rules_in : Options → Rules
+asking_rules_in options = with_includes (rules_in options)
+
+-- a count, of which 0 stands for the greatest number of 64 bits
+abbrev pub all_unless_zero : ℕ → ℕ
+all_unless_zero count = if nat_eq count 0 then 2 ^ 64 - 1 else count
+
+-- after how many items a call that asks for texts stops
+abbrev pub most_asking_in : Options → ℕ
+most_asking_in options = all_unless_zero options.most_items

@@ -10,7 +10,7 @@ use Rattle.pp_rs.specs.declared.token.PreprocessorError.{PreprocessorError}
 use Rattle.pp_rs.specs.declared.token.PreprocessorError.TheVariants.{UnexpectedToken}
 use Rattle.pp_rs.specs.declared.token.TokenValue.{TokenValue}
 use Rattle.pp_c.specs.Entries.{Entry, bare, with_text, in_32_bits}
-use Rattle.pp_c.specs.Numbers.{error_number, error_kind, place_kind, kind_of, flags_of}
+use Rattle.pp_c.specs.Numbers.{error_number, error_kind, place_kind, include_line_kind, kind_of, flags_of}
 use Rattle.pp_c.specs.declared.items.Item.{Item}
 
 -- an item with a place, a kind and flags, and 0 in all its other fields
@@ -93,3 +93,9 @@ abbrev pub error_entries : PreprocessorError → Location → Location → List 
 error_entries error place true_place =
     error_entry place (in_32_bits (1 + length (carried_entries place error))) error ∷
     place_entry true_place ∷ carried_entries place error
+
+-- the error of an `#include` line that asks for its text, and after it its children: its true place in the source, and
+-- the rest of the line
+abbrev pub asking_entries : PreprocessorError → Location → Location → Location → List Entry
+asking_entries error place true_place rest =
+    error_entry place 2 error ∷ place_entry true_place ∷ bare (item_at rest include_line_kind 0) ∷ []

@@ -1,7 +1,7 @@
-//! Definitions that a caller in C passes.
+//! Definitions and texts that a caller in C passes.
 
-ghost use Rattle.std.specs.Prelude.{◌≡◌, IfOk, IfErr, OnOk};
-ghost use Rattle.pp_c.specs.Calls.{part_of, with_answer, LiesIn, Fits, HasLongContent, LiesOutside};
+ghost use Rattle.std.specs.Prelude.{◌≡◌, true, false, IfOk, IfErr, OnOk, ⊤};
+ghost use Rattle.pp_c.specs.Calls.{part_of, with_answer, is_text, LiesIn, CanEnter, HasLongContent, LacksWords};
 ghost use Rattle.pp_c.specs.inner.Making.{AddsOne};
 ghost use Rattle.pp_c.specs.inner.Refusing.{IsAddingRefusal};
 
@@ -9,11 +9,14 @@ use crate::faults::number_of;
 use crate::items::Definition;
 use crate::status::Refusal;
 use pp_macros::step::is_out_of_memory;
-use pp_rs::pp::Preprocessor;
+use pp_rs::pp::{IncludeError, Preprocessor};
 use pp_rs::token::Location;
 
 /// The least number of bytes that is too many for a source or a content.
 pub(crate) const LIMIT: usize = 4294967295;
+
+// Where the name of a text begins.
+const TEXT: u64 = 18446744073709551615;
 
 // The part of the words with this start and length, if it lies in them.
 fn part(words: &str, start: u64, length: u64) -> Result<&str, Refusal>
@@ -32,7 +35,7 @@ fn part(words: &str, start: u64, length: u64) -> Result<&str, Refusal>
     Ok(&words[start..end])
 }
 
-// Writes an error and its place in the content into a definition.
+// Writes an error and its place in the content into a definition, or into a text.
 fn answer(definition: &mut Definition, error: u32, place: Location)
     ensures { definition.new ≡ with_answer definition.old error place }
 {
@@ -42,16 +45,59 @@ fn answer(definition: &mut Definition, error: u32, place: Location)
     definition.line = place.line;
 }
 
-/// Adds a definition, and writes the error of its content into it, or 0 if there is none.
-pub(crate) fn add(
-    pp: &mut Preprocessor<'_>,
-    words: &str,
+/// Includes a text, if the call takes texts and it is one, or adds a definition, and writes the error of its content into
+/// it, or 0 if there is none.
+pub(crate) fn enter<'a>(
+    pp: &mut Preprocessor<'a>,
+    texts: bool,
+    words: &'a str,
     definition: &mut Definition,
 ) -> Result<(), Refusal>
-    ensures added { OnOk result (AddsOne words.now definition.old definition.new pp.old pp.new) }
-    ensures fits { OnOk result (Fits words.now definition.old) }
+    ensures added { OnOk result (AddsOne texts words.now definition.old definition.new pp.old pp.new) }
+    ensures fits { OnOk result (CanEnter texts words.now definition.old) }
     ensures err { IfErr result (λ refusal. IsAddingRefusal refusal
-        (HasLongContent words.now definition.old) (LiesOutside words.now definition.old)) }
+        (HasLongContent words.now definition.old) (LacksWords texts words.now definition.old)
+        (is_text texts definition.old ≡ true)) }
+{
+    if texts && definition.name_start == TEXT {
+        include(pp, words, definition)
+    } else {
+        add(pp, words, definition)
+    }
+}
+
+// Includes a text.
+fn include<'a>(
+    pp: &mut Preprocessor<'a>,
+    words: &'a str,
+    definition: &mut Definition,
+) -> Result<(), Refusal>
+    requires { is_text true definition.old ≡ true }
+    ensures added { OnOk result (AddsOne true words.now definition.old definition.new pp.old pp.new) }
+    ensures fits { OnOk result (CanEnter true words.now definition.old) }
+    ensures err { IfErr result (λ refusal. IsAddingRefusal refusal
+        (HasLongContent words.now definition.old) (LacksWords true words.now definition.old) ⊤) }
+{
+    let text = part(words, definition.content_start, definition.content_length)?;
+    if text.len() >= LIMIT {
+        return Err(Refusal::TooLong);
+    }
+    match pp.include(text) {
+        Ok(()) => {
+            answer(definition, 0, Location::default());
+            Ok(())
+        }
+        Err(IncludeError::TooDeep) => Err(Refusal::TooDeep),
+        Err(IncludeError::TooLong | IncludeError::OutOfMemory) => Err(Refusal::OutOfMemory),
+    }
+}
+
+// Adds a definition.
+fn add(pp: &mut Preprocessor<'_>, words: &str, definition: &mut Definition) -> Result<(), Refusal>
+    ensures added { OnOk result (AddsOne false words.now definition.old definition.new pp.old pp.new) }
+    ensures fits { OnOk result (CanEnter false words.now definition.old) }
+    ensures err { IfErr result (λ refusal. IsAddingRefusal refusal
+        (HasLongContent words.now definition.old) (LacksWords false words.now definition.old) ⊥) }
 {
     let name = part(words, definition.name_start, definition.name_length)?;
     let content = part(words, definition.content_start, definition.content_length)?;

@@ -30,11 +30,12 @@ pub struct Item {
     pub value: u64,
 }
 
-/// A definition. Its name and its content lie in `words`.
+/// A definition. Its name and its content lie in `words`. In a call that takes texts it may also be one: then its
+/// content is the text, and its name begins at 2^64 - 1.
 #[repr(C)]
 #[derive(Clone, Copy)]
 pub struct Definition {
-    /// The byte offset of the name in `words`.
+    /// The byte offset of the name in `words`, or 2^64 - 1 if it is a text.
     pub name_start: u64,
     /// The number of bytes of the name.
     pub name_length: u64,
@@ -97,6 +98,8 @@ pub(crate) enum Kind {
     NewLine,
     /// A `#`. Only the lexer gives it.
     Hash,
+    /// The rest of an `#include` line that asks for its text.
+    IncludeLine,
 }
 
 /// The number of the first punctuator. The others follow in the order of `Punct`.

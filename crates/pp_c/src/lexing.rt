@@ -25,6 +25,7 @@ pub(crate) fn lex(alloc: Global, source: &[u8], output: &mut Output<'_>) -> Resu
     ensures too_long { (result ≡ Err Refusal.TooLong) ↔ (2 ^ 32 - 1 ≤ length source.now) }
     ensures no_definition { result ≢ Err Refusal.BadDefinition }
     ensures no_budget { result ≢ Err Refusal.OverBudget }
+    ensures no_texts { result ≢ Err Refusal.TooDeep }
 {
     if source.len() >= LIMIT {
         return Err(Refusal::TooLong);

@@ -3,13 +3,17 @@
 #![tactic(auto)]
 
 ghost use Rattle.std.specs.Prelude.{◌≡◌, ◌≢◌, ◌↔◌, ◌⊎◌, ◌<◌, ◌≤◌, ◌-◌, ◌^◌, false, map, length, None, IsUtf8, All};
-ghost use Rattle.std.specs.Prelude.{Any};
+ghost use Rattle.std.specs.Prelude.{Any, IsTrue, true};
 ghost use Rattle.pp_rs.specs.Positions.{line_column};
-ghost use Rattle.pp_c.specs.Calls.{answered, answered_by, Fits, HasLongContent, LiesOutside};
+ghost use Rattle.pp_c.specs.Calls.{answered, answered_by, answered_in, is_text, CanEnter, Fits, HasLongContent};
+ghost use Rattle.pp_c.specs.Calls.{LacksWords, LiesOutside};
 ghost use Rattle.pp_c.specs.Ends.{HasRoom};
 ghost use Rattle.pp_c.specs.Lexing.{lexer_entries};
-ghost use Rattle.pp_c.specs.Options.{AreOptions, rules_in};
-ghost use Rattle.pp_c.specs.Preprocessed.{AreWritten, AnswersBy, HasItems, Preprocesses, PreprocessesWith};
+ghost use Rattle.pp_c.specs.Options.{AreOptions, asking_rules_in, rules_in};
+ghost use Rattle.pp_c.specs.Preprocessed.{AreWritten, HasAskedItems, HasItems, Includes, Preprocesses};
+ghost use Rattle.pp_c.specs.Preprocessed.{PreprocessesWith};
+ghost use Rattle.pp_c.specs.inner.Making.{Answers};
+ghost use Rattle.pp_c.specs.inner.Settings.{takes_texts};
 
 mod definitions;
 mod faults;
@@ -30,7 +34,7 @@ use options::Setting;
 use output::Output;
 use pp_rs::lexer::line_column;
 use preprocessing::preprocess;
-use status::{Status, status_after};
+use status::{End, Status, status_after};
 use std::alloc::Global;
 use std::str;
 
@@ -45,7 +49,7 @@ fn room_of(items: &[Item], texts: &[u8]) -> Sizes
     }
 }
 
-// Does what `pp_preprocess_with` does, for what its options ask for.
+// Gives the items of a source in the caller's memory, those that the setting asks for.
 fn answer(
     alloc: Global,
     setting: Setting,
@@ -54,29 +58,42 @@ fn answer(
     definitions: &mut [Definition],
     items: &mut [Item],
     texts: &mut [u8],
+    numbers: &mut [u32],
     sizes: &mut Sizes,
 ) -> u32
-    requires { setting.rules.asks_includes ≡ false }
-    ensures answer { result < 8 }
-    ensures given { HasItems result → AnswersBy setting.rules setting.most_items result source.now words.now
+    requires { setting.most_items ≡ None → setting.passes ≡ None }
+    ensures answer { (result < 8) ⊎ (IsTrue (takes_texts setting) × ((result ≡ 9) ⊎ (result ≡ 10))) }
+    ensures given { HasAskedItems result → Answers setting result source.now words.now
         definitions.old items.old items.new texts.old texts.new sizes.new }
-    ensures answered { HasItems result
-        → definitions.new ≡ map (answered_by setting.rules words.now) definitions.old }
-    ensures room { (result ≡ 0) ⊎ (result ≡ 7) → HasRoom (length items.old) (length texts.old) sizes.new }
+    ensures answered { HasAskedItems result
+        → definitions.new ≡ map (answered_in (takes_texts setting) setting.rules words.now) definitions.old }
+    ensures room { (result ≡ 0) ⊎ (result ≡ 7) ⊎ (result ≡ 9)
+        → HasRoom (length items.old) (length texts.old) sizes.new }
     ensures too_small { result ≡ 1 → ¬ (HasRoom (length items.old) (length texts.old) sizes.new) }
-    ensures text { HasItems result → IsUtf8 source.now × IsUtf8 words.now }
-    ensures fit { HasItems result → All (Fits words.now) definitions.old }
+    ensures text { HasAskedItems result → IsUtf8 source.now × IsUtf8 words.now }
+    ensures fit { HasAskedItems result → All (CanEnter (takes_texts setting) words.now) definitions.old }
     ensures not_utf8 { (result ≡ 2)
         ↔ ((length source.now < 2 ^ 32 - 1) × ¬ (IsUtf8 source.now × IsUtf8 words.now)) }
     ensures long_source { 2 ^ 32 - 1 ≤ length source.now → result ≡ 3 }
     ensures too_long { result ≡ 3
         → (2 ^ 32 - 1 ≤ length source.now) ⊎ Any (HasLongContent words.now) definitions.old }
-    ensures bad_definition { result ≡ 4 → Any (LiesOutside words.now) definitions.old }
+    ensures bad_definition { result ≡ 4
+        → Any (LacksWords (takes_texts setting) words.now) definitions.old }
     ensures over_budget { result ≡ 6 → setting.budget ≢ None }
+    ensures too_deep { result ≡ 10
+        → Any (λ definition. is_text (takes_texts setting) definition ≡ true) definitions.old }
 {
     let room = room_of(items, texts);
     let mut output = Output::new(items, texts);
-    let end = preprocess(alloc, setting, source, words, definitions, &mut output);
+    let end = preprocess(
+        alloc,
+        setting,
+        source,
+        words,
+        definitions,
+        numbers,
+        &mut output,
+    );
     let wanted = output.sizes();
     *sizes = wanted;
     status_after(end, wanted, room) as u32
@@ -126,6 +143,7 @@ pub extern "C" fn pp_preprocess(
         definitions,
         items,
         texts,
+        &mut [],
         sizes,
     )
 }
@@ -184,6 +202,69 @@ pub extern "C" fn pp_preprocess_with(
         definitions,
         items,
         texts,
+        &mut [],
+        sizes,
+    )
+}
+
+/// Does what [`pp_preprocess_with`] does, by rules that ask for the text of each `#include` line, which the caller hands
+/// in.
+///
+/// The call stops after such a line, once it has passed `lines` others: the status is `PP_INCLUDE`, and the last item is
+/// the error `PP_UNKNOWN_DIRECTIVE`, which holds the rest of the line. The caller calls again with one more line passed.
+/// To include a text it adds to `definitions` one whose name begins at 2^64 - 1, whose content is the text, and whose
+/// number of items is that of the items so far. Without it reading goes on after the line.
+///
+/// A text that would be inside of 200 others isn't included, and the status is `PP_TOO_DEEP`.
+///
+/// At the place of each item in `items` its text's number is written into `numbers`, if there is room: 0 is `source`, and
+/// each definition that is added and each text has the next number. With `most_items` of 0 the call stops after 2^64 - 1
+/// items.
+#[unsafe(no_mangle)]
+pub extern "C" fn pp_preprocess_including(
+    alloc: Global,
+    options: &Options,
+    lines: u64,
+    source: &[u8],
+    words: &[u8],
+    definitions: &mut [Definition],
+    items: &mut [Item],
+    texts: &mut [u8],
+    numbers: &mut [u32],
+    sizes: &mut Sizes,
+) -> u32
+    ensures answer { result < 11 }
+    ensures bad_options { (result ≡ 8) ↔ ¬ (AreOptions options.now) }
+    ensures given { HasAskedItems result → Includes options.now lines result source.now words.now
+        definitions.old items.old items.new texts.old texts.new sizes.new }
+    ensures answered { HasAskedItems result
+        → definitions.new ≡ map (answered_in true (asking_rules_in options.now) words.now) definitions.old }
+    ensures room { (result ≡ 0) ⊎ (result ≡ 7) ⊎ (result ≡ 9)
+        → HasRoom (length items.old) (length texts.old) sizes.new }
+    ensures too_small { result ≡ 1 → ¬ (HasRoom (length items.old) (length texts.old) sizes.new) }
+    ensures text { HasAskedItems result → IsUtf8 source.now × IsUtf8 words.now }
+    ensures fit { HasAskedItems result → All (CanEnter true words.now) definitions.old }
+    ensures not_utf8 { AreOptions options.now → ((result ≡ 2)
+        ↔ ((length source.now < 2 ^ 32 - 1) × ¬ (IsUtf8 source.now × IsUtf8 words.now))) }
+    ensures long_source { AreOptions options.now → 2 ^ 32 - 1 ≤ length source.now → result ≡ 3 }
+    ensures too_long { result ≡ 3
+        → (2 ^ 32 - 1 ≤ length source.now) ⊎ Any (HasLongContent words.now) definitions.old }
+    ensures bad_definition { result ≡ 4 → Any (LacksWords true words.now) definitions.old }
+    ensures over_budget { result ≡ 6 → options.now.budget ≢ 0 }
+    ensures too_deep { result ≡ 10 → Any (λ definition. is_text true definition ≡ true) definitions.old }
+{
+    let Some(setting) = options.asking_setting(lines) else {
+        return Status::BadOptions as u32;
+    };
+    answer(
+        alloc,
+        setting,
+        source,
+        words,
+        definitions,
+        items,
+        texts,
+        numbers,
         sizes,
     )
 }
@@ -213,7 +294,7 @@ pub extern "C" fn pp_lex(
     let end = lex(alloc, source, &mut output);
     let wanted = output.sizes();
     *sizes = wanted;
-    status_after(end.and(Ok(true)), wanted, room) as u32
+    status_after(end.and(Ok(End::All)), wanted, room) as u32
 }
 
 /// Says on which line and in which column a byte of `source` is.
@@ -246,7 +327,7 @@ pub extern "C" fn pp_line_column(source: &[u8], offset: u64, position: &mut Posi
 /// Returns the version of this library's interface, `PP_API_VERSION` of its header.
 #[unsafe(no_mangle)]
 pub extern "C" fn pp_version() -> u32
-    ensures { result ≡ 1 }
+    ensures { result ≡ 2 }
 {
-    1
+    2
 }

@@ -1,8 +1,8 @@
 //! How a caller in C wants a source to be preprocessed.
 
-ghost use Rattle.std.specs.Prelude.{◌≡◌, IfSome, None, false};
-ghost use Rattle.pp_c.specs.Options.{AreOptions, rules_numbered, unless_zero};
-ghost use Rattle.pp_c.specs.inner.Settings.{setting_in};
+ghost use Rattle.std.specs.Prelude.{◌≡◌, IfSome, None};
+ghost use Rattle.pp_c.specs.Options.{AreOptions, rules_numbered, unless_zero, all_unless_zero};
+ghost use Rattle.pp_c.specs.inner.Settings.{setting_in, asking_setting};
 
 use pp_rs::rules::{Profile, Rules};
 
@@ -35,6 +35,8 @@ pub(crate) struct Setting {
     pub(crate) budget: Option<u64>,
     /// After how many items to stop, if not at the end.
     pub(crate) most_items: Option<u64>,
+    /// How many `#include` lines to pass before the one to stop at, if they ask for texts.
+    pub(crate) passes: Option<u64>,
 }
 
 impl Setting {
@@ -43,6 +45,7 @@ impl Setting {
         rules: Rules::PP_RS,
         budget: None,
         most_items: None,
+        passes: None,
     };
 }
 
@@ -51,7 +54,6 @@ impl Options {
     pub(crate) fn setting(&self) -> Option<Setting>
         ensures known { IfSome result (λ setting. AreOptions self.now × (setting ≡ setting_in self.now)) }
         ensures unknown { result ≡ None → ¬ (AreOptions self.now) }
-        ensures quiet { IfSome result (λ setting. setting.rules.asks_includes ≡ false) }
     {
         if self.size != SIZE || self.rules > 3 {
             return None;
@@ -60,14 +62,29 @@ impl Options {
             rules: rules_numbered(self.rules, self.version),
             budget: unless_zero(self.budget),
             most_items: unless_zero(self.most_items),
+            passes: None,
+        })
+    }
+
+    /// What they ask for in a call that asks for texts and stops after so many lines.
+    pub(crate) fn asking_setting(&self, passes: u64) -> Option<Setting>
+        ensures known { IfSome result (λ setting.
+            AreOptions self.now × (setting ≡ asking_setting self.now passes)) }
+        ensures unknown { result ≡ None → ¬ (AreOptions self.now) }
+    {
+        let setting = self.setting()?;
+        Some(Setting {
+            rules: setting.rules.with_includes(),
+            budget: setting.budget,
+            most_items: Some(most_asking(self.most_items)),
+            passes: Some(passes),
         })
     }
 }
 
 // The rules with this number.
 fn rules_numbered(number: u32, version: u32) -> Rules
-    ensures rules { result ≡ rules_numbered number version }
-    ensures quiet { result.asks_includes ≡ false }
+    ensures { result ≡ rules_numbered number version }
 {
     match number {
         1 => Rules::glsl(version as u64, Profile::Core),
@@ -82,4 +99,15 @@ fn unless_zero(count: u64) -> Option<u64>
     ensures { result ≡ unless_zero count }
 {
     if count == 0 { None } else { Some(count) }
+}
+
+// After how many items a call that asks for texts stops.
+fn most_asking(most_items: u64) -> u64
+    ensures { result ≡ all_unless_zero most_items }
+{
+    if most_items == 0 {
+        u64::MAX
+    } else {
+        most_items
+    }
 }

@@ -2,6 +2,7 @@
 
 ghost use Rattle.std.specs.Prelude.{◌≡◌, ◌↔◌, ◌⊎◌, ◌<◌, ◌≤◌, ◌-◌, ◌^◌, ◌∷◌, [], true, false, map, length};
 ghost use Rattle.std.specs.Prelude.{◌≢◌, Option, None, IsOk, OnOk, IfOk, IfErr, IsTrue, IsUtf8, All, Any, Some};
+ghost use Rattle.std.specs.Prelude.{◌+◌, is_some};
 ghost use Rattle.pp_macros.specs.Item.{is_out_of_memory};
 ghost use Rattle.pp_rs.specs.Preprocessing.{is_refusal};
 ghost use Rattle.pp_rs.specs.TokenRefs.{value_of};
@@ -9,51 +10,58 @@ ghost use Rattle.pp_c.specs.Preprocessed.{given_entries};
 ghost use Rattle.pp_rs.specs.Preorder.{preorder, inner, leaf_of};
 ghost use Rattle.pp_rs.specs.TokenValue.{is_ordinary};
 ghost use Rattle.pp_rs.specs.Kept.{is_spent, most_items, rules_of};
-ghost use Rattle.pp_c.specs.Calls.{answered_by, Fits, HasLongContent, LiesOutside};
+ghost use Rattle.pp_c.specs.Calls.{answered_in, is_text, CanEnter, HasLongContent, LacksWords};
 ghost use Rattle.pp_c.specs.Entries.{in_32_bits};
-ghost use Rattle.pp_c.specs.Tokens.{item_at, leaf_entry, token_entries, error_entries};
+ghost use Rattle.pp_c.specs.Tokens.{item_at, leaf_entry, token_entries, error_entries, asking_entries};
 ghost use Rattle.pp_c.specs.inner.Kinds.{kind_number};
 ghost use Rattle.pp_c.specs.inner.Refusing.{IsAddingRefusal, IsRefusalWithin};
 ghost use Rattle.pp_c.specs.inner.Making.{given_of, NextIsWritten, IsUntil, GoesOn, HasRest, HasAll, Gives};
-ghost use Rattle.pp_c.specs.inner.Making.{up_to};
+ghost use Rattle.pp_c.specs.inner.Making.{up_to, taken, is_front};
+ghost use Rattle.pp_c.specs.inner.Settings.{takes_texts};
 ghost use Rattle.pp_c.specs.inner.Taking.{Takes};
 
-use crate::definitions::{LIMIT, add};
+use crate::definitions::{LIMIT, enter};
 use crate::items::{
     COMMENTS_BEFORE, Definition, FIRST_DIRECTIVE, Item, Kind, NON_DIRECTIVE_BEFORE, bit_if,
 };
 use crate::options::Setting;
 use crate::output::Output;
-use crate::status::Refusal;
+use crate::status::{End, Refusal};
 use crate::words::{give_error, give_float, give_integer, give_name, give_punctuator, item_at};
+use pp_macros::step::is_out_of_memory;
 use pp_rs::pp::{Preprocessor, PreprocessorItem, TokenRef, TokenSink, ValueRef};
 use pp_rs::token::{Location, PreprocessorError, Token, TokenValue};
 use std::alloc::{AllocError, Global};
 use std::str;
 
-/// Gives the items of a source, with the definitions added at their numbers. Returns whether the end was reached.
+/// Gives the items of a source, with the definitions added and the texts included at their numbers. Returns where they
+/// end.
 pub(crate) fn preprocess(
     alloc: Global,
     setting: Setting,
     source: &[u8],
     words: &[u8],
     definitions: &mut [Definition],
+    numbers: &mut [u32],
     output: &mut Output<'_>,
-) -> Result<bool, Refusal>
-    requires { setting.rules.asks_includes ≡ false }
-    ensures given { IfOk result (λ has_ended.
-        Gives setting has_ended source.now words.now definitions.old output.old output.new) }
-    ensures answered { OnOk result (definitions.new ≡ map (answered_by setting.rules words.now) definitions.old) }
+) -> Result<End, Refusal>
+    requires { setting.most_items ≡ None → setting.passes ≡ None }
+    ensures given { IfOk result (λ end.
+        Gives setting end source.now words.now definitions.old output.old output.new) }
+    ensures answered { OnOk result (definitions.new
+        ≡ map (answered_in (takes_texts setting) setting.rules words.now) definitions.old) }
     ensures text { IsOk result → IsUtf8 source.now × IsUtf8 words.now }
-    ensures fit { IsOk result → All (Fits words.now) definitions.old }
+    ensures fit { IsOk result → All (CanEnter (takes_texts setting) words.now) definitions.old }
     ensures not_utf8 { (result ≡ Err Refusal.NotUtf8)
         ↔ ((length source.now < 2 ^ 32 - 1) × ¬ (IsUtf8 source.now × IsUtf8 words.now)) }
     ensures long_source { 2 ^ 32 - 1 ≤ length source.now → result ≡ Err Refusal.TooLong }
     ensures too_long { result ≡ Err Refusal.TooLong
         → (2 ^ 32 - 1 ≤ length source.now) ⊎ Any (HasLongContent words.now) definitions.old }
     ensures bad_definition { result ≡ Err Refusal.BadDefinition
-        → Any (LiesOutside words.now) definitions.old }
+        → Any (LacksWords (takes_texts setting) words.now) definitions.old }
     ensures over_budget { result ≡ Err Refusal.OverBudget → setting.budget ≢ None }
+    ensures too_deep { result ≡ Err Refusal.TooDeep
+        → Any (λ definition. is_text (takes_texts setting) definition ≡ true) definitions.old }
 {
     if source.len() >= LIMIT {
         return Err(Refusal::TooLong);
@@ -62,31 +70,35 @@ pub(crate) fn preprocess(
         return Err(Refusal::NotUtf8);
     };
     let mut pp = Preprocessor::with_rules(alloc, source, setting.rules);
-    let end = give_within(&mut pp, setting, words, definitions, output);
+    let end = give_within(&mut pp, setting, words, definitions, numbers, output);
     drop(pp);
     end
 }
 
-// Gives the items within the budget. Returns whether the end was reached.
-fn give_within(
-    pp: &mut Preprocessor<'_>,
+// Gives the items within the budget. Returns where they end.
+fn give_within<'a>(
+    pp: &mut Preprocessor<'a>,
     setting: Setting,
-    words: &str,
+    words: &'a str,
     definitions: &mut [Definition],
+    numbers: &mut [u32],
     output: &mut Output<'_>,
-) -> Result<bool, Refusal>
-    requires { is_spent pp.old ≡ false }
-    ensures given { IfOk result (λ has_ended. HasAll setting.most_items has_ended pp.old output.old
+) -> Result<End, Refusal>
+    requires unspent { is_spent pp.old ≡ false }
+    requires bounded { setting.most_items ≡ None → setting.passes ≡ None }
+    ensures given { IfOk result (λ end. HasAll setting end pp.old output.old
         words.now definitions.old pp.new output.new) }
     ensures answered { OnOk result (definitions.new
-        ≡ map (answered_by (rules_of pp.old) words.now) definitions.old) }
-    ensures fit { OnOk result (All (Fits words.now) definitions.old) }
+        ≡ map (answered_in (takes_texts setting) (rules_of pp.old) words.now) definitions.old) }
+    ensures fit { OnOk result (All (CanEnter (takes_texts setting) words.now) definitions.old) }
     ensures err { IfErr result (λ refusal. IsRefusalWithin setting.budget refusal
-        (Any (HasLongContent words.now) definitions.old) (Any (LiesOutside words.now) definitions.old)) }
+        (Any (HasLongContent words.now) definitions.old)
+        (Any (LacksWords (takes_texts setting) words.now) definitions.old)
+        (Any (λ definition. is_text (takes_texts setting) definition ≡ true) definitions.old)) }
     ensures spent { result ≡ Err Refusal.OverBudget → is_spent pp.new ≡ true }
 {
     set_budget(pp, setting.budget)?;
-    match give_all(pp, setting.most_items, words, definitions, output) {
+    match give_all(pp, setting, words, definitions, numbers, output) {
         Err(Refusal::OutOfMemory) if setting.budget.is_some() && pp.is_over_budget() => {
             Err(Refusal::OverBudget)
         }
@@ -107,45 +119,71 @@ fn set_budget(pp: &mut Preprocessor<'_>, budget: Option<u64>) -> Result<(), Allo
     }
 }
 
-// How many items were given so far, and whether the end was reached.
+// How far a call has got.
 #[derive(Clone, Copy)]
 struct Progress {
+    // How many items were given.
     given: u64,
-    has_ended: bool,
+    // How many `#include` lines that ask for texts may still be passed, if they are counted.
+    passes: Option<u64>,
+    // Where the items end, if they do so far.
+    end: End,
 }
 
-// Gives the items, `most` or all, with the definitions added at their numbers. Returns whether the end was reached.
-fn give_all(
-    pp: &mut Preprocessor<'_>,
-    most: Option<u64>,
-    words: &str,
+impl Progress {
+    // Counts an item, which asks for a text or not.
+    fn take(&mut self, asks: bool)
+        requires { self.old.given + 1 < 2 ^ 64 }
+        ensures { self.new ≡ taken asks self.old }
+    {
+        self.given += 1;
+        match self.passes {
+            Some(0) if asks => self.end = End::Include,
+            Some(lines) if asks => self.passes = Some(lines - 1),
+            _ => {}
+        }
+    }
+}
+
+// Gives the items, those that are asked for or all, with the definitions added and the texts included at their numbers.
+// Returns where they end.
+fn give_all<'a>(
+    pp: &mut Preprocessor<'a>,
+    setting: Setting,
+    words: &'a str,
     definitions: &mut [Definition],
+    numbers: &mut [u32],
     output: &mut Output<'_>,
-) -> Result<bool, Refusal>
-    requires { is_spent pp.old ≡ false }
-    ensures given { IfOk result (λ has_ended. HasAll most has_ended pp.old output.old
+) -> Result<End, Refusal>
+    requires unspent { is_spent pp.old ≡ false }
+    requires bounded { setting.most_items ≡ None → setting.passes ≡ None }
+    ensures given { IfOk result (λ end. HasAll setting end pp.old output.old
         words.now definitions.old pp.new output.new) }
     ensures answered { OnOk result (definitions.new
-        ≡ map (answered_by (rules_of pp.old) words.now) definitions.old) }
-    ensures fit { OnOk result (All (Fits words.now) definitions.old) }
+        ≡ map (answered_in (takes_texts setting) (rules_of pp.old) words.now) definitions.old) }
+    ensures fit { OnOk result (All (CanEnter (takes_texts setting) words.now) definitions.old) }
     ensures err { IfErr result (λ refusal. IsAddingRefusal refusal
-        (Any (HasLongContent words.now) definitions.old) (Any (LiesOutside words.now) definitions.old)) }
+        (Any (HasLongContent words.now) definitions.old)
+        (Any (LacksWords (takes_texts setting) words.now) definitions.old)
+        (Any (λ definition. is_text (takes_texts setting) definition ≡ true) definitions.old)) }
 {
+    let texts = setting.passes.is_some();
     let mut progress = Progress {
         given: 0,
-        has_ended: false,
+        passes: setting.passes,
+        end: End::Front,
     };
     for i in 0..definitions.len() {
-        let after = up_to(most, definitions[i].after);
-        give_until(pp, after, &mut progress, output)?;
-        add(pp, words, &mut definitions[i])?;
+        let after = up_to(setting.most_items, definitions[i].after);
+        give_until(pp, after, &mut progress, numbers, output)?;
+        enter(pp, texts, words, &mut definitions[i])?;
     }
-    let Some(most) = most else {
+    let Some(most) = setting.most_items else {
         give_rest(pp, progress, output)?;
-        return Ok(true);
+        return Ok(End::All);
     };
-    give_until(pp, most, &mut progress, output)?;
-    Ok(progress.has_ended)
+    give_until(pp, most, &mut progress, numbers, output)?;
+    Ok(progress.end)
 }
 
 // The smaller of both, if there are two.
@@ -158,11 +196,12 @@ fn up_to(most: Option<u64>, count: u64) -> u64
     }
 }
 
-// Gives items until `count` items were given, or to the end.
+// Gives items until `count` items were given, or up to the end or to a line that asks for a text.
 fn give_until(
     pp: &mut Preprocessor<'_>,
     count: u64,
     progress: &mut Progress,
+    numbers: &mut [u32],
     output: &mut Output<'_>,
 ) -> Result<(), AllocError>
     requires { is_spent pp.old ≡ false }
@@ -170,11 +209,10 @@ fn give_until(
     ensures until { OnOk result (IsUntil count progress.old progress.new) }
     ensures given { OnOk result (GoesOn pp.old output.old progress.old pp.new output.new progress.new) }
 {
-    'items: while !progress.has_ended && progress.given < count {
-        if give_next(pp, output)? {
-            progress.given += 1;
-        } else {
-            progress.has_ended = true;
+    'items: while progress.end.is_front() && progress.given < count {
+        match give_next(pp, numbers, output)? {
+            Some(asks) => progress.take(asks),
+            None => progress.end = End::All,
         }
     }
     Ok(())
@@ -189,26 +227,40 @@ fn give_rest(
     requires { is_spent pp.old ≡ false }
     ensures { OnOk result (HasRest progress pp.old output.old pp.new output.new) }
 {
-    if progress.has_ended {
+    if !progress.end.is_front() {
         return Ok(());
     }
     'items: while let Some(item) = pp.give_tokens(output) {
-        give_item(item, pp.place(), output)?;
+        give_item(item, pp.place(), pp.include_line(), output)?;
     }
     Ok(())
 }
 
-// Gives the next item, if there is one.
-fn give_next(pp: &mut Preprocessor<'_>, output: &mut Output<'_>) -> Result<bool, AllocError>
+// Gives the next item, if there is one, and the number of the text in which it is. Returns whether it asks for a text.
+fn give_next(
+    pp: &mut Preprocessor<'_>,
+    numbers: &mut [u32],
+    output: &mut Output<'_>,
+) -> Result<Option<bool>, AllocError>
     requires { is_spent pp.old ≡ false }
     ensures given { IfOk result (λ more. NextIsWritten pp.old pp.new output.old output.new more) }
-    ensures less { IfOk result (λ more. more ≡ true → most_items pp.new < most_items pp.old) }
+    ensures less { IfOk result (λ more. is_some more ≡ true → most_items pp.new < most_items pp.old) }
 {
     let Some(item) = pp.next() else {
-        return Ok(false);
+        return Ok(None);
     };
-    give_item(item, pp.place(), output)?;
-    Ok(true)
+    let first = output.sizes().items;
+    let asked = pp.include_line();
+    give_item(item, pp.place(), asked, output)?;
+    number(numbers, first, output.sizes().items, pp.origin().text);
+    Ok(Some(asked.is_some()))
+}
+
+// Writes the number of a text at the items from `first` up to `end`, if there is room.
+fn number(numbers: &mut [u32], first: u64, end: u64, text: u32) {
+    for i in first as usize..numbers.len().min(end as usize) {
+        numbers[i] = text;
+    }
 }
 
 impl TokenSink for Output<'_> {
@@ -236,13 +288,14 @@ fn give_ordinary(place: Location, value: ValueRef<'_>, output: &mut Output<'_>)
     }
 }
 
-// Gives an item. `place` is its true place, if it is an error.
+// Gives an item. If it is an error, `place` is its true place, and `asked` the rest of its line, if it asks for a text.
 fn give_item(
     item: PreprocessorItem,
     place: Location,
+    asked: Option<Location>,
     output: &mut Output<'_>,
 ) -> Result<(), AllocError>
-    ensures given { OnOk result (Takes output.old (given_entries (given_of item place)) output.new) }
+    ensures given { OnOk result (Takes output.old (given_entries (given_of item place asked)) output.new) }
     ensures reported { OnOk result (is_refusal (Some item) ≡ false) }
 {
     match item {
@@ -250,8 +303,31 @@ fn give_item(
             give_value(token.location, &token.value, output);
             Ok(())
         }
-        Err((error, location)) => give_fault(&error, location, place, output),
+        Err((error, location)) => match asked {
+            Some(rest) => give_include_line(&error, location, place, rest, output),
+            None => give_fault(&error, location, place, output),
+        },
     }
+}
+
+// Gives an error with its place and the rest of its line, which asks for a text.
+fn give_include_line(
+    error: &PreprocessorError,
+    location: Location,
+    place: Location,
+    rest: Location,
+    output: &mut Output<'_>,
+) -> Result<(), AllocError>
+    ensures given { OnOk result
+        (Takes output.old (asking_entries error.now location place rest) output.new) }
+    ensures reported { OnOk result (is_out_of_memory error.now ≡ false) }
+{
+    if is_out_of_memory(error) {
+        return Err(AllocError);
+    }
+    give_error(error, location, place, 1, output);
+    output.take(item_at(rest, Kind::IncludeLine, 0));
+    Ok(())
 }
 
 // Gives an error, with its place and the token that it carries.

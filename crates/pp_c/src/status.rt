@@ -1,7 +1,8 @@
 //! How a call ends.
 
-ghost use Rattle.std.specs.Prelude.{◌≡◌, ◌≢◌, ◌⊎◌, ◌↔◌, true, false, IsOk};
+ghost use Rattle.std.specs.Prelude.{◌≡◌, ◌≢◌, ◌⊎◌, ◌↔◌, IsOk};
 ghost use Rattle.pp_c.specs.Ends.{HasRoom};
+ghost use Rattle.pp_c.specs.inner.Making.{is_front};
 
 use crate::items::Sizes;
 use std::alloc::AllocError;
@@ -27,6 +28,30 @@ pub(crate) enum Status {
     Partial,
     /// This library doesn't know the options.
     BadOptions,
+    /// The last item is an `#include` line that asks for its text.
+    Include,
+    /// A text is inside of too many others.
+    TooDeep,
+}
+
+/// Where the items of a call end.
+#[derive(Clone, Copy)]
+pub(crate) enum End {
+    /// With the source's.
+    All,
+    /// Before the source's.
+    Front,
+    /// With an `#include` line that asks for its text.
+    Include,
+}
+
+impl End {
+    /// Whether the items don't end yet.
+    pub(crate) fn is_front(self) -> bool
+        ensures { result ≡ is_front self }
+    {
+        matches!(self, End::Front)
+    }
 }
 
 /// Why a call can't give the items.
@@ -37,6 +62,7 @@ pub(crate) enum Refusal {
     BadDefinition,
     OutOfMemory,
     OverBudget,
+    TooDeep,
 }
 
 impl From<AllocError> for Refusal {
@@ -50,32 +76,34 @@ impl From<AllocError> for Refusal {
     }
 }
 
-/// The status of a call, from whether its items ended with the source's, how much room they take and how much there is.
-pub(crate) fn status_after(end: Result<bool, Refusal>, sizes: Sizes, room: Sizes) -> Status
-    ensures done { result ≡ Status.Done → end ≡ Ok true }
-    ensures partial { result ≡ Status.Partial → end ≡ Ok false }
+/// The status of a call, from where its items end, how much room they take and how much there is.
+pub(crate) fn status_after(end: Result<End, Refusal>, sizes: Sizes, room: Sizes) -> Status
+    ensures done { result ≡ Status.Done → end ≡ Ok End.All }
+    ensures partial { result ≡ Status.Partial → end ≡ Ok End.Front }
+    ensures asking { result ≡ Status.Include → end ≡ Ok End.Include }
     ensures too_small { result ≡ Status.TooSmall → IsOk end }
     ensures not_utf8 { (result ≡ Status.NotUtf8) ↔ (end ≡ Err Refusal.NotUtf8) }
     ensures too_long { (result ≡ Status.TooLong) ↔ (end ≡ Err Refusal.TooLong) }
     ensures bad_definition { (result ≡ Status.BadDefinition) ↔ (end ≡ Err Refusal.BadDefinition) }
     ensures over_budget { (result ≡ Status.OverBudget) ↔ (end ≡ Err Refusal.OverBudget) }
+    ensures too_deep { (result ≡ Status.TooDeep) ↔ (end ≡ Err Refusal.TooDeep) }
     ensures good_options { result ≢ Status.BadOptions }
-    ensures room { (result ≡ Status.Done) ⊎ (result ≡ Status.Partial) → HasRoom room.items room.texts sizes }
+    ensures room { (result ≡ Status.Done) ⊎ (result ≡ Status.Partial) ⊎ (result ≡ Status.Include)
+        → HasRoom room.items room.texts sizes }
     ensures no_room { result ≡ Status.TooSmall → ¬ (HasRoom room.items room.texts sizes) }
 {
     match end {
-        Ok(has_ended) if sizes.items <= room.items && sizes.texts <= room.texts => {
-            if has_ended {
-                Status::Done
-            } else {
-                Status::Partial
-            }
-        }
+        Ok(end) if sizes.items <= room.items && sizes.texts <= room.texts => match end {
+            End::All => Status::Done,
+            End::Front => Status::Partial,
+            End::Include => Status::Include,
+        },
         Ok(_) => Status::TooSmall,
         Err(Refusal::NotUtf8) => Status::NotUtf8,
         Err(Refusal::TooLong) => Status::TooLong,
         Err(Refusal::BadDefinition) => Status::BadDefinition,
         Err(Refusal::OutOfMemory) => Status::OutOfMemory,
         Err(Refusal::OverBudget) => Status::OverBudget,
+        Err(Refusal::TooDeep) => Status::TooDeep,
     }
 }

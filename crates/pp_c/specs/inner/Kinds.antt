@@ -2,7 +2,7 @@
 use Rattle.std.specs.Prelude.{ℕ}
 use Rattle.pp_c.specs.declared.items.Kind.{Kind}
 use Rattle.pp_c.specs.declared.items.Kind.TheVariants.{Error, Place, Ident, Integer, Float}
-use Rattle.pp_c.specs.declared.items.Kind.TheVariants.{Version, Extension, Pragma, NewLine, Hash}
+use Rattle.pp_c.specs.declared.items.Kind.TheVariants.{Version, Extension, Pragma, NewLine, Hash, IncludeLine}
 
 -- the number of a kind
 abbrev pub kind_number : Kind → ℕ
@@ -16,3 +16,4 @@ kind_number Extension = 6
 kind_number Pragma = 7
 kind_number NewLine = 8
 kind_number Hash = 9
+kind_number IncludeLine = 10

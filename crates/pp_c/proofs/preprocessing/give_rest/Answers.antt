@@ -1,6 +1,7 @@
-use Rattle.std.proofs.Common.{arith, refl, Some, None}
+use Rattle.std.proofs.Common.{◌∙◌, arith, refl, sym, Some, None}
 use Rattle.pp_c.proofs.NextLemmas.{next_item, next_end}
 use Rattle.pp_c.proofs.RestLemmas.{rest_none, rest_small, rest_given, rest_more, rest_end}
+use Rattle.pp_c.specs.Preprocessed.{asks}
 use Rattle.pp_c.specs.inner.Making.{given_of, IsSmall}
 use Rattle.pp_c.proofs.preprocessing.give_rest.Goals as goal
 
@@ -13,9 +14,10 @@ items-preserved c =
     let gives = c.in-Some.ensures in
     let given = c.in_ok-give_item.ensures {u = tt} in
     let before = rest_given c.args.pp.now c.args.output.now small _ _ c.items.invariant _ _ gives.given in
-    rest_more _ _ _ _ _ _ (rest_small _ _ small _ _ before) before (record {
-      answer = Some (given_of c.in-Some.item c.place.result);
-      gives = rw c.place.ensures (next_item _ _ before.unspent c.in-Some.item given.reported gives.next);
+    let item = given_of c.in-Some.item c.place.result c.include_line.result in
+    rest_more _ _ _ _ _ _ (rest_small _ _ small _ _ before) before (asks item) (record {
+      answer = Some item;
+      gives = rw (c.place.ensures, c.include_line.ensures) (next_item _ _ before.unspent c.in-Some.item given.reported gives.next);
       takes = rw (gives.sink given.reported) at given.given;
       is_more = refl;
     })
@@ -28,7 +30,7 @@ returns c =
     let small : IsSmall c.args.output.now = record { items = omega arith; texts = omega arith } in
     let gives = c.in_default.ensures in
     let before = rest_given c.args.pp.now c.args.output.now small _ _ c.items.invariant _ _ gives.given in
-    rest_end _ _ _ _ _ _ (rest_small _ _ small _ _ before) before c.args.progress c.if-progress.false (record {
+    rest_end _ _ _ _ _ _ (rest_small _ _ small _ _ before) before c.args.progress (sym c.is_front.ensures ∙ c.if-not-is_front.false) (record {
       answer = None;
       gives = next_end _ _ before.unspent gives.next;
       takes = gives.sink refl;
