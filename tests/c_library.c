@@ -552,7 +552,7 @@ static void check_nulls(void) {
         included &= pp_preprocess_including(&in.options, 0, (const uint8_t *)"#include", 8, some_words, 0, none, 0, items, MOST,
                                             no_texts, 0, no_numbers, 0, &sizes) == PP_INCLUDE && sizes.items == 3;
         lexed &= pp_lex(text, 0, no_items, 0, no_texts, 0, &sizes) == PP_DONE && sizes.items == 0;
-        lexed &= pp_lex((const uint8_t *)"a", 1, no_items, 0, no_texts, 0, &sizes) == PP_TOO_SMALL && sizes.items == 1;
+        lexed &= pp_lex((const uint8_t *)"a", 1, no_items, 0, no_texts, 0, &sizes) == PP_TOO_SMALL && sizes.items == 2;
         pp_position it = {0, 0};
         lexed &= pp_line_column(text, 0, nulls, &it) == PP_DONE && it.line == 1 && it.column == 1;
     }
