@@ -23,8 +23,9 @@ use crate::source::{NoItems, Source};
 use crate::token::{Location, PreprocessorError, Token};
 use std::fmt;
 
-// How many items are asked for first.
-const FIRST: u64 = 256;
+// How many items are made first, and how many times as many each time after that.
+const FIRST: u64 = 32;
+const MORE: u64 = 4;
 
 /// The profile of a version of GLSL.
 #[derive(Clone, Copy, PartialEq, Eq, Debug)]
@@ -127,7 +128,7 @@ impl std::error::Error for IncludeError {}
 /// A source as an iterator of its preprocessed tokens, which are made as they are read. It goes on after an error of the
 /// source.
 ///
-/// Some items are made at a time, each time twice as many as before, from the beginning of the source. An `add_define`
+/// Some items are made at a time, each time four times as many as before, from the beginning of the source. An `add_define`
 /// between items lets the next `next` begin anew too, and so does an [`include`](Reader::include): the items before it
 /// stay what they were.
 pub struct Reader<'a> {
@@ -245,7 +246,7 @@ impl<'a> Reader<'a> {
 
     // How many items to make.
     fn most(&self) -> u64 {
-        FIRST.max(2 * self.asked)
+        FIRST.max(MORE.saturating_mul(self.asked))
     }
 
     // The next of the items that were made, if there is one, or the end.
