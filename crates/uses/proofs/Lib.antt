@@ -9,3 +9,4 @@ pub mod Minified
 pub mod Texts
 pub mod OneVariant
 pub mod Pages
+pub mod Included

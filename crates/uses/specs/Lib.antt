@@ -3,3 +3,4 @@ pub mod Versions
 pub mod Minified
 pub mod Variants
 pub mod Pages
+pub mod Includes
