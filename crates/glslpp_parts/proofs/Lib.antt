@@ -2,6 +2,7 @@ pub mod ColumnsLemmas
 pub mod DecimalLemmas
 pub mod DefinitionsLemmas
 pub mod ExtensionsLemmas
+pub mod LineNamesLemmas
 pub mod OptionsLemmas
 pub mod PredefinedLemmas
 pub mod ReportsLemmas

@@ -1,6 +1,7 @@
 -- Columns: one more than the number of characters before a place on its line.
-use Rattle.std.specs.Prelude.{ℕ, Bool, ◌+◌, ◌&&◌, nat_lt, nat_le, if◌then◌else◌, List, [], ◌∷◌, take}
+use Rattle.std.specs.Prelude.{ℕ, Bool, ◌+◌, ◌&&◌, nat_eq, nat_lt, nat_le, if◌then◌else◌, List, [], ◌∷◌, take}
 use Rattle.pp_lexer.specs.Lines.{is_line_break}
+use Rattle.glslpp_parts.specs.Texts.{source_text}
 
 -- a byte of a character that isn't its first: 10xxxxxx in binary
 abbrev pub is_later_byte : ℕ → Bool
@@ -18,3 +19,9 @@ column_after column (b ∷ bs) = column_after (column_past column b) bs
 -- the column of a place in a text, this many bytes from its start
 abbrev pub column_at : List ℕ → ℕ → ℕ
 column_at text offset = column_after 1 (take offset text)
+
+-- Where columns are counted for a number of a text: in the source for the source's, in the last other text for that of
+-- this one, and else in a new text.
+abbrev pub counted_text : (source : List ℕ) (last : ℕ) (other : List ℕ) → ℕ → List ℕ → List ℕ
+counted_text source last other number text =
+    if nat_eq number source_text then source else if nat_eq number last then other else text

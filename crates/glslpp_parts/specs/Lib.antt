@@ -7,6 +7,7 @@ pub mod Extensions
 pub mod Failures
 pub mod Faults
 pub mod Layout
+pub mod LineNames
 pub mod Options
 pub mod Output
 pub mod Reading

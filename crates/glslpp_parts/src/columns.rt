@@ -2,7 +2,7 @@
 
 ghost use Rattle.std.specs.Prelude.{◌≡◌, ◌<◌, ◌≤◌, length};
 ghost use Rattle.pp_lexer.specs.Lines.{is_line_break};
-ghost use Rattle.glslpp_parts.specs.Columns.{column_past, column_at};
+ghost use Rattle.glslpp_parts.specs.Columns.{column_past, column_at, counted_text};
 
 use pp_rs::pp::SOURCE_TEXT;
 
@@ -87,7 +87,9 @@ pub(crate) struct ColumnsOfTexts<'a> {
 
 impl<'a> ColumnsOfTexts<'a> {
     /// Columns of a source in which no place was counted yet.
-    pub(crate) fn new(source: &'a str) -> ColumnsOfTexts<'a> {
+    pub(crate) fn new(source: &'a str) -> ColumnsOfTexts<'a>
+        ensures { result.source.text.now ≡ source.now }
+    {
         ColumnsOfTexts {
             source: Columns::new(source),
             number: SOURCE_TEXT,
@@ -96,7 +98,13 @@ impl<'a> ColumnsOfTexts<'a> {
     }
 
     /// The column of a byte offset, from 1, of the text with this number.
-    pub(crate) fn column(&mut self, number: u32, text: &'a str, offset: usize) -> usize {
+    pub(crate) fn column(&mut self, number: u32, text: &'a str, offset: usize) -> usize
+        ensures value { result ≡ column_at (counted_text self.old.source.text.now self.old.number
+            self.old.other.text.now number text.now) offset }
+        ensures source { self.new.source.text.now ≡ self.old.source.text.now }
+        ensures text { counted_text self.new.source.text.now self.new.number self.new.other.text.now number text.now
+            ≡ counted_text self.old.source.text.now self.old.number self.old.other.text.now number text.now }
+    {
         if number == SOURCE_TEXT {
             return self.source.column(offset);
         }

@@ -3,6 +3,11 @@
 //! The library reads a `#line` with numbers alone. So it is given a text with blanks in place of the names, of the same
 //! length. Where the lines of the output come from is printed with the names.
 
+ghost use Rattle.std.specs.Prelude.{◌≡◌, ◌++◌, OnOk, IfOk, IfSome, length, string_bytes};
+ghost use Rattle.std.proofs.Math.ListN.{replicate};
+ghost use Rattle.glslpp_parts.specs.LineNames.{IsBlanked};
+ghost use Rattle.glslpp_parts.specs.inner.Adding.{IsBlankedOnto};
+
 use crate::place::is_line_end;
 use std::alloc::{AllocError, Global};
 
@@ -18,26 +23,46 @@ pub struct LineMark<'a> {
 }
 
 /// Returns the text with blanks in place of the names of its `#line` lines, or `None` if it has none.
-pub fn without_names(alloc: Global, text: &str) -> Result<Option<String>, AllocError> {
+pub fn without_names(alloc: Global, text: &str) -> Result<Option<String>, AllocError>
+    ensures blanked { IfOk result (λ changed. IfSome changed (λ blanked. IsBlanked text.now (string_bytes blanked))) }
+    ensures length { IfOk result (λ changed. IfSome changed (λ blanked.
+        length (string_bytes blanked) ≡ length text.now)) }
+{
     if !may_have_names(text) {
         return Ok(None);
     }
     let mut blanked = String::new(alloc);
     let mut is_changed = false;
     for line in text.split_inclusive(is_line_end) {
-        match parts_of(line) {
-            Some((before, name, behind)) => {
-                is_changed = true;
-                blanked.push_str(before)?;
-                for _ in 0..name.len() {
-                    blanked.push(' ')?;
-                }
-                blanked.push_str(behind)?;
-            }
-            None => blanked.push_str(line)?,
-        }
+        is_changed |= push_without_name(&mut blanked, line)?;
     }
-    Ok(if is_changed { Some(blanked) } else { None })
+    if !is_changed {
+        return Ok(None);
+    }
+    Ok(Some(blanked))
+}
+
+// Appends a line with blanks in place of the name of its `#line`, and returns whether it has one.
+fn push_without_name(blanked: &mut String, line: &str) -> Result<bool, AllocError>
+    ensures { OnOk result (IsBlankedOnto line.now (string_bytes blanked.old) (string_bytes blanked.new)) }
+{
+    let Some((before, name, behind)) = parts_of(line) else {
+        blanked.push_str(line)?;
+        return Ok(false);
+    };
+    blanked.push_str(before)?;
+    push_blanks(blanked, name.len())?;
+    blanked.push_str(behind)?;
+    Ok(true)
+}
+
+fn push_blanks(text: &mut String, count: usize) -> Result<(), AllocError>
+    ensures { OnOk result (string_bytes text.new ≡ string_bytes text.old ++ replicate count 32) }
+{
+    for done in 0..count {
+        text.push(' ')?;
+    }
+    Ok(())
 }
 
 /// Returns the `#line` lines of a text, in its order, and none if no name is in them.
@@ -97,15 +122,18 @@ fn after_word(line: &str) -> Option<&str> {
 }
 
 // The line up to the name of its `#line`, the name in its quotes, and what follows.
-fn parts_of(line: &str) -> Option<(&str, &str, &str)> {
+fn parts_of(line: &str) -> Option<(&str, &str, &str)>
+    ensures { IfSome result (λ parts. line.now ≡ parts.0.now ++ parts.1.now ++ parts.2.now) }
+{
     let rest = after_word(line)?;
     let open = line
         .len()
         .saturating_sub(rest.len())
         .saturating_add(rest.find('"')?);
-    let inner = line.get(open.saturating_add(1)..)?;
-    let end = open.saturating_add(end_of_name(inner)?).saturating_add(2);
-    Some((line.get(..open)?, line.get(open..end)?, line.get(end..)?))
+    let (before, named) = line.split_at_checked(open)?;
+    let end = end_of_name(named.get(1..)?)?.saturating_add(2);
+    let (name, behind) = named.split_at_checked(end)?;
+    Some((before, name, behind))
 }
 
 // The byte offset of the `"` that ends a name. One after a backslash doesn't.
