@@ -6,6 +6,7 @@ mod files;
 mod foreign;
 mod including;
 mod preprocess;
+mod run;
 mod undefined;
 mod word_files;
 

@@ -1,7 +1,7 @@
 //! The search for names in conditions that are not defined, in a source and the files that it includes.
 
 use crate::including::{Answer, Library};
-use crate::preprocess::MOST_TEXTS;
+use crate::run::MOST_TEXTS;
 use glslpp_parts::extensions::define_extension;
 use glslpp_parts::failure::Failure;
 use glslpp_parts::include_line::Asked;
