@@ -1,0 +1,15 @@
+use Rattle.std.proofs.Common.{codes, refl}
+use Rattle.glslpp_html.proofs.Characters.{chars_same}
+use Rattle.glslpp_html.proofs.tag.Element.name.Goals as goal
+
+pub returns-in-Span : goal.returns-in-Span
+returns-in-Span c = rw (chars_same (codes "span") refl) refl
+
+pub returns-in-Code : goal.returns-in-Code
+returns-in-Code c = rw (chars_same (codes "code") refl) refl
+
+pub returns-in-Section : goal.returns-in-Section
+returns-in-Section c = rw (chars_same (codes "section") refl) refl
+
+pub returns-in-Heading : goal.returns-in-Heading
+returns-in-Heading c = rw (chars_same (codes "h2") refl) refl

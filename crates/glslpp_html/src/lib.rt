@@ -1,0 +1,8 @@
+//! Sources as pages of HTML, whose text is that of the sources.
+#![tactic(auto)]
+
+pub mod page;
+pub mod source;
+mod style;
+mod tag;
+mod text;

@@ -1,0 +1,103 @@
+//! Tags of a page.
+
+ghost use Rattle.std.specs.Prelude.{◌≡◌, [], true, OnOk, string_bytes};
+ghost use Rattle.std.specs.Str.{chars};
+ghost use Rattle.std.specs.List.{list_all};
+ghost use Rattle.glslpp_html.specs.Shown.{is_element, is_name_character};
+ghost use Rattle.glslpp_html.specs.Written.{HasAttributes, ShowsMore};
+
+use crate::text::push_value;
+use std::alloc::AllocError;
+
+/// An element of a page.
+#[derive(Clone, Copy)]
+pub(crate) enum Element {
+    Span,
+    Code,
+    Section,
+    Heading,
+}
+
+impl Element {
+    fn name(self) -> &'static str
+        ensures { is_element (chars result.now) ≡ true }
+    {
+        match self {
+            Element::Span => "span",
+            Element::Code => "code",
+            Element::Section => "section",
+            Element::Heading => "h2",
+        }
+    }
+}
+
+/// An attribute of an element.
+#[derive(Clone, Copy)]
+pub(crate) enum Attribute {
+    Class,
+    Id,
+    Title,
+    TabIndex,
+    // What is shown beside the element.
+    Note,
+}
+
+impl Attribute {
+    fn name(self) -> &'static str
+        ensures { list_all is_name_character (chars result.now) ≡ true }
+    {
+        match self {
+            Attribute::Class => "class",
+            Attribute::Id => "id",
+            Attribute::Title => "title",
+            Attribute::TabIndex => "tabindex",
+            Attribute::Note => "data-note",
+        }
+    }
+}
+
+/// Appends the tag that begins an element. Attributes whose values are empty are left out.
+pub(crate) fn open(
+    page: &mut String,
+    element: Element,
+    attributes: &[(Attribute, &str)],
+) -> Result<(), AllocError>
+    ensures { OnOk result (ShowsMore (string_bytes page.old) (string_bytes page.new) []) }
+{
+    page.push_str("<")?;
+    page.push_str(element.name())?;
+    push_attributes(page, attributes)?;
+    page.push_str(">")
+}
+
+/// Appends the tag that ends an element.
+pub(crate) fn close(page: &mut String, element: Element) -> Result<(), AllocError>
+    ensures { OnOk result (ShowsMore (string_bytes page.old) (string_bytes page.new) []) }
+{
+    page.push_str("</")?;
+    page.push_str(element.name())?;
+    page.push_str(">")
+}
+
+fn push_attributes(page: &mut String, attributes: &[(Attribute, &str)]) -> Result<(), AllocError>
+    ensures { OnOk result (HasAttributes (string_bytes page.old) (string_bytes page.new)) }
+{
+    for (attribute, value) in attributes {
+        push_attribute(page, *attribute, value)?;
+    }
+    Ok(())
+}
+
+// Appends an attribute, unless its value is empty.
+fn push_attribute(page: &mut String, attribute: Attribute, value: &str) -> Result<(), AllocError>
+    ensures { OnOk result (HasAttributes (string_bytes page.old) (string_bytes page.new)) }
+{
+    if value.is_empty() {
+        return Ok(());
+    }
+    page.push_str(" ")?;
+    page.push_str(attribute.name())?;
+    page.push_str("=\"")?;
+    push_value(page, value)?;
+    page.push_str("\"")
+}
