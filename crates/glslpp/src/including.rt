@@ -5,7 +5,7 @@ ghost use Rattle.std.specs.Prelude.{◌≡◌, IfOk, length};
 use bumpalo::Bump;
 use glslpp_parts::failure::Failure;
 use glslpp_parts::include_line::Header;
-use glslpp_parts::include_path::{folders_for, not_found, path_in};
+use glslpp_parts::include_path::{folders_for, not_found};
 use glslpp_parts::line_names::{line_marks, without_names};
 use glslpp_parts::report::COMMAND_LINE;
 use glslpp_parts::rule_set::RuleSet;
@@ -16,6 +16,7 @@ use std::alloc::{AllocError, Global};
 use std::fs::{self, Metadata};
 use std::io::ErrorKind;
 use std::os::unix::fs::MetadataExt;
+use std::path::Path;
 
 /// What tells a file from others.
 #[derive(Clone, Copy, PartialEq, Eq)]
@@ -166,7 +167,7 @@ impl<'x> Library<'x> {
         let folders = folders_for(alloc, header, includer, self.folders)?;
         let mut is_folder = false;
         for folder in folders.as_slice() {
-            let path = path_in(alloc, folder, header.name)?;
+            let path = Path::new(folder).join(alloc, header.name)?;
             match self.look_at(path.as_str())? {
                 Look::Answer(answer) => return Ok(answer),
                 Look::Folder => is_folder = true,

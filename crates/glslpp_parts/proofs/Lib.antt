@@ -1,7 +1,9 @@
+pub mod CharactersLemmas
 pub mod ColumnsLemmas
 pub mod DecimalLemmas
 pub mod DefinitionsLemmas
 pub mod ExtensionsLemmas
+pub mod FileNamesLemmas
 pub mod LineNamesLemmas
 pub mod OptionsLemmas
 pub mod PredefinedLemmas

@@ -1,5 +1,6 @@
 -- How the definitions before a source are checked and added.
-use Rattle.std.specs.Prelude.{◌≡◌, ℕ, Bool, ◌-◌, ◌^◌, ◌<◌, ◌||◌, false, List, [], ◌∷◌, length, Ok, ⊤, codes, nat_eq}
+use Rattle.std.specs.Prelude.{◌≡◌, ℕ, Bool, ◌-◌, ◌^◌, ◌<◌, ◌||◌, ◌&&◌, not, false, List, [], ◌∷◌, length, Ok, ⊤, codes}
+use Rattle.std.specs.Prelude.{◌==◌, nat_eq}
 use Rattle.std.specs.Cmp.Lexicographic.{pointwise}
 use Rattle.std.specs.List.{list_any}
 use Rattle.std.specs.Str.{chars}
@@ -39,6 +40,11 @@ IsDefinable (Define name content) = IsFreeName name.now × IsOneLine content.now
 IsDefinable (DefineCall name parameters content) =
     IsFreeName name.now × (IsOneLine parameters.now × IsOneLine content.now)
 IsDefinable (Undefine name) = IsFreeName name.now
+
+-- a name that can stand in the quotation marks of an `#include`
+abbrev pub can_be_quoted : List ℕ → Bool
+can_be_quoted name =
+    not (length name == 0) && not (list_any is_line_break name) && not (list_any (λ byte. nat_eq byte 34) name)
 
 -- the failure isn't that memory ran out
 abbrev pub IsTold : Failure → Type 0

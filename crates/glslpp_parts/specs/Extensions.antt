@@ -1,5 +1,6 @@
 -- The macros of extensions.
-use Rattle.std.specs.Prelude.{◌≡◌, ◌⊎◌, ℕ, Bool, IsTrue, List, [], ◌∷◌, Option, Some, Ok, codes}
+use Rattle.std.specs.Prelude.{◌≡◌, ◌⊎◌, ℕ, Bool, IsTrue, true, false, List, [], ◌∷◌, Option, Some, Ok}
+use Rattle.std.specs.Prelude.{codes}
 use Rattle.std.specs.Prelude.{nat_eq}
 use Rattle.std.specs.Borrow.{Bor}
 use Rattle.std.specs.Cmp.Lexicographic.{pointwise}
@@ -46,6 +47,7 @@ pub record IsDefined (known : List (Bor (List ℕ))) (value : TokenValue) (old n
   pub known_name : IsTrue (is_known known name)
   pub added : IsAdded old name (codes "1") (Ok tt) new
 
--- nothing is changed, or the macro of a known extension that the line turns on is defined
-abbrev pub IsWithExtension : List (Bor (List ℕ)) → TokenValue → Preprocessing → Preprocessing → Type 0
-IsWithExtension known value old new = (new ≡ old) ⊎ IsDefined known value old new
+-- the macro of a known extension that the line turns on is defined, or nothing is changed
+abbrev pub IsWithExtension : Bool → List (Bor (List ℕ)) → TokenValue → Preprocessing → Preprocessing → Type 0
+IsWithExtension true known value old new = IsDefined known value old new
+IsWithExtension false known value old new = new ≡ old

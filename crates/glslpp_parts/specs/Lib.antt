@@ -6,6 +6,7 @@ pub mod Editions
 pub mod Extensions
 pub mod Failures
 pub mod Faults
+pub mod FileNames
 pub mod Layout
 pub mod LineNames
 pub mod Options

@@ -1,5 +1,6 @@
 -- Errors as compilers print them.
-use Rattle.std.specs.Prelude.{◌≡◌, ◌⊎◌, ℕ, false, List, [], ◌∷◌, ◌++◌, Option, Some, None, codes, string_bytes}
+use Rattle.std.specs.Prelude.{◌≡◌, ◌⊎◌, ℕ, false, List, [], ◌∷◌, ◌++◌, Option, Some, None, codes}
+use Rattle.std.specs.Prelude.{option_map, string_bytes}
 use Rattle.std.specs.Fmt.{decimal}
 use Rattle.glslpp_parts.specs.declared.report.Style.{Style}
 use Rattle.glslpp_parts.specs.declared.report.Style.TheVariants.{Plain, Coloured, Json}
@@ -8,6 +9,7 @@ use Rattle.glslpp_parts.specs.declared.diagnostic.Severity.{Severity}
 use Rattle.glslpp_parts.specs.declared.diagnostic.Site.{Site}
 use Rattle.glslpp_parts.specs.declared.diagnostic.Site.TheVariants.{InSource, OnCommandLine, InFile}
 use Rattle.glslpp_parts.specs.declared.diagnostic.Severity.TheVariants.{Error, Warning, Note}
+use Rattle.glslpp_parts.specs.declared.place.Place.{Place}
 use Rattle.glslpp_parts.specs.Output.{IsItem}
 
 -- a terminal reads ESC, byte 27, and `[` with a code as a colour
@@ -54,6 +56,16 @@ abbrev pub start_of_site : Site → Option ℕ
 start_of_site (InSource line column place) = Some place.start
 start_of_site (OnCommandLine place) = None
 start_of_site InFile = None
+
+-- the place to which a message points, with its line
+abbrev pub place_of_site : Site → Option Place
+place_of_site (InSource line column place) = Some place
+place_of_site (OnCommandLine place) = place
+place_of_site InFile = None
+
+-- the text at that place
+abbrev pub pointed_text : Site → Option (List ℕ)
+pointed_text site = option_map (λ place. place.here.now) (place_of_site site)
 
 -- the number of the text to which a message points and the byte offset in it, if it points into a file
 abbrev pub point_of_site : Site → Option (ℕ × ℕ)

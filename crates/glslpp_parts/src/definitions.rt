@@ -1,10 +1,10 @@
 //! Adding the definitions before a source.
 
-ghost use Rattle.std.specs.Prelude.{◌≡◌, All, Any, IsTrue, ◌↔◌, OnOk, IfOk, IfErr};
+ghost use Rattle.std.specs.Prelude.{◌≡◌, All, Any, IsTrue, ◌↔◌, OnOk, IfOk, IfErr, nat_eq};
 ghost use Rattle.std.specs.List.{list_any};
 ghost use Rattle.pp_lexer.specs.Lines.{is_line_break};
 ghost use Rattle.glslpp_parts.specs.Definitions.{IsName, IsFreeName, is_builtin, IsOneLine, IsDefinable, IsTold};
-ghost use Rattle.glslpp_parts.specs.Definitions.{IsWithDefinition, AreAdded};
+ghost use Rattle.glslpp_parts.specs.Definitions.{IsWithDefinition, AreAdded, can_be_quoted};
 
 use crate::changes::{Change, Definition};
 use crate::columns::is_line_end_byte;
@@ -120,15 +120,32 @@ fn is_name(alloc: Global, text: &str) -> Result<bool, AllocError>
 }
 
 /// Fails at the first name of a file that can't stand between `"` on one line.
-pub fn check_included(alloc: Global, files: &[&str]) -> Result<(), Failure> {
+pub fn check_included(alloc: Global, files: &[&str]) -> Result<(), Failure>
+    ensures ok { OnOk result (All (λ file. IsTrue (can_be_quoted file.now)) files.now) }
+    ensures told { IfErr result (λ failure. IsTold failure
+        → Any (λ file. ¬ IsTrue (can_be_quoted file.now)) files.now) }
+{
     for file in files {
-        if file.is_empty() || file.contains('"') || has_line_end(file) {
+        if !can_be_quoted(file) {
             let cause =
                 "the name of an included file has no `\"` and no line end, and is not empty";
             return Err(refusal(alloc, "-include", file, cause));
         }
     }
     Ok(())
+}
+
+// Whether a name can stand in the quotation marks of an `#include`.
+fn can_be_quoted(name: &str) -> bool
+    ensures { result ≡ can_be_quoted name.now }
+{
+    !name.is_empty() && !has_line_end(name) && !has_quotation_mark(name)
+}
+
+fn has_quotation_mark(text: &str) -> bool
+    ensures { result ≡ list_any (λ byte. nat_eq byte 34) text.now }
+{
+    text.as_bytes().iter().any(|byte| *byte == b'"')
 }
 
 /// Adds the definitions to the preprocessor, and their contents to the texts.

@@ -1,9 +1,11 @@
 //! On which files an output depends, as Make and Ninja read it.
 
-ghost use Rattle.std.specs.Prelude.{OnOk, string_bytes};
-ghost use Rattle.glslpp_parts.specs.inner.Adding.{IsLonger};
+ghost use Rattle.std.specs.Prelude.{◌≡◌, ◌++◌, ◌∷◌, [], IfOk, OnOk, string_bytes};
+ghost use Rattle.std.specs.Str.{chars};
+ghost use Rattle.glslpp_parts.specs.FileNames.{backslashes_after, escape_of, escaped, is_blank, with_suffix};
 
 use std::alloc::{AllocError, Global};
+use std::path::Path;
 
 /// Returns the rule by which these targets depend on the files: `TARGET: FILE`, and each other file on a line of its
 /// own. The targets are written as they are. If it is asked for, each file but the first also has an empty rule, so
@@ -20,13 +22,13 @@ pub fn rule(
     let mut between = " ";
     for file in files {
         text.push_str(between)?;
-        push_name(&mut text, file.as_str())?;
+        push_name(alloc, &mut text, file.as_str())?;
         between = " \\\n  ";
     }
     text.push('\n')?;
     if has_phony_targets {
         for file in files.iter().skip(1) {
-            push_name(&mut text, file.as_str())?;
+            push_name(alloc, &mut text, file.as_str())?;
             text.push_str(":\n")?;
         }
     }
@@ -44,63 +46,74 @@ fn push_joined(text: &mut String, words: &[&str]) -> Result<(), AllocError> {
 }
 
 /// Returns a name as it stands in a rule.
-pub fn escaped(alloc: Global, name: &str) -> Result<String, AllocError> {
+pub fn escaped(alloc: Global, name: &str) -> Result<String, AllocError>
+    ensures { IfOk result (λ text. chars (string_bytes text) ≡ escaped (chars name.now)) }
+{
     let mut text = String::new(alloc);
-    push_name(&mut text, name)?;
+    push_name(alloc, &mut text, name)?;
     Ok(text)
 }
 
-// Appends a name as Make reads it: a `$` is doubled, a `\` is before `#`, space and tab, and so are as many more as the
-// name has directly before a space or tab.
-fn push_name(text: &mut String, name: &str) -> Result<(), AllocError>
-    ensures { OnOk result (IsLonger (string_bytes text.old) (string_bytes text.new)) }
+// Appends a name as it stands in a rule.
+fn push_name(alloc: Global, text: &mut String, name: &str) -> Result<(), AllocError>
+    ensures { OnOk result (chars (string_bytes text.new)
+        ≡ chars (string_bytes text.old) ++ escaped (chars name.now)) }
 {
-    let mut backslashes = 0usize;
-    for c in name.chars() {
-        push_escape(text, c, backslashes)?;
-        text.push(c)?;
-        backslashes = if c == '\\' {
-            backslashes.saturating_add(1)
-        } else {
-            0
-        };
+    let mut backslashes = String::new(alloc);
+    'characters: for c in name.chars() {
+        push_escaped(text, backslashes.as_str(), c)?;
+        count(&mut backslashes, c)?;
     }
     Ok(())
 }
 
-// Appends what is before a character that follows so many backslashes.
-fn push_escape(text: &mut String, c: char, backslashes: usize) -> Result<(), AllocError>
-    ensures { OnOk result (IsLonger (string_bytes text.old) (string_bytes text.new)) }
+// Appends a character that follows these backslashes.
+fn push_escaped(text: &mut String, backslashes: &str, c: char) -> Result<(), AllocError>
+    ensures { OnOk result (chars (string_bytes text.new)
+        ≡ chars (string_bytes text.old) ++ escape_of (chars backslashes.now) c ++ c ∷ []) }
 {
+    push_escape(text, backslashes, c)?;
+    text.push(c)
+}
+
+// Appends what is before a character that follows these backslashes.
+fn push_escape(text: &mut String, backslashes: &str, c: char) -> Result<(), AllocError>
+    ensures { OnOk result (chars (string_bytes text.new)
+        ≡ chars (string_bytes text.old) ++ escape_of (chars backslashes.now) c) }
+{
+    if is_blank(c) {
+        text.push_str(backslashes)?;
+        return text.push_str("\\");
+    }
     match c {
-        ' ' | '\t' => {
-            push_backslashes(text, backslashes)?;
-            text.push('\\')
-        }
-        '#' => text.push('\\'),
-        '$' => text.push('$'),
+        '#' => text.push_str("\\"),
+        '$' => text.push_str("$"),
         _ => Ok(()),
     }
 }
 
-fn push_backslashes(text: &mut String, count: usize) -> Result<(), AllocError>
-    ensures { OnOk result (IsLonger (string_bytes text.old) (string_bytes text.new)) }
+fn is_blank(c: char) -> bool
+    ensures { result ≡ is_blank c }
 {
-    for _ in 0..count {
-        text.push('\\')?;
+    c == ' ' || c == '\t'
+}
+
+// Adds a backslash to those before it, which count no more after another character.
+fn count(backslashes: &mut String, c: char) -> Result<(), AllocError>
+    ensures { OnOk result (chars (string_bytes backslashes.new)
+        ≡ backslashes_after (chars (string_bytes backslashes.old)) c) }
+{
+    if c == '\\' {
+        return backslashes.push_str("\\");
     }
+    backslashes.clear();
     Ok(())
 }
 
 /// Returns the name of a source without its folder, and with this in place of its suffix.
-pub fn with_suffix(alloc: Global, source: &str, suffix: &str) -> Result<String, AllocError> {
-    let name = match source.rsplit_once('/') {
-        Some((_, name)) => name,
-        None => source,
-    };
-    let stem = match name.rsplit_once('.') {
-        Some((stem, _)) if !stem.is_empty() => stem,
-        _ => name,
-    };
+pub fn with_suffix(alloc: Global, source: &str, suffix: &str) -> Result<String, AllocError>
+    ensures { IfOk result (λ name. string_bytes name ≡ with_suffix source.now suffix.now) }
+{
+    let stem = Path::new(source).file_stem().unwrap_or(source);
     format!(in alloc; "{stem}{suffix}")
 }

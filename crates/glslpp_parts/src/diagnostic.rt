@@ -1,7 +1,8 @@
 //! What is said of a source: messages with their places.
 
-ghost use Rattle.std.specs.Prelude.{◌≡◌};
+ghost use Rattle.std.specs.Prelude.{◌≡◌, option_map};
 ghost use Rattle.glslpp_parts.specs.Reports.{line_of_site, name_of, point_of_site, start_of_site, text_of_site};
+ghost use Rattle.glslpp_parts.specs.Reports.{place_of_site, pointed_text};
 
 use crate::macro_use::MacroUse;
 use crate::outline::Define;
@@ -107,7 +108,9 @@ impl<'a> Site<'a> {
     }
 
     /// The text that it points to.
-    pub fn name(self) -> Option<&'a str> {
+    pub fn name(self) -> Option<&'a str>
+        ensures { option_map (λ text. text.now) result ≡ pointed_text self.entry }
+    {
         match self.place() {
             Some(place) => Some(place.here),
             None => None,
@@ -115,7 +118,9 @@ impl<'a> Site<'a> {
     }
 
     /// The text that it points to, with its line.
-    pub(crate) fn place(self) -> Option<Place<'a>> {
+    pub(crate) fn place(self) -> Option<Place<'a>>
+        ensures { result ≡ place_of_site self.entry }
+    {
         match self {
             Site::InSource(_, _, place) => Some(place),
             Site::OnCommandLine(place) => place,

@@ -1,6 +1,6 @@
 //! The macros of extensions: those that the command line names, and those whose extensions the source turns on.
 
-ghost use Rattle.std.specs.Prelude.{◌≡◌, ◌++◌, All, Any, IsTrue, Ok, OnOk, IfErr, IfSome, codes, map};
+ghost use Rattle.std.specs.Prelude.{◌≡◌, ◌++◌, All, Any, IsTrue, Ok, OnOk, IfErr, IfOk, IfSome, codes, map};
 ghost use Rattle.std.specs.Str.{chars};
 ghost use Rattle.pp_lexer.specs.declared.token.Punct.{Punct};
 ghost use Rattle.pp_lexer.specs.declared.token.TokenValue.{TokenValue};
@@ -52,7 +52,7 @@ pub fn define_extension(
     value: &TokenValue,
     known: &[&str],
 ) -> Result<bool, AllocError>
-    ensures { OnOk result (IsWithExtension known.now value.now items.old items.new) }
+    ensures { IfOk result (λ is_defined. IsWithExtension is_defined known.now value.now items.old items.new) }
 {
     match turned_on(value) {
         Some(name) if is_known(name, known) => {

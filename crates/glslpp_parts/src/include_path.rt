@@ -1,13 +1,20 @@
 //! The names of files that are included.
 
+ghost use Rattle.std.specs.Prelude.{◌≡◌, IfOk, OnOk, map, nat_eq};
+ghost use Rattle.std.specs.Cmp.Lexicographic.{pointwise};
+ghost use Rattle.std.specs.List.{list_any};
+ghost use Rattle.glslpp_parts.specs.FileNames.{IsWithName, folder_of, folders_for};
+
 use crate::include_line::Header;
 use std::alloc::{AllocError, Global};
+use std::path::Path;
 
 /// Returns the name of the folder that a file is in, which is empty for the folder in which the program runs.
-pub fn folder_of(file: &str) -> &str {
-    match file.rfind('/') {
-        Some(0) => "/",
-        Some(end) => file.get(..end).unwrap_or(""),
+pub fn folder_of(file: &str) -> &str
+    ensures { result.now ≡ folder_of file.now }
+{
+    match Path::new(file).parent() {
+        Some(folder) => folder.as_str(),
         None => "",
     }
 }
@@ -19,7 +26,10 @@ pub fn folders_for<'a>(
     header: Header<'_>,
     includer: &'a str,
     folders: &[&'a str],
-) -> Result<Vec<&'a str>, AllocError> {
+) -> Result<Vec<&'a str>, AllocError>
+    ensures { IfOk result (λ all. map (λ folder. folder.now) all.items
+        ≡ folders_for header.entry includer.now (map (λ folder. folder.now) folders.now)) }
+{
     let mut all = Vec::new(alloc);
     if header.name.starts_with('/') {
         all.push("")?;
@@ -29,20 +39,28 @@ pub fn folders_for<'a>(
         all.push(folder_of(includer))?;
     }
     for folder in folders {
-        if !all.contains(folder) {
-            all.push(*folder)?;
-        }
+        push_new(folder, &mut all)?;
     }
     Ok(all)
 }
 
-/// Returns the name of a file in a folder.
-pub fn path_in(alloc: Global, folder: &str, name: &str) -> Result<String, AllocError> {
-    if folder.is_empty() || name.starts_with('/') {
-        return String::from_str(alloc, name);
+// Appends a name, unless it is there.
+fn push_new<'a>(name: &'a str, names: &mut Vec<&'a str>) -> Result<(), AllocError>
+    ensures { OnOk result (IsWithName name.now (map (λ other. other.now) names.old.items)
+        (map (λ other. other.now) names.new.items)) }
+{
+    if is_among(name, names.as_slice()) {
+        return Ok(());
     }
-    let end = if folder.ends_with('/') { "" } else { "/" };
-    format!(in alloc; "{folder}{end}{name}")
+    names.push(name)?;
+    Ok(())
+}
+
+// Whether a name is one of these.
+fn is_among(name: &str, names: &[&str]) -> bool
+    ensures { result ≡ list_any (λ other. pointwise nat_eq other.now name.now) names.now }
+{
+    names.iter().any(|other| *other == name)
 }
 
 /// Returns what is said of a file that is in none of the folders.

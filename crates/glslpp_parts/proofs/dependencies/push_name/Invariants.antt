@@ -1,7 +1,10 @@
-use Rattle.std.proofs.Common.{string_bytes}
-use Rattle.glslpp_parts.specs.inner.Adding.{IsLonger}
+use Rattle.std.proofs.Common.{◌≡◌, ◌++◌, List, ℕ, string_bytes}
+use Rattle.std.specs.Str.{chars}
+use Rattle.glslpp_parts.specs.FileNames.{escaped, escaped_after}
 use Rattle.glslpp_parts.proofs.dependencies.push_name.Given as goal
 
--- what was there stays
-abbrev pub invariant-loop-c : goal.invariant-loop-c
-invariant-loop-c l = IsLonger (string_bytes l.fn.text) (string_bytes l.text)
+-- with the characters that are left, escaped, the text has the whole name
+abbrev pub invariant-characters : goal.invariant-characters
+invariant-characters l =
+    (rest : List ℕ) → chars (string_bytes l.text) ++ escaped_after (chars (string_bytes l.backslashes)) rest
+    ≡ chars (string_bytes l.fn.text) ++ escaped (l.yielded ++ rest)
