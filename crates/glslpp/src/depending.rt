@@ -1,40 +1,74 @@
-//! The rule by which an output depends on files.
+//! The rules by which outputs depend on files.
 
 use crate::preprocess::Found;
 use crate::{name_of, write_output};
-use glslpp_parts::arguments::{Arguments, STANDARD_INPUT};
+use glslpp_parts::arguments::{Arguments, written_file};
 use glslpp_parts::dependencies::{escaped, rule, with_suffix};
 use glslpp_parts::failure::Failure;
 use std::alloc::AllocError;
 
-/// Writes the rule for the files that were read.
-pub(crate) fn write_rule(
+/// Writes the rule for the files that were read for this source, or appends it to those that the file of `-MF` gets.
+pub(crate) fn take_rule(
     rt: &HostRuntime,
     arguments: &Arguments<'_>,
+    source: &str,
     output: Option<&str>,
     found: &Found,
+    rules: &mut String,
 ) -> Result<(), Failure> {
-    let alloc = rt.alloc();
-    let asked = &arguments.dependencies;
-    let quoted = quoted_targets(rt, arguments, output)?;
-    let mut targets = Vec::new(alloc);
-    targets.extend_from_slice(asked.targets.as_slice())?;
-    for target in quoted.as_slice() {
-        targets.push(target.as_str())?;
+    let text = rule_of(rt, arguments, source, output, found)?;
+    if arguments.dependencies.file.is_some() {
+        rules.push_str(text.as_str())?;
+        return Ok(());
     }
-    let files = found.files.as_slice();
-    let text = rule(alloc, targets.as_slice(), files, asked.have_targets)?;
-    match &file_of_rule(rt, arguments, output)? {
+    match &file_of_rule(rt, arguments, source, output)? {
         Some(file) => write_output(rt, Some(file.as_str()), text.as_str()),
         None => write_output(rt, None, text.as_str()),
     }
 }
 
-// The targets that are written as Make reads them. If none is given at all, it is the output, or the first source with
+/// Writes the rules that the file of `-MF` gets, if there are some.
+pub(crate) fn write_rules(
+    rt: &HostRuntime,
+    arguments: &Arguments<'_>,
+    rules: &str,
+) -> Result<(), Failure> {
+    match arguments.dependencies.file {
+        Some(name) if !rules.is_empty() => write_output(rt, written_file(name), rules),
+        _ => Ok(()),
+    }
+}
+
+// The rule for the files that were read.
+fn rule_of(
+    rt: &HostRuntime,
+    arguments: &Arguments<'_>,
+    source: &str,
+    output: Option<&str>,
+    found: &Found,
+) -> Result<String, AllocError> {
+    let alloc = rt.alloc();
+    let asked = &arguments.dependencies;
+    let quoted = quoted_targets(rt, arguments, source, output)?;
+    let mut targets = Vec::new(alloc);
+    targets.extend_from_slice(asked.targets.as_slice())?;
+    for target in quoted.as_slice() {
+        targets.push(target.as_str())?;
+    }
+    rule(
+        alloc,
+        targets.as_slice(),
+        found.files.as_slice(),
+        asked.have_targets,
+    )
+}
+
+// The targets that are written as Make reads them. If none is given at all, it is the output, or the source with
 // another suffix.
 fn quoted_targets(
     rt: &HostRuntime,
     arguments: &Arguments<'_>,
+    source: &str,
     output: Option<&str>,
 ) -> Result<Vec<String>, AllocError> {
     let alloc = rt.alloc();
@@ -46,40 +80,29 @@ fn quoted_targets(
     if asked.targets.is_empty() && quoted.is_empty() {
         let target = match output {
             Some(output) if !asked.are_output => escaped(alloc, output)?,
-            _ => escaped(alloc, beside_source(rt, arguments, ".o")?.as_str())?,
+            _ => {
+                let object = with_suffix(alloc, name_of(arguments, source), ".o")?;
+                escaped(alloc, object.as_str())?
+            }
         };
         quoted.push(target)?;
     }
     Ok(quoted)
 }
 
-// The file to which the rule is written, or `None` for the standard output.
+// The file to which the rule is written if none is named, or `None` for the standard output.
 fn file_of_rule(
     rt: &HostRuntime,
     arguments: &Arguments<'_>,
+    source: &str,
     output: Option<&str>,
 ) -> Result<Option<String>, AllocError> {
     let alloc = rt.alloc();
-    let asked = &arguments.dependencies;
-    Ok(match (asked.file, output) {
-        (Some(file), _) => Some(String::from_str(alloc, file)?),
-        (None, Some(output)) if asked.are_output => Some(String::from_str(alloc, output)?),
-        (None, Some(output)) => Some(format!(in alloc; "{output}.d")?),
-        (None, None) if asked.are_output => None,
-        (None, None) => Some(beside_source(rt, arguments, ".d")?),
+    let are_output = arguments.dependencies.are_output;
+    Ok(match output {
+        Some(output) if are_output => Some(String::from_str(alloc, output)?),
+        Some(output) => Some(format!(in alloc; "{output}.d")?),
+        None if are_output => None,
+        None => Some(with_suffix(alloc, name_of(arguments, source), ".d")?),
     })
-}
-
-// The name of the first source without its folder, with this suffix.
-fn beside_source(
-    rt: &HostRuntime,
-    arguments: &Arguments<'_>,
-    suffix: &str,
-) -> Result<String, AllocError> {
-    let source = match arguments.files.first() {
-        Some(source) => *source,
-        None => STANDARD_INPUT,
-    };
-    let name = name_of(arguments, source);
-    with_suffix(rt.alloc(), name, suffix)
 }

@@ -12,7 +12,7 @@ mod word_files;
 
 use bumpalo::Bump;
 use clap::ArgMatches;
-use depending::write_rule;
+use depending::{take_rule, write_rules};
 use foreign::refusal_of;
 use glslpp_parts::arguments::{
     Arguments, Colours, Form, STANDARD_INPUT, STANDARD_INPUT_NAME, command,
@@ -124,7 +124,21 @@ fn preprocess_together(
     for file in arguments.files.as_slice() {
         preprocess_file(rt, arguments, version, file, &mut found)?;
     }
-    write_found(rt, arguments, arguments.output, &found)
+    let source = match arguments.files.first() {
+        Some(source) => *source,
+        None => STANDARD_INPUT,
+    };
+    let mut rules = String::new(rt.alloc());
+    let is_faultless = write_found(
+        rt,
+        arguments,
+        source,
+        arguments.output,
+        &found,
+        &mut rules,
+    )?;
+    write_rules(rt, arguments, rules.as_str())?;
+    Ok(is_faultless)
 }
 
 // Preprocesses the files, and writes the output of each that has no error to its file in the folder. Returns whether
@@ -137,13 +151,16 @@ fn preprocess_into(
 ) -> Result<bool, Failure> {
     let outputs = outputs_of(rt, arguments, folder)?;
     let mut is_faultless = true;
+    let mut rules = String::new(rt.alloc());
     for (file, output) in arguments.files.as_slice().iter().zip(outputs.as_slice()) {
         let mut found = Found::new(rt.alloc());
         preprocess_file(rt, arguments, version, file, &mut found)?;
-        if !write_found(rt, arguments, Some(output.as_str()), &found)? {
+        let output = Some(output.as_str());
+        if !write_found(rt, arguments, file, output, &found, &mut rules)? {
             is_faultless = false;
         }
     }
+    write_rules(rt, arguments, rules.as_str())?;
     Ok(is_faultless)
 }
 
@@ -168,12 +185,15 @@ fn outputs_of(
     Ok(outputs)
 }
 
-// Writes what was found in sources, if they have no error or the form shows these too. Returns whether they have none.
+// Writes what was found in sources, of which this is the first, if they have no error or the form shows these too. Their
+// rule is written too or appended to the rules, if one is asked for. Returns whether they have no error.
 fn write_found(
     rt: &HostRuntime,
     arguments: &Arguments<'_>,
+    source: &str,
     output: Option<&str>,
     found: &Found,
+    rules: &mut String,
 ) -> Result<bool, Failure> {
     let is_faultless = found.errors == 0;
     if let Some(output) = output {
@@ -181,7 +201,7 @@ fn write_found(
     }
     if arguments.dependencies.are_output {
         if is_faultless {
-            write_rule(rt, arguments, output, found)?;
+            take_rule(rt, arguments, source, output, found, rules)?;
         }
         return Ok(is_faultless);
     }
@@ -189,7 +209,7 @@ fn write_found(
         write_output(rt, output, found.output.as_str())?;
     }
     if is_faultless && arguments.dependencies.are_written {
-        write_rule(rt, arguments, output, found)?;
+        take_rule(rt, arguments, source, output, found, rules)?;
     }
     Ok(is_faultless)
 }

@@ -1,5 +1,7 @@
 -- What the command line asks for, by what `clap` found in it.
 use Rattle.std.specs.Prelude.{◌≡◌, ℕ, Bool, true, false, Option, None, Some, List, [], ◌∷◌, codes, if◌then◌else◌}
+use Rattle.std.specs.Prelude.{map, nat_eq, option_map}
+use Rattle.std.specs.Cmp.Lexicographic.{pointwise}
 use Rattle.std.specs.Option.{option_map_or}
 use Rattle.clap.specs.Matches.{matched_of, one_text, raw_values}
 use Rattle.clap.specs.declared.parser.matches.Found.{Found}
@@ -7,6 +9,7 @@ use Rattle.clap.specs.Words.{first_value}
 use Rattle.glslpp_parts.specs.declared.arguments.Colours.{Colours}
 use Rattle.glslpp_parts.specs.declared.arguments.Colours.TheVariants.{Auto, Always, Never}
 use Rattle.glslpp_parts.specs.declared.arguments.Form.{Form}
+use Rattle.glslpp_parts.specs.declared.dependency_options.Dependencies.{Dependencies}
 use Rattle.glslpp_parts.specs.declared.rule_set.RuleSet.{RuleSet}
 use Rattle.glslpp_parts.specs.declared.rule_set.RuleSet.TheVariants.{PpRs}
 use Rattle.glslpp_parts.specs.declared.warning.Warnings.{Warnings}
@@ -70,6 +73,19 @@ pub record AreWarnings (found : Found) (warnings : Warnings) : Type 0 where
   pub silent : Bool
   pub is_silent : IsFlag found (codes "silent") silent
   pub are : warnings ≡ warnings_of (words_of found (codes "warning")) silent
+
+-- what is asked for of the files that an output depends on
+pub record AreDependencies (found : Found) (asked : Dependencies) : Type 0 where
+  pub are_output : IsFlag found (codes "dependencies") asked.are_output
+  pub are_written : IsFlag found (codes "write-dependencies") asked.are_written
+  pub file : option_map (λ name. name.now) asked.file ≡ first_value found (codes "dependency-file")
+  pub targets : map (λ target. target.now) asked.targets.items ≡ words_of found (codes "target")
+  pub quoted : map (λ target. target.now) asked.quoted_targets.items ≡ words_of found (codes "quoted-target")
+  pub have_targets : IsFlag found (codes "phony-targets") asked.have_targets
+
+-- the file that a name says to write to; `-` says the standard output
+abbrev pub written_file : List ℕ → Option (List ℕ)
+written_file name = if pointwise nat_eq name (codes "-") then None else Some name
 
 -- the files, or `-` for the standard input if none is named
 abbrev pub files_or_input : List (List ℕ) → List (List ℕ)

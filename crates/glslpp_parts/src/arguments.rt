@@ -2,17 +2,19 @@
 
 ghost use Rattle.std.specs.Prelude.{◌≡◌, ◌≤◌, ◌++◌, ◌∷◌, [], false, IfOk, codes, length, map, not, option_map};
 ghost use Rattle.std.specs.Prelude.{unwrap_or};
+ghost use Rattle.std.specs.Option.{option_and_then};
 ghost use Rattle.clap.specs.Words.{first_value, found_of, rule_of};
 ghost use Rattle.clap.specs.declared.builder.action.ArgAction.TheVariants.{Append, Set, SetTrue};
-ghost use Rattle.glslpp_parts.specs.Asked.{AreColours, AreWarnings, IsAsked, IsBudget, IsFlag, IsForm, IsLimit};
-ghost use Rattle.glslpp_parts.specs.Asked.{IsRuleSet};
-ghost use Rattle.glslpp_parts.specs.Asked.{files_or_input, words_of};
+ghost use Rattle.glslpp_parts.specs.Asked.{AreColours, AreDependencies, AreWarnings, IsAsked, IsBudget, IsFlag, IsForm};
+ghost use Rattle.glslpp_parts.specs.Asked.{IsLimit, IsRuleSet};
+ghost use Rattle.glslpp_parts.specs.Asked.{files_or_input, words_of, written_file};
 ghost use Rattle.glslpp_parts.specs.Options.{options, options_of, value_options, forms, general_options, foreign};
 ghost use Rattle.glslpp_parts.specs.Options.{language_options, lettered, long_listed, long_valued, message_options};
-ghost use Rattle.glslpp_parts.specs.Options.{known_of, dependency_options, include_options, named, nameless};
+ghost use Rattle.glslpp_parts.specs.Options.{known_of, include_options, named, nameless};
 ghost use Rattle.glslpp_parts.specs.inner.Adding.{IsOption};
 
 use crate::changes::Change;
+use crate::dependency_options::{Dependencies, with_dependency_options};
 use crate::rule_set::RuleSet;
 use crate::warning::Warnings;
 use crate::warning_options::with_warning_options;
@@ -22,6 +24,9 @@ use std::alloc::{AllocError, Global};
 
 /// The argument that names the standard input.
 pub const STANDARD_INPUT: &str = "-";
+
+/// The name that says to write to the standard output.
+pub const STANDARD_OUTPUT: &str = "-";
 
 /// The name of the standard input in messages, if no other is given.
 pub const STANDARD_INPUT_NAME: &str = "<stdin>";
@@ -56,23 +61,6 @@ pub enum Colours {
     Always,
     /// Never.
     Never,
-}
-
-/// What is asked for of the files that an output depends on.
-#[derive(Drop)]
-pub struct Dependencies<'a> {
-    /// Whether they are printed in place of the output.
-    pub are_output: bool,
-    /// Whether they are written beside the output.
-    pub are_written: bool,
-    /// The file to which they are written.
-    pub file: Option<&'a str>,
-    /// What depends on them, as it stands in a rule.
-    pub targets: Vec<&'a str>,
-    /// What depends on them, by its name.
-    pub quoted_targets: Vec<&'a str>,
-    /// Whether each of them has a rule too.
-    pub have_targets: bool,
 }
 
 /// What the command line asks for.
@@ -178,8 +166,6 @@ const LANGUAGE: &str = "Language";
 const OUTPUT: &str = "Output";
 
 const INCLUDES: &str = "Included files";
-
-const DEPENDENCIES: &str = "Dependencies";
 
 pub(crate) const MESSAGES: &str = "Messages";
 
@@ -319,48 +305,12 @@ fn with_include_options<'a>(alloc: Global, command: Command<'a>) -> Result<Comma
     Ok(third)
 }
 
-// Adds the options for the files that an output depends on.
-fn with_dependency_options<'a>(
-    alloc: Global,
-    command: Command<'a>,
-) -> Result<Command<'a>, AllocError>
-    ensures { IfOk result (λ new. options_of new ≡ options_of command.entry ++ dependency_options) }
-{
-    let only = long_flag(alloc, "dependencies", DEPENDENCIES_HELP);
-    let beside = long_flag(alloc, "write-dependencies", WRITE_DEPENDENCIES_HELP);
-    let file = long_option(alloc, "dependency-file", "FILE", DEPENDENCY_FILE_HELP);
-    let target = listed_option(alloc, "target", "TARGET", TARGET_HELP);
-    let quoted = listed_option(alloc, "quoted-target", "TARGET", QUOTED_TARGET_HELP);
-    let phony = long_flag(alloc, "phony-targets", PHONY_HELP);
-    let first = with_option(command, DEPENDENCIES, only)?;
-    let second = with_option(first, DEPENDENCIES, beside)?;
-    let third = with_option(second, DEPENDENCIES, file)?;
-    let fourth = with_option(third, DEPENDENCIES, target)?;
-    let fifth = with_option(fourth, DEPENDENCIES, quoted)?;
-    let sixth = with_option(fifth, DEPENDENCIES, phony)?;
-    Ok(sixth)
-}
-
-// An option that may be repeated, with a long name, which is its id too.
-fn listed_option<'a>(alloc: Global, id: &'a str, value: &'a str, help: &'a str) -> Arg<'a>
+/// An option that may be repeated, with a long name, which is its id too.
+pub(crate) fn listed_option<'a>(alloc: Global, id: &'a str, value: &'a str, help: &'a str) -> Arg<'a>
     ensures { IsOption result (long_listed id.now) }
 {
     long_option(alloc, id, value, help).action(ArgAction::Append)
 }
-
-const DEPENDENCIES_HELP: &str =
-    "Print the rule for Make and Ninja, and not the source: -M and -MM too";
-
-const WRITE_DEPENDENCIES_HELP: &str =
-    "Write the rule for Make and Ninja beside the output: -MD and -MMD too";
-
-const DEPENDENCY_FILE_HELP: &str = "Write the rule to FILE, not to that of -o with .d: -MF too";
-
-const TARGET_HELP: &str = "The target of the rule as it is, not the file of -o: -MT too";
-
-const QUOTED_TARGET_HELP: &str = "The same, written as Make reads it: -MQ too";
-
-const PHONY_HELP: &str = "Add an empty rule for each included file: -MP too";
 
 const FOLDER_HELP: &str = "Look for included files in the folder DIR too";
 
@@ -439,7 +389,7 @@ const COLOUR_HELP: &str = "Use colours in messages";
 const NAME_HELP: &str = "Call the standard input so in messages";
 
 // An option with a long name, which is its id too, and a value.
-fn long_option<'a>(alloc: Global, id: &'a str, value: &'a str, help: &'a str) -> Arg<'a>
+pub(crate) fn long_option<'a>(alloc: Global, id: &'a str, value: &'a str, help: &'a str) -> Arg<'a>
     ensures { IsOption result (long_valued id.now) }
 {
     Arg::new(alloc, id)
@@ -493,7 +443,7 @@ fn value_option<'a>(
         .help(help)
 }
 
-fn long_flag<'a>(alloc: Global, id: &'a str, help: &'a str) -> Arg<'a>
+pub(crate) fn long_flag<'a>(alloc: Global, id: &'a str, help: &'a str) -> Arg<'a>
     ensures { IsOption result (named id.now) }
 {
     flag(alloc, id, help).long(id)
@@ -536,8 +486,9 @@ impl<'a> Arguments<'a> {
             ≡ words_of (found_of matches.now) (codes "folder")) }
         ensures line_names { IfOk result (λ asked. IsFlag (found_of matches.now) (codes "line-names")
             asked.has_line_names) }
+        ensures dependencies { IfOk result (λ asked. AreDependencies (found_of matches.now) asked.dependencies) }
         ensures output { IfOk result (λ asked. option_map (λ name. name.now) asked.output
-            ≡ first_value (found_of matches.now) (codes "output")) }
+            ≡ option_and_then written_file (first_value (found_of matches.now) (codes "output"))) }
         ensures form { IfOk result (λ asked. IsForm (found_of matches.now) asked.form) }
         ensures rule_set { IfOk result (λ asked. IsRuleSet (found_of matches.now) asked.rule_set) }
         ensures standard { IfOk result (λ asked. option_map (λ word. word.now) asked.standard
@@ -566,8 +517,8 @@ impl<'a> Arguments<'a> {
             extensions: words_of(alloc, matches, "extension")?,
             included: words_of(alloc, matches, "include")?,
             folders: words_of(alloc, matches, "folder")?,
-            dependencies: dependencies_of(alloc, matches)?,
-            output: matches.get_str("output"),
+            dependencies: Dependencies::asked(alloc, matches)?,
+            output: output_of(matches),
             form: form_of(matches),
             has_line_names: is_given(matches, "line-names"),
             rule_set: rule_set_of(matches),
@@ -586,18 +537,26 @@ impl<'a> Arguments<'a> {
     }
 }
 
-fn dependencies_of<'a>(
-    alloc: Global,
-    matches: &ArgMatches<'a>,
-) -> Result<Dependencies<'a>, AllocError> {
-    Ok(Dependencies {
-        are_output: is_given(matches, "dependencies"),
-        are_written: is_given(matches, "write-dependencies"),
-        file: matches.get_str("dependency-file"),
-        targets: words_of(alloc, matches, "target")?,
-        quoted_targets: words_of(alloc, matches, "quoted-target")?,
-        have_targets: is_given(matches, "phony-targets"),
-    })
+// The file of `-o`, if it isn't the standard output.
+fn output_of<'a>(matches: &ArgMatches<'a>) -> Option<&'a str>
+    ensures { option_map (λ name. name.now) result
+        ≡ option_and_then written_file (first_value (found_of matches.now) (codes "output")) }
+{
+    match matches.get_str("output") {
+        Some(name) => written_file(name),
+        None => None,
+    }
+}
+
+/// Returns the file that a name says to write to, or `None` if it says the standard output.
+pub fn written_file(name: &str) -> Option<&str>
+    ensures { option_map (λ file. file.now) result ≡ written_file name.now }
+{
+    if name == STANDARD_OUTPUT {
+        None
+    } else {
+        Some(name)
+    }
 }
 
 // The number of errors, all of them if it is 0.
@@ -641,8 +600,8 @@ fn colours_of(matches: &ArgMatches<'_>) -> Colours
     }
 }
 
-// Whether a flag was given.
-fn is_given(matches: &ArgMatches<'_>, id: &str) -> bool
+/// Whether a flag was given.
+pub(crate) fn is_given(matches: &ArgMatches<'_>, id: &str) -> bool
     ensures { IsFlag (found_of matches.now) id.now result }
 {
     matches.get_flag(id)
@@ -696,7 +655,8 @@ fn changes_of<'a>(alloc: Global, matches: &ArgMatches<'a>) -> Result<Vec<Change<
     Ok(changes)
 }
 
-fn words_of<'a>(
+/// The words that an argument was given, in order.
+pub(crate) fn words_of<'a>(
     alloc: Global,
     matches: &ArgMatches<'a>,
     id: &str,

@@ -9,6 +9,7 @@ mod columns;
 pub mod comment_check;
 pub mod definitions;
 pub mod dependencies;
+pub mod dependency_options;
 pub mod diagnostic;
 mod directive_check;
 mod directive_line;

@@ -2,7 +2,7 @@ use Rattle.std.proofs.Common.{codes}
 use Rattle.clap.specs.Words.{rule_of}
 use Rattle.glslpp_parts.specs.Options.{known_of, options_of, long_listed, long_valued, named}
 use Rattle.glslpp_parts.proofs.OptionsLemmas.{two_added, four_added, six_added}
-use Rattle.glslpp_parts.proofs.arguments.with_dependency_options.Goals as goal
+use Rattle.glslpp_parts.proofs.dependency_options.with_dependency_options.Goals as goal
 
 pub returns : goal.returns
 returns c =
