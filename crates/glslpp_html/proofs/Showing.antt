@@ -148,30 +148,32 @@ pub named : (old first second third fourth new name value : List ℕ) → first 
 named old first second third fourth new name value a b d e f =
     f ∙ ap (λ x. x ++ codes "\"") (e ∙ ap (λ x. x ++ value) (d ∙ ap (λ x. x ++ codes "=\"") (b ∙ ap (λ x. x ++ name) a))) ∙ simp append_assoc
 
+-- a text between two tags
+pub shows_between : {T E : Type 0} (r : Result T E) (p0 p1 p2 p3 text : List ℕ) → ShowsMore p0 p1 []
+    → chars p2 ≡ chars p1 ++ flat_map escaped_character (chars text) → OnOk r (ShowsMore p2 p3 []) → OnOk r (ShowsMore p0 p3 (chars text))
+shows_between r p0 p1 p2 p3 text a b = on_ok r _ _ (λ (d : ShowsMore p2 p3 []). subst (ShowsMore p0 p3) (append-nil (chars text))
+    (shows_both p0 p2 p3 (chars text) [] (shows_both p0 p1 p2 [] (chars text) a (shows_text p1 p2 text b)) d))
+
 -- a file: its heading, a line end and its text
-pub file_shown : {T E : Type 0} (r : Result T E) (p0 p1 p2 p3 p4 p5 p6 p7 name text : List ℕ) → ShowsMore p0 p1 []
-    → chars p2 ≡ chars p1 ++ flat_map escaped_character (chars name) → ShowsMore p2 p3 []
-    → chars p4 ≡ chars p3 ++ flat_map escaped_character (chars (codes "\n")) → ShowsMore p4 p5 [] → ShowsMore p5 p6 (chars text)
-    → OnOk r (ShowsMore p6 p7 []) → OnOk r (ShowsMore p0 p7 (chars name ++ codes "\n" ++ chars text))
-file_shown r p0 p1 p2 p3 p4 p5 p6 p7 name text a b d e f g =
-    let to_name = shows_both p0 p1 p2 [] (chars name) a (shows_text p1 p2 name b) in
-    let to_end = shows_both p0 p2 p3 (chars name) [] to_name d in
-    let to_line = shows_both p0 p3 p4 (chars name ++ []) (chars (codes "\n")) to_end (shows_text p3 p4 (codes "\n") e) in
-    let to_code = shows_both p0 p4 p5 ((chars name ++ []) ++ chars (codes "\n")) [] to_line f in
-    let to_text = shows_both p0 p5 p6 (((chars name ++ []) ++ chars (codes "\n")) ++ []) (chars text) to_code g in
-    on_ok r _ _ (λ (h : ShowsMore p6 p7 []). subst (ShowsMore p0 p7) (simp (append-nil, chars_same (codes "\n") refl))
-    (shows_both p0 p6 p7 ((((chars name ++ []) ++ chars (codes "\n")) ++ []) ++ chars text) [] to_text h))
+pub file_shown : {T E : Type 0} (r : Result T E) (p0 p1 p2 p3 p4 p5 name text : List ℕ) → ShowsMore p0 p1 (chars name)
+    → chars p2 ≡ chars p1 ++ flat_map escaped_character (chars (codes "\n")) → ShowsMore p2 p3 [] → ShowsMore p3 p4 (chars text)
+    → OnOk r (ShowsMore p4 p5 []) → OnOk r (ShowsMore p0 p5 (chars name ++ codes "\n" ++ chars text))
+file_shown r p0 p1 p2 p3 p4 p5 name text a b d e =
+    let to_line = shows_both p0 p1 p2 (chars name) (chars (codes "\n")) a (shows_text p1 p2 (codes "\n") b) in
+    let to_code = shows_both p0 p2 p3 (chars name ++ chars (codes "\n")) [] to_line d in
+    let to_text = shows_both p0 p3 p4 ((chars name ++ chars (codes "\n")) ++ []) (chars text) to_code e in
+    on_ok r _ _ (λ (h : ShowsMore p4 p5 []). subst (ShowsMore p0 p5) (simp (append-nil, chars_same (codes "\n") refl))
+    (shows_both p0 p4 p5 (((chars name ++ chars (codes "\n")) ++ []) ++ chars text) [] to_text h))
 
 -- what was written to an empty text
 pub from_nothing : (new empty written : List ℕ) → empty ≡ [] → chars new ≡ chars empty ++ written → chars new ≡ written
 from_nothing new empty written is_empty e = e ∙ ap (λ t. chars t ++ written) is_empty ∙ ap (λ t. t ++ written) chars-nil
 
 -- a body, from its start
-pub body_begun : (body command empty : List ℕ) → empty ≡ [] → chars body ≡ chars empty ++ flat_map escaped_character (chars command)
-    → Shows (chars body) (chars command ++ [])
-body_begun body command empty is_empty e =
+pub body_begun : (body command empty : List ℕ) → empty ≡ [] → ShowsMore empty body (chars command) → Shows (chars body) (chars command ++ [])
+body_begun body command empty is_empty h =
     subst (Shows (chars body)) (sym (append-nil (chars command)))
-    (subst (λ p. Shows p (chars command)) (sym (from_nothing body empty (flat_map escaped_character (chars command)) is_empty e)) (text_shown (chars command)))
+    (subst (λ p. Shows p (chars command)) (sym (from_nothing body empty h.0 is_empty h.1)) h.2)
 
 -- one more element's text
 pub one_element_more : {X : Type 0} (f : X → List ℕ) (first : List ℕ) (xs : List X) (i : ℕ) (x : X) (old new : List ℕ) → i < length xs → x ≡ get_or xs i x

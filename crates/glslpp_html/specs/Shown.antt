@@ -6,7 +6,7 @@ use Rattle.std.specs.List.{list_all, list_any}
 
 -- the elements of a page, whose tags show nothing
 abbrev pub is_element : List ℕ → Bool
-is_element name = list_any (pointwise nat_eq name) (codes "span" ∷ codes "code" ∷ codes "section" ∷ codes "h2" ∷ [])
+is_element name = list_any (pointwise nat_eq name) (codes "span" ∷ codes "code" ∷ codes "h2" ∷ [])
 
 -- `a` to `z` and `-`
 abbrev pub is_name_character : ℕ → Bool

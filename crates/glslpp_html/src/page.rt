@@ -45,7 +45,7 @@ fn body_of(alloc: Global, command: &str, files: &[File<'_>]) -> Result<String, A
         (chars command.now ++ flat_map text_of_file files.now)) }
 {
     let mut body = String::new(alloc);
-    push_text(&mut body, command)?;
+    push_heading(&mut body, command)?;
     for (index, file) in files.iter().enumerate() {
         let prefix = format!(in alloc; "f{index}-")?;
         push_file(alloc, &mut body, prefix.as_str(), file)?;
@@ -62,11 +62,18 @@ fn push_file(
 ) -> Result<(), AllocError>
     ensures { OnOk result (ShowsMore (string_bytes body.old) (string_bytes body.new) (text_of_file file.now)) }
 {
-    open(body, Element::Heading, &[])?;
-    push_text(body, file.name)?;
-    close(body, Element::Heading)?;
+    push_heading(body, file.name)?;
     push_text(body, "\n")?;
     open(body, Element::Code, &[])?;
     push_source(alloc, body, file.text, prefix, file.lines.as_slice())?;
     close(body, Element::Code)
+}
+
+// Appends a heading.
+fn push_heading(body: &mut String, text: &str) -> Result<(), AllocError>
+    ensures { OnOk result (ShowsMore (string_bytes body.old) (string_bytes body.new) (chars text.now)) }
+{
+    open(body, Element::Heading, &[])?;
+    push_text(body, text)?;
+    close(body, Element::Heading)
 }

@@ -14,7 +14,6 @@ use std::alloc::AllocError;
 pub(crate) enum Element {
     Span,
     Code,
-    Section,
     Heading,
 }
 
@@ -25,7 +24,6 @@ impl Element {
         match self {
             Element::Span => "span",
             Element::Code => "code",
-            Element::Section => "section",
             Element::Heading => "h2",
         }
     }

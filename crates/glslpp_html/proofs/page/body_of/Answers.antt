@@ -5,7 +5,7 @@ use Rattle.glslpp_html.proofs.Showing.{body_begun, one_element_more}
 use Rattle.glslpp_html.proofs.page.body_of.Goals as goal
 
 pub loop-index-init : goal.loop-index-init
-loop-index-init c = body_begun (string_bytes c.push_text.new.page) c.args.command.now (string_bytes c.new-body.result) c.new-body.ensures.bytes c.in_ok-push_text.ensures
+loop-index-init c = body_begun (string_bytes c.push_heading.new.body) c.args.command.now (string_bytes c.new-body.result) c.new-body.ensures.bytes c.in_ok-push_heading.ensures
 
 pub loop-index-preserved : goal.loop-index-preserved
 loop-index-preserved c =

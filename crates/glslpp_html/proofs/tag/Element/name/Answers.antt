@@ -8,8 +8,5 @@ returns-in-Span c = rw (chars_same (codes "span") refl) refl
 pub returns-in-Code : goal.returns-in-Code
 returns-in-Code c = rw (chars_same (codes "code") refl) refl
 
-pub returns-in-Section : goal.returns-in-Section
-returns-in-Section c = rw (chars_same (codes "section") refl) refl
-
 pub returns-in-Heading : goal.returns-in-Heading
 returns-in-Heading c = rw (chars_same (codes "h2") refl) refl
