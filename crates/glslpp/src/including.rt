@@ -117,6 +117,11 @@ impl<'x> Library<'x> {
         Ok(())
     }
 
+    /// The runtime that reads the files.
+    pub(crate) fn runtime(&self) -> &'x HostRuntime {
+        self.rt
+    }
+
     /// Keeps a text in the arena.
     pub(crate) fn keep(&self, text: &str) -> Result<&'x str, AllocError> {
         self.arena.try_alloc_str(text)

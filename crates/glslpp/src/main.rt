@@ -5,6 +5,7 @@ mod depending;
 mod files;
 mod foreign;
 mod including;
+mod page;
 mod preprocess;
 mod run;
 mod undefined;
@@ -120,6 +121,10 @@ fn preprocess_together(
     if let Some(output) = arguments.output {
         check_output(rt, arguments, output)?;
     }
+    if arguments.is_page && arguments.files.len() > 1 {
+        let cause = "a page has one source: -o FOLDER writes a page for each";
+        return Err(failure_of(rt.alloc(), "--html", cause));
+    }
     let mut found = Found::new(rt.alloc());
     for file in arguments.files.as_slice() {
         preprocess_file(rt, arguments, version, file, &mut found)?;
@@ -178,7 +183,12 @@ fn outputs_of(
         }
         names.push(name)?;
     }
-    let outputs = outputs_in(rt.alloc(), folder, names.as_slice())?;
+    let mut outputs = outputs_in(rt.alloc(), folder, names.as_slice())?;
+    if arguments.is_page {
+        for output in outputs.iter_mut() {
+            output.push_str(".html")?;
+        }
+    }
     for output in outputs.as_slice() {
         check_output(rt, arguments, output.as_str())?;
     }
@@ -205,7 +215,7 @@ fn write_found(
         }
         return Ok(is_faultless);
     }
-    if is_faultless || arguments.form == Form::Tokens {
+    if is_faultless || arguments.form == Form::Tokens || arguments.is_page {
         write_output(rt, output, found.output.as_str())?;
     }
     if is_faultless && arguments.dependencies.are_written {

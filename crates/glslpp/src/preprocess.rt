@@ -4,7 +4,7 @@ ghost use Rattle.std.specs.Prelude.{◌≡◌, ℕ, ◌-◌, ◌^◌, ◌<◌, �
 
 use crate::including::Library;
 use crate::run::{Ended, Run};
-use crate::undefined::find_undefined;
+use crate::undefined::search_conditions;
 use glslpp_parts::arguments::Arguments;
 use glslpp_parts::changes::{Definition, kept_definitions, lines_before};
 use glslpp_parts::definitions::add_definitions;
@@ -14,6 +14,7 @@ use glslpp_parts::failure::Failure;
 use glslpp_parts::report::Reporter;
 use glslpp_parts::rule_set::Setting;
 use glslpp_parts::texts::{File, Texts};
+use glslpp_parts::undefined_names::Conditions;
 use glslpp_parts::version::{Version, declared_version};
 use pp_rs::pp::{Preprocessor, SOURCE_TEXT};
 use std::alloc::{AllocError, Global};
@@ -166,13 +167,13 @@ fn run_over_items<'x>(
 ) -> Result<Ended, Failure>
     requires { length source.text.now < 2 ^ 32 - 1 }
 {
-    let undefined = if arguments.warnings.undef {
-        find_undefined(alloc, &mut library, source, setting)?
+    let conditions = if arguments.warnings.undef || arguments.is_page {
+        search_conditions(alloc, &mut library, source, setting)?
     } else {
-        Vec::new(alloc)
+        Conditions::none(alloc)
     };
     let mut run = Run::new(
-        alloc, reporter, arguments, setting, texts, library, undefined,
+        alloc, reporter, arguments, setting, texts, library, conditions,
     )?;
     run.open(source, SOURCE_TEXT, arguments.warnings)?;
     run.read_to_end(items, source.text)?;

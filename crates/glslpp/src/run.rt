@@ -7,6 +7,7 @@ mod included;
 mod messages;
 
 use crate::including::Library;
+use crate::page::{View, page_of};
 use glslpp_parts::arguments::{Arguments, Form};
 use glslpp_parts::diagnostic::Diagnostic;
 use glslpp_parts::explainer::Explainer;
@@ -14,17 +15,18 @@ use glslpp_parts::extensions::{EXTENSION_CONTENT, define_extension, turned_on};
 use glslpp_parts::failure::Failure;
 use glslpp_parts::fault::FaultFinder;
 use glslpp_parts::listing::Listing;
+use glslpp_parts::macro_uses::Watched;
 use glslpp_parts::output::Output;
 use glslpp_parts::pragma::is_once;
 use glslpp_parts::report::Reporter;
 use glslpp_parts::rule_set::Setting;
 use glslpp_parts::texts::Texts;
-use glslpp_parts::undefined_names::UndefinedName;
+use glslpp_parts::undefined_names::Conditions;
 use glslpp_parts::version::has_version;
 use glslpp_parts::warning::Warnings;
 use pp_rs::SOURCE_LIMIT;
 use pp_rs::pp::{Preprocessor, SOURCE_TEXT};
-use pp_rs::token::{PreprocessorError, Token, TokenValue};
+use pp_rs::token::{Location, PreprocessorError, Token, TokenValue};
 use std::alloc::{AllocError, Global};
 
 /// How many texts there may be before a file is included.
@@ -83,8 +85,10 @@ pub(crate) struct Run<'a> {
     // The warnings that a macro of the source isn't used, from its end to its start, if it may include files that use
     // it.
     unused: Vec<Diagnostic<'a>>,
-    // The names that are not defined in conditions.
-    undefined: Vec<UndefinedName>,
+    // What was found in conditions.
+    conditions: Conditions,
+    // What a page shows, if one is made.
+    view: Option<View>,
     // The source, and the files that are open in it, each included by the one before.
     readings: Vec<Reading<'a>>,
 }
@@ -98,7 +102,7 @@ impl<'a> Run<'a> {
         setting: Setting<'a>,
         texts: Texts<'a>,
         library: Library<'a>,
-        undefined: Vec<UndefinedName>,
+        conditions: Conditions,
     ) -> Result<Run<'a>, AllocError> {
         let has_names = arguments.has_line_names;
         Ok(Run {
@@ -121,7 +125,8 @@ impl<'a> Run<'a> {
             is_too_deep: false,
             finder: FaultFinder::new(alloc),
             unused: Vec::new(alloc),
-            undefined,
+            conditions,
+            view: if arguments.is_page { Some(View::new(alloc)) } else { None },
             readings: Vec::new(alloc),
         })
     }
@@ -145,8 +150,17 @@ impl<'a> Run<'a> {
     pub(crate) fn finish(self) -> Result<Ended, AllocError> {
         let files = self.library.names()?;
         let (reports, errors) = (self.reports, self.errors);
-        let (listed, output) = (self.listed, self.output);
-        let output = text_of_output(listed, output)?;
+        let output = match self.view {
+            Some(view) => page_of(
+                self.alloc,
+                self.library.runtime(),
+                self.output.texts(),
+                self.setting.rules,
+                &self.conditions,
+                &view,
+            )?,
+            None => text_of_output(self.listed, self.output)?,
+        };
         Ok(Ended {
             output,
             reports,
@@ -160,7 +174,7 @@ impl<'a> Run<'a> {
         // A macro that an `#extension` line defines and a file that is included add to what is left, so the calls are
         // counted.
         for _ in 0..u64::MAX {
-            let Some(item) = items.give_tokens(&mut self.output) else {
+            let Some(item) = self.next_item(items) else {
                 return Ok(());
             };
             match item {
@@ -184,6 +198,20 @@ impl<'a> Run<'a> {
             }
         }
         Ok(())
+    }
+
+    // Takes the next tokens, up to what isn't one.
+    fn next_item(&mut self, items: &mut Preprocessor<'a>) -> Option<Result<Token, (PreprocessorError, Location)>> {
+        match &mut self.view {
+            Some(view) => {
+                let mut watched = Watched {
+                    output: &mut self.output,
+                    uses: &mut view.uses,
+                };
+                items.give_tokens(&mut watched)
+            }
+            None => items.give_tokens(&mut self.output),
+        }
     }
 
     // Lists the macros that are defined.

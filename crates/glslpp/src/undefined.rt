@@ -1,4 +1,4 @@
-//! The search for names in conditions that are not defined, in a source and the files that it includes.
+//! The search of the conditions of a source and of the files that it includes.
 
 use crate::including::{Answer, Library};
 use crate::run::MOST_TEXTS;
@@ -8,24 +8,24 @@ use glslpp_parts::include_line::Asked;
 use glslpp_parts::pragma::is_once;
 use glslpp_parts::rule_set::Setting;
 use glslpp_parts::texts::{File, Inclusion};
-use glslpp_parts::undefined_names::{UndefinedName, UndefinedNames};
+use glslpp_parts::undefined_names::{Conditions, UndefinedNames};
 use pp_rs::SOURCE_LIMIT;
 use pp_rs::pp::{IncludeError, Preprocessor, SOURCE_TEXT};
 use pp_rs::token::{PreprocessorError, Token};
 use std::alloc::{AllocError, Global};
 
-/// Finds the names that are not defined in conditions that are computed, up to the first condition with an error, and
-/// no further than the budget allows.
-pub(crate) fn find_undefined<'x>(
+/// Finds the names that are not defined in conditions that are computed, and the branches that are read, up to the first
+/// condition with an error, and no further than the budget allows.
+pub(crate) fn search_conditions<'x>(
     alloc: Global,
     library: &mut Library<'x>,
     source: File<'x>,
     setting: Setting<'x>,
-) -> Result<Vec<UndefinedName>, Failure> {
+) -> Result<Conditions, Failure> {
     let names = UndefinedNames::new(alloc, setting.rules, source)?;
     let text = library.keep(names.probe_text(SOURCE_TEXT))?;
     if text.len() >= SOURCE_LIMIT {
-        return Ok(Vec::new(alloc));
+        return Ok(names.finish(false)?);
     }
     let mut items = setting.begin(alloc, text)?;
     let mut search = Search {
@@ -37,7 +37,8 @@ pub(crate) fn find_undefined<'x>(
     drop(items);
     search.library.forget_once();
     match end {
-        Ok(()) | Err(Failure::Told(_)) => Ok(search.names.finish()),
+        Ok(is_whole) => Ok(search.names.finish(is_whole)?),
+        Err(Failure::Told(_)) => Ok(search.names.finish(false)?),
         Err(Failure::OutOfMemory) => Err(Failure::OutOfMemory),
     }
 }
@@ -51,8 +52,8 @@ struct Search<'l, 'x> {
 }
 
 impl<'l, 'x> Search<'l, 'x> {
-    // Takes what the preprocessor gives for the questions.
-    fn run(&mut self, items: &mut Preprocessor<'x>) -> Result<(), Failure> {
+    // Takes what the preprocessor gives for the questions. Returns whether it came to the end.
+    fn run(&mut self, items: &mut Preprocessor<'x>) -> Result<bool, Failure> {
         self.names.define(items, self.setting.definitions)?;
         if let Some(before) = self.library.before() {
             let _ = self.include(items, before, None)?;
@@ -60,22 +61,22 @@ impl<'l, 'x> Search<'l, 'x> {
         // Files that are included add to what is left, so the items are counted.
         for _ in 0..u64::MAX {
             let Some(item) = items.next() else {
-                return Ok(());
+                return Ok(true);
             };
             match item {
                 Ok(token) => self.take(items, &token)?,
                 Err((PreprocessorError::OutOfMemory, _)) if items.is_over_budget() => {
-                    return Ok(());
+                    return Ok(false);
                 }
                 Err((PreprocessorError::OutOfMemory, _)) => return Err(Failure::OutOfMemory),
                 Err((_error, _)) => {
                     if items.include_line().is_none() || !self.take_include(items)? {
-                        return Ok(());
+                        return Ok(false);
                     }
                 }
             }
         }
-        Ok(())
+        Ok(false)
     }
 
     fn take(&mut self, items: &mut Preprocessor<'x>, token: &Token) -> Result<(), AllocError> {

@@ -62,9 +62,10 @@ dependency_options = named (codes "dependencies") ∷ named (codes "write-depend
     ∷ long_valued (codes "dependency-file") ∷ long_listed (codes "target") ∷ long_listed (codes "quoted-target")
     ∷ named (codes "phony-targets") ∷ []
 
--- `--first-error`, `--undef` and `--budget`
+-- `--first-error`, `--undef`, `--budget` and `--html`
 abbrev pub general_options : List Known
-general_options = named (codes "first-error") ∷ named (codes "undef") ∷ long_valued (codes "budget") ∷ []
+general_options = named (codes "first-error") ∷ named (codes "undef") ∷ long_valued (codes "budget")
+    ∷ named (codes "html") ∷ []
 
 -- `--max-errors`, `--error-format`, `--color` and `--stdin-name`
 abbrev pub message_options : List Known

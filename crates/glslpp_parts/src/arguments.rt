@@ -80,6 +80,8 @@ pub struct Arguments<'a> {
     pub output: Option<&'a str>,
     /// How the preprocessed source is printed.
     pub form: Form,
+    /// Whether a page of HTML is printed in place of that.
+    pub is_page: bool,
     /// Whether `#line` lines name files by their names.
     pub has_line_names: bool,
     /// Whose rules the sources are read by.
@@ -324,11 +326,27 @@ fn with_general_options<'a>(alloc: Global, command: Command<'a>) -> Result<Comma
     let first_error = long_flag(alloc, "first-error", "End at the first error");
     let undef = long_flag(alloc, "undef", "Define no predefined name");
     let budget = budget_option(alloc);
+    let page = page_flag(alloc)?;
     let first = with_option(command, MESSAGES, first_error)?;
     let second = with_option(first, DEFINITIONS, undef)?;
     let third = with_option(second, MESSAGES, budget)?;
-    Ok(third)
+    let fourth = with_option(third, OUTPUT, page)?;
+    Ok(fourth)
 }
+
+fn page_flag<'a>(alloc: Global) -> Result<Arg<'a>, AllocError>
+    ensures { IfOk result (λ option. IsOption option (named (codes "html"))) }
+{
+    let page = long_flag(alloc, "html", PAGE_HELP);
+    let page = without(page, "compact")?;
+    let page = without(page, "tokens")?;
+    let page = without(page, "directives")?;
+    let page = without(page, "definitions")?;
+    let page = without(page, "dependencies")?;
+    Ok(page)
+}
+
+const PAGE_HELP: &str = "Print a page that shows which lines are compiled, and what macros become";
 
 fn budget_option<'a>(alloc: Global) -> Arg<'a>
     ensures { IsOption result (long_valued (codes "budget")) }
@@ -490,6 +508,7 @@ impl<'a> Arguments<'a> {
         ensures output { IfOk result (λ asked. option_map (λ name. name.now) asked.output
             ≡ option_and_then written_file (first_value (found_of matches.now) (codes "output"))) }
         ensures form { IfOk result (λ asked. IsForm (found_of matches.now) asked.form) }
+        ensures page { IfOk result (λ asked. IsFlag (found_of matches.now) (codes "html") asked.is_page) }
         ensures rule_set { IfOk result (λ asked. IsRuleSet (found_of matches.now) asked.rule_set) }
         ensures standard { IfOk result (λ asked. option_map (λ word. word.now) asked.standard
             ≡ first_value (found_of matches.now) (codes "std")) }
@@ -520,6 +539,7 @@ impl<'a> Arguments<'a> {
             dependencies: Dependencies::asked(alloc, matches)?,
             output: output_of(matches),
             form: form_of(matches),
+            is_page: is_given(matches, "html"),
             has_line_names: is_given(matches, "line-names"),
             rule_set: rule_set_of(matches),
             standard: matches.get_str("std"),

@@ -24,7 +24,7 @@ pub enum Severity {
 
 impl Severity {
     /// Its name in reports.
-    pub(crate) fn name(self) -> &'static str
+    pub fn name(self) -> &'static str
         ensures { result.now ≡ name_of self }
     {
         match self {

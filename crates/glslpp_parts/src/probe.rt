@@ -31,6 +31,30 @@ struct Inclusion {
     rest: Location,
 }
 
+/// A directive that begins or ends a part of a block.
+#[derive(Clone, Copy)]
+pub struct Branch {
+    /// The byte offset in the source of its word.
+    pub start: u32,
+    /// The byte offset of the end of its line.
+    pub end: u32,
+    /// The number of the last directive before its block that is a branch, from 0, if there is one.
+    pub around: Option<usize>,
+    /// Whether what follows it is read.
+    pub is_read: bool,
+    // The number of the line of the text that is given only then.
+    line: u32,
+}
+
+// A block that is open.
+#[derive(Clone, Copy)]
+struct Block {
+    // The number of its `#elif` lines so far.
+    elifs: usize,
+    // As in a branch.
+    around: Option<usize>,
+}
+
 /// Where an operand of `&&` and one of `||` begin among the words of a condition, and what is open since.
 #[derive(Clone, Copy)]
 struct Group {
@@ -67,8 +91,11 @@ pub(crate) struct Probe {
     questions: Vec<Question>,
     // In the same order.
     inclusions: Vec<Inclusion>,
-    // For each open block the number of its `#elif` lines so far.
-    elifs: Vec<usize>,
+    /// In the same order, and that of the source.
+    pub branches: Vec<Branch>,
+    /// Whether a directive of the source has the word `__LINE__`, whose value is another in the text.
+    pub has_line_numbers: bool,
+    blocks: Vec<Block>,
 }
 
 impl Probe {
@@ -82,7 +109,9 @@ impl Probe {
             line: 1,
             questions: Vec::new(alloc),
             inclusions: Vec::new(alloc),
-            elifs: Vec::new(alloc),
+            branches: Vec::new(alloc),
+            has_line_numbers: false,
+            blocks: Vec::new(alloc),
         };
         let mut lexer = Lexer::with_rules(alloc, source, rules);
         let mut words = Vec::new(alloc);
@@ -116,6 +145,17 @@ impl Probe {
         }
     }
 
+    /// Notes that a line of the text is given, if it asks for a branch.
+    pub(crate) fn note_line(&mut self, line: u32) {
+        let branches = self.branches.as_mut_slice();
+        let before = branches.partition_point(|branch| branch.line < line);
+        if let Some(branch) = branches.get_mut(before)
+            && branch.line == line
+        {
+            branch.is_read = true;
+        }
+    }
+
     /// The place in the source of what follows the word of the `#include` that a line of the text is.
     pub(crate) fn inclusion(&self, line: u32) -> Option<Location> {
         let inclusions = self.inclusions.as_slice();
@@ -131,10 +171,11 @@ impl Probe {
         let Some((first, rest)) = words.split_first() else {
             return Ok(());
         };
+        if words.iter().any(|word| name_of(word) == Some("__LINE__")) {
+            self.has_line_numbers = true;
+        }
         match name_of(first).unwrap_or("") {
-            "define" | "undef" | "else" | "extension" | "pragma" => {
-                self.push_directive("", words)
-            }
+            "define" | "undef" | "extension" | "pragma" => self.push_directive("", words),
             "include" => {
                 let Location {
                     end: start,
@@ -148,29 +189,68 @@ impl Probe {
                 self.push_directive("include", &[])
             }
             "ifdef" | "ifndef" => {
-                self.elifs.push(0)?;
-                self.push_directive("", words)
+                self.open_block()?;
+                self.push_directive("", words)?;
+                self.push_branch(first, end)
             }
             "if" => {
-                self.elifs.push(0)?;
+                self.open_block()?;
                 self.ask_for_names(rest)?;
-                self.push_directive("if", rest)
+                self.push_directive("if", rest)?;
+                self.push_branch(first, end)
             }
             "elif" => {
-                let Some(count) = self.elifs.last_mut() else {
+                let Some(block) = self.blocks.pop() else {
                     return Ok(());
                 };
-                *count = count.saturating_add(1);
+                self.blocks.push(Block {
+                    elifs: block.elifs.saturating_add(1),
+                    ..block
+                })?;
                 self.push_directive("else", &[])?;
                 self.ask_for_names(rest)?;
-                self.push_directive("if", rest)
+                self.push_directive("if", rest)?;
+                self.push_branch(first, end)
             }
-            "endif" => match self.elifs.pop() {
-                Some(count) => self.push_ends(count.saturating_add(1)),
-                None => Ok(()),
-            },
+            "else" => {
+                self.push_directive("", words)?;
+                self.push_branch(first, end)
+            }
+            "endif" => {
+                let Some(block) = self.blocks.last().copied() else {
+                    return Ok(());
+                };
+                self.push_ends(block.elifs.saturating_add(1))?;
+                self.push_branch(first, end)?;
+                self.blocks.pop();
+                Ok(())
+            }
             _ => Ok(()),
         }
+    }
+
+    // Opens a block after the last branch.
+    fn open_block(&mut self) -> Result<(), AllocError> {
+        let around = self.branches.len().checked_sub(1);
+        self.blocks.push(Block { elifs: 0, around })?;
+        Ok(())
+    }
+
+    // Asks whether what follows the directive with this word is read, of which the line ends at this byte offset.
+    fn push_branch(&mut self, word: &Word, end: u32) -> Result<(), AllocError> {
+        let around = match self.blocks.last() {
+            Some(block) => block.around,
+            None => None,
+        };
+        self.branches.push(Branch {
+            start: word.location.start,
+            end,
+            around,
+            is_read: false,
+            line: self.line,
+        })?;
+        self.text.push('1')?;
+        self.push_line_end()
     }
 
     // Asks for the names of a condition, each only if what is before it makes it count.

@@ -1,4 +1,4 @@
-//! Names in conditions that are not defined, and count as 0.
+//! Names in conditions that are not defined, and count as 0, and the branches of blocks that are read.
 //!
 //! Whether a name is defined where a condition is computed, and whether the condition is computed at all, is left to
 //! the preprocessor, which reads a [`Probe`] with a line for each name of a condition. The names that it gives for such
@@ -10,7 +10,7 @@ use crate::definitions::add_definitions;
 use crate::extensions::EXTENSION_CONTENT;
 use crate::failure::Failure;
 use crate::include_line::{Asked, asked_file};
-use crate::probe::Probe;
+use crate::probe::{Branch, Probe};
 use crate::texts::{File, Inclusion, Texts};
 use pp_rs::SOURCE_LIMIT;
 use pp_rs::pp::{Origin, Preprocessor, SOURCE_TEXT};
@@ -27,6 +27,28 @@ pub struct UndefinedName {
     pub location: Location,
     /// What is said of it.
     pub message: String,
+}
+
+/// What is found in the conditions of a source and the files that it includes.
+#[derive(Drop)]
+pub struct Conditions {
+    /// The names that are not defined.
+    pub undefined: Vec<UndefinedName>,
+    /// The branches of each text, with its number, in the order of these.
+    pub branches: Vec<(u32, Vec<Branch>)>,
+    /// Whether all branches were asked for, and none by `__LINE__`.
+    pub are_known: bool,
+}
+
+impl Conditions {
+    /// Nothing, as of a source that wasn't searched.
+    pub fn none(alloc: Global) -> Conditions {
+        Conditions {
+            undefined: Vec::new(alloc),
+            branches: Vec::new(alloc),
+            are_known: false,
+        }
+    }
 }
 
 /// The names that are found so far, and the probes of the texts that were read so far.
@@ -124,6 +146,7 @@ impl<'a> UndefinedNames<'a> {
             None => (origin.text, token.location.line),
         };
         let TokenValue::Ident(name) = &token.value else {
+            self.note_line(text, line);
             return Ok(());
         };
         if self.answered == Some((text, line)) {
@@ -150,9 +173,30 @@ impl<'a> UndefinedNames<'a> {
         Ok(Some(asked_file(self.alloc, self.texts.text(text), rest)?))
     }
 
-    /// The names that were found.
-    pub fn finish(self) -> Vec<UndefinedName> {
-        self.found
+    // Notes that a line of the probe of a text is given.
+    fn note_line(&mut self, number: u32, line: u32) {
+        let probes = self.probes.as_mut_slice();
+        let before = probes.partition_point(|(other, _)| *other < number);
+        if let Some(found) = probes.get_mut(before)
+            && found.0 == number
+        {
+            found.1.note_line(line);
+        }
+    }
+
+    /// What was found, in all conditions or in those up to one with an error.
+    pub fn finish(self, is_whole: bool) -> Result<Conditions, AllocError> {
+        let mut are_known = is_whole;
+        let mut branches = Vec::new(self.alloc);
+        for (number, probe) in self.probes {
+            are_known = are_known && !probe.has_line_numbers;
+            branches.push((number, probe.branches))?;
+        }
+        Ok(Conditions {
+            undefined: self.found,
+            branches,
+            are_known,
+        })
     }
 }
 

@@ -123,7 +123,7 @@ impl<'a> Run<'a> {
     pub(crate) fn open(&mut self, file: File<'a>, text: u32, warnings: Warnings) -> Result<(), AllocError>
         requires { length file.text.now < 2 ^ 32 - 1 }
     {
-        let undefined = self.undefined.as_slice();
+        let undefined = self.conditions.undefined.as_slice();
         let rules = self.setting.rules;
         let found = findings_backwards(self.alloc, file, text, warnings, rules, undefined)?;
         let may_include = file.text.contains("include");

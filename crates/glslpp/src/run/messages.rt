@@ -160,6 +160,9 @@ impl<'a> Run<'a> {
                 return Ok(());
             }
         }
+        if let Some(view) = &mut self.view {
+            view.say(diagnostic)?;
+        }
         let text = diagnostic.site.text().unwrap_or(SOURCE_TEXT);
         if text != self.said_of {
             self.said_of = text;
