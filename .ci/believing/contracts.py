@@ -178,9 +178,14 @@ class Source:
     def take_type(self, number, line):
         kind = re.match(VISIBLE + r'(struct|enum|type|const|static)\s+(\w+)', line)
         if kind:
-            end = self.end_of_braces(number) if kind[2] in ('struct', 'enum') else number
+            end = self.end_of_braces(number) if kind[2] in ('struct', 'enum') else self.end_of_text(number)
             self.types[kind[3]] = Type(self, kind[3], kind[1] == 'pub ', number, end)
             return end
+
+    def end_of_text(self, number):
+        """The last line of a constant, whose text may go over lines."""
+        goes_on = re.search(r'= "[^"]*(?:\\"[^"]*)*$', self.lines[number])
+        return next(n for n in range(number, len(self.lines)) if not goes_on or self.lines[n].endswith('";'))
 
     def take_function(self, number, line):
         function = FUNCTION.match(line.strip())

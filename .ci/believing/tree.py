@@ -61,6 +61,9 @@ class Tree:
         there = re.match(r'Rattle\.(\w+)\.specs\.declared\.(.+)$', path)
         if there and there[1] in self.crates:
             parts = [p for p in there[2].split('.') if p not in ('TheVariants', 'TheDeep')]
+            if parts[-1] == 'TheConstants':
+                source = self.source(there[1], parts[:-1])
+                return source and source.types.get(name)
             return self.declared(there[1], parts)
         derived = re.match(r'Rattle\.(\w+)\.specs\.contracts\.(.+)\.TheImpl$', path)
         if derived and derived[1] in self.crates:

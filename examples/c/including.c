@@ -1,5 +1,5 @@
-/* Prints the tokens that a shader has once it is preprocessed, with what it includes from the folder in which it is run:
- * including < shader.frag */
+/* Prints the tokens that a shader has once it is preprocessed, with what it includes from the folder in which it is
+ * run: including < shader.frag */
 #include "pp.h"
 
 #include <stdio.h>
@@ -40,8 +40,8 @@ int main(void) {
         numbers = realloc(numbers, room.items * sizeof *numbers);
         spelled = realloc(spelled, room.texts);
         if (!items || !numbers || !spelled) return 2;
-        answer = pp_preprocess_including(&options, lines, source, source_length, words, words_length, texts, text_count, items,
-                                         room.items, spelled, room.texts, numbers, room.items, &sizes);
+        answer = pp_preprocess_including(&options, lines, source, source_length, words, words_length, texts, text_count,
+                                         items, room.items, spelled, room.texts, numbers, room.items, &sizes);
         if (answer == PP_TOO_SMALL) {
             room.items = 2 * sizes.items;
             room.texts = 2 * sizes.texts + 16;
@@ -49,7 +49,8 @@ int main(void) {
             uint64_t count = 0, last = sizes.items - 1; /* the last one is what follows the word `include` */
             for (uint64_t n = 0; n < sizes.items; n += 1 + items[n].children) count++;
             if (!include_file(&items[last], numbers[last], count)) {
-                fprintf(stderr, "text %u, line %u: no such file\n", (unsigned)numbers[last], (unsigned)items[last].line);
+                fprintf(stderr, "text %u, line %u: no such file\n", (unsigned)numbers[last],
+                        (unsigned)items[last].line);
                 return 1;
             }
             lines++;
@@ -60,7 +61,8 @@ int main(void) {
     for (uint64_t n = 0; n < sizes.items; n += 1 + items[n].children) {
         const pp_item *it = &items[n];
         if (it->kind == PP_ERROR && (it->children == 1 || items[n + 2].kind != PP_INCLUDE_LINE)) {
-            fprintf(stderr, "text %u, line %u: %s\n", (unsigned)numbers[n], (unsigned)it[1].line, pp_error_sentence(it->error));
+            fprintf(stderr, "text %u, line %u: %s\n", (unsigned)numbers[n], (unsigned)it[1].line,
+                    pp_error_sentence(it->error));
             return 1;
         }
         if (it->kind == PP_INTEGER) printf("%llu\n", (unsigned long long)it->value);

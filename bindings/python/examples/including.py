@@ -1,5 +1,5 @@
-"""Prints the tokens that a shader has once it is preprocessed, with what it includes from the folder in which it is run:
-including.py < shader.frag"""
+"""Prints the tokens that a shader has once it is preprocessed, with what it includes from the folder in which it is
+run: including.py < shader.frag"""
 import sys
 from pathlib import Path
 

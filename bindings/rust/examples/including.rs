@@ -1,5 +1,5 @@
-//! Prints the tokens that a shader has once it is preprocessed, with what it includes from the folder in which it is run:
-//! including < shader.frag
+//! Prints the tokens that a shader has once it is preprocessed, with what it includes from the folder in which it is
+//! run: including < shader.frag
 use pp_rs::reader::{Profile, Reader, Rules};
 use std::error::Error;
 use std::io::{self, Read};

@@ -195,8 +195,8 @@ fn outputs_of(
     Ok(outputs)
 }
 
-// Writes what was found in sources, of which this is the first, if they have no error or the form shows these too. Their
-// rule is written too or appended to the rules, if one is asked for. Returns whether they have no error.
+// Writes what was found in sources, of which this is the first, if they have no error or the form shows these too.
+// Their rule is written too or appended to the rules, if one is asked for. Returns whether they have no error.
 fn write_found(
     rt: &HostRuntime,
     arguments: &Arguments<'_>,

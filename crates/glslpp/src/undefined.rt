@@ -14,8 +14,8 @@ use pp_rs::pp::{IncludeError, Preprocessor, SOURCE_TEXT};
 use pp_rs::token::{PreprocessorError, Token};
 use std::alloc::{AllocError, Global};
 
-/// Finds the names that are not defined in conditions that are computed, and the branches that are read, up to the first
-/// condition with an error, and no further than the budget allows.
+/// Finds the names that are not defined in conditions that are computed, and the branches that are read, up to the
+/// first condition with an error, and no further than the budget allows.
 pub(crate) fn search_conditions<'x>(
     alloc: Global,
     library: &mut Library<'x>,

@@ -78,10 +78,10 @@ replies_to_next (reply.Refused fault ∷ replies) = replies_to_next replies
 replies_to_next (reply.Included ∷ replies) = replies_to_next replies
 replies_to_next (reply.TooDeep ∷ replies) = replies_to_next replies
 
--- The places of all errors that these calls give, also after the first, if the errors of the lexer in one list were not
--- given before, and those in another were not given after. If the rules pass errors in dead text and on lines that are
--- skipped, some may be gone before each item, and at the end. An error is the first of the lexer's that are left, at its
--- true place, or any error at the place in its item. Those of a text come at its call.
+-- The places of all errors that these calls give, also after the first, if the errors of the lexer in one list were
+-- not given before, and those in another were not given after. If the rules pass errors in dead text and on lines
+-- that are skipped, some may be gone before each item, and at the end. An error is the first of the lexer's that are
+-- left, at its true place, or any error at the place in its item. Those of a text come at its call.
 pub data ErrorsStand (rules : Rules) : List Call → List Given → List ErrorAt → List ErrorAt → Type 0 where
   none : (calls : List Call) (given : List Given) (before after : List ErrorAt)
       → calls ≡ []
@@ -130,9 +130,9 @@ IsPossibleGiven rules (token t) = HoldsOrdinary t.value
 IsPossibleGiven rules (error fault place asked) = Asks rules (Some (Err fault)) asked
 
 -- These are the items of a source by these rules, with each definition added, and if the call takes texts each text
--- included, when its number of items was given or no further item is: all of them, if the end was reached, and otherwise
--- those at the front. Up to and with the first error they are those of the run. At the end none of the lexer's errors is
--- left.
+-- included, when its number of items was given or no further item is: all of them, if the end was reached, and
+-- otherwise those at the front. Up to and with the first error they are those of the run. At the end none of the
+-- lexer's errors is left.
 pub record AreItemsBy (rules : Rules) (texts : Bool) (source words : List ℕ) (definitions : List Definition)
     (has_ended : Bool) (given : List Given) : Type 0 where
   pub replies : List Reply

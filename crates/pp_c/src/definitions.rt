@@ -45,8 +45,8 @@ fn answer(definition: &mut Definition, error: u32, place: Location)
     definition.line = place.line;
 }
 
-/// Includes a text, if the call takes texts and it is one, or adds a definition, and writes the error of its content into
-/// it, or 0 if there is none.
+/// Includes a text, if the call takes texts and it is one, or adds a definition, and writes the error of its content
+/// into it, or 0 if there is none.
 pub(crate) fn enter<'a>(
     pp: &mut Preprocessor<'a>,
     texts: bool,

@@ -207,19 +207,19 @@ pub extern "C" fn pp_preprocess_with(
     )
 }
 
-/// Does what [`pp_preprocess_with`] does, by rules that ask for the text of each `#include` line, which the caller hands
-/// in.
+/// Does what [`pp_preprocess_with`] does, by rules that ask for the text of each `#include` line, which the caller
+/// hands in.
 ///
-/// The call stops after such a line, once it has passed `lines` others: the status is `PP_INCLUDE`, and the last item is
-/// the error `PP_UNKNOWN_DIRECTIVE`, which holds the rest of the line. The caller calls again with one more line passed.
-/// To include a text it adds to `definitions` one whose name begins at 2^64 - 1, whose content is the text, and whose
-/// number of items is that of the items so far. Without it reading goes on after the line.
+/// The call stops after such a line, once it has passed `lines` others: the status is `PP_INCLUDE`, and the last item
+/// is the error `PP_UNKNOWN_DIRECTIVE`, which holds the rest of the line. The caller calls again with one more line
+/// passed. To include a text it adds to `definitions` one whose name begins at 2^64 - 1, whose content is the text,
+/// and whose number of items is that of the items so far. Without it reading goes on after the line.
 ///
 /// A text that would be inside of 200 others isn't included, and the status is `PP_TOO_DEEP`.
 ///
-/// At the place of each item in `items` its text's number is written into `numbers`, if there is room: 0 is `source`, and
-/// each definition that is added and each text has the next number. With `most_items` of 0 the call stops after 2^64 - 1
-/// items.
+/// At the place of each item in `items` its text's number is written into `numbers`, if there is room: 0 is `source`,
+/// and each definition that is added and each text has the next number. With `most_items` of 0 the call stops after
+/// 2^64 - 1 items.
 #[unsafe(no_mangle)]
 pub extern "C" fn pp_preprocess_including(
     alloc: Global,
