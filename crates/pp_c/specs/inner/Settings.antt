@@ -1,5 +1,5 @@
 -- What options ask for, as a call takes it. No contract of a public call cites this.
-use Rattle.std.specs.Prelude.{ℕ, Bool, Option, Some, None, is_some}
+use Rattle.std.specs.Prelude.{ℕ, Bool, Some, None, is_some}
 use Rattle.pp_c.specs.Options.{rules_in, asking_rules_in, unless_zero, most_in, most_asking_in}
 use Rattle.pp_c.specs.declared.options.Options.{Options}
 use Rattle.pp_c.specs.declared.options.Setting.{Setting}

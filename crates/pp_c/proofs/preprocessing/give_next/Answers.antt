@@ -1,4 +1,4 @@
-use Rattle.std.proofs.Common.{◌∙◌, Some, refl, ap}
+use Rattle.std.proofs.Common.{◌∙◌, Some, ap}
 use Rattle.pp_c.proofs.NextLemmas.{next_item, asks_of}
 use Rattle.pp_c.specs.inner.Making.{given_of, GivesNext}
 use Rattle.pp_rs.specs.Kept.{rules_of}
