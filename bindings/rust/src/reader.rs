@@ -23,7 +23,7 @@ use crate::source::{NoItems, Source};
 use crate::token::{Location, PreprocessorError, Token};
 use std::fmt;
 
-// How many items are made first, and how many times as many each time after that.
+// How many items are made ahead first, and how many times as many each time after that.
 const FIRST: u64 = 32;
 const MORE: u64 = 4;
 
@@ -128,15 +128,18 @@ impl std::error::Error for IncludeError {}
 /// A source as an iterator of its preprocessed tokens, which are made as they are read. It goes on after an error of the
 /// source.
 ///
-/// Some items are made at a time, each time four times as many as before, from the beginning of the source. An `add_define`
-/// between items lets the next `next` begin anew too, and so does an [`include`](Reader::include): the items before it
-/// stay what they were.
+/// Some items are made at a time, each time about four times as many as before, from the beginning of the source. An
+/// `add_define` between items lets the next `next` begin anew too, and so does an [`include`](Reader::include): the items
+/// before it stay what they were.
 pub struct Reader<'a> {
     source: Source<'a>,
     items: Option<Items>,
     // How often `next` was called, also at the end, and the number of the next item in the list.
     asked: u64,
     at: usize,
+    // How many items to make ahead of these, and how often `next` was called up to the last definition or text.
+    ahead: u64,
+    begun: u64,
     is_over_budget: bool,
     // Of the last item: the number of its text, and the rest of its line if it asks for a text.
     text: u32,
@@ -157,6 +160,8 @@ impl<'a> Reader<'a> {
             items: None,
             asked: 0,
             at: 0,
+            ahead: FIRST,
+            begun: 0,
             is_over_budget: false,
             text: 0,
             rest: None,
@@ -207,7 +212,7 @@ impl<'a> Reader<'a> {
         content: &str,
     ) -> Result<(), (PreprocessorError, Location)> {
         self.source.add_define(name, content, self.asked)?;
-        self.items = None;
+        self.begin_anew();
         Ok(())
     }
 
@@ -226,7 +231,8 @@ impl<'a> Reader<'a> {
             return Err(IncludeError::NotAsked);
         }
         self.source.include(text, self.asked);
-        match self.source.items(self.most()) {
+        self.begin_anew();
+        match self.make() {
             Err(NoItems::TooDeep) => {
                 self.source.exclude();
                 return Err(IncludeError::TooDeep);
@@ -244,9 +250,19 @@ impl<'a> Reader<'a> {
         self.text
     }
 
-    // How many items to make.
-    fn most(&self) -> u64 {
-        FIRST.max(MORE.saturating_mul(self.asked))
+    // Forgets the items that were made. If definitions come one after another, about as many items are used up to the next
+    // one as since the last.
+    fn begin_anew(&mut self) {
+        self.items = None;
+        self.ahead = FIRST.max(2 * (self.asked - self.begun));
+        self.begun = self.asked;
+    }
+
+    // Makes the items up to those that come next.
+    fn make(&mut self) -> Result<Items, NoItems> {
+        let items = self.source.items(self.asked + self.ahead)?;
+        self.ahead = MORE.saturating_mul(self.ahead);
+        Ok(items)
     }
 
     // The next of the items that were made, if there is one, or the end.
@@ -284,7 +300,7 @@ impl<'a> Iterator for Reader<'a> {
                 self.asked += 1;
                 return item;
             }
-            match self.source.items(self.most()) {
+            match self.make() {
                 Ok(items) => self.items = Some(items),
                 // No text is too deep here, since each was tried.
                 Err(NoItems::OverBudget | NoItems::TooDeep) => {
