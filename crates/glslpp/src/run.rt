@@ -148,18 +148,29 @@ impl<'a> Run<'a> {
 
     /// What the run gave.
     pub(crate) fn finish(self) -> Result<Ended, AllocError> {
-        let files = self.library.names()?;
-        let (reports, errors) = (self.reports, self.errors);
-        let output = match self.view {
+        let Run {
+            alloc,
+            setting,
+            library,
+            output,
+            reports,
+            errors,
+            listed,
+            conditions,
+            view,
+            ..
+        } = self;
+        let files = library.names()?;
+        let output = match view {
             Some(view) => page_of(
-                self.alloc,
-                self.library.runtime(),
-                self.output.texts(),
-                self.setting.rules,
-                &self.conditions,
+                alloc,
+                library.runtime(),
+                output.texts(),
+                setting.rules,
+                &conditions,
                 &view,
             )?,
-            None => text_of_output(self.listed, self.output)?,
+            None => text_of_output(listed, output)?,
         };
         Ok(Ended {
             output,
