@@ -134,14 +134,7 @@ fn preprocess_together(
         None => STANDARD_INPUT,
     };
     let mut rules = String::new(rt.alloc());
-    let is_faultless = write_found(
-        rt,
-        arguments,
-        source,
-        arguments.output,
-        &found,
-        &mut rules,
-    )?;
+    let is_faultless = write_found(rt, arguments, source, arguments.output, &found, &mut rules)?;
     write_rules(rt, arguments, rules.as_str())?;
     Ok(is_faultless)
 }

@@ -151,11 +151,7 @@ fn lines_of(
 }
 
 // Takes the marks before a byte offset from the end of these, which are in the order from the last to the first.
-fn marks_before(
-    alloc: Global,
-    marks: &mut Vec<Mark>,
-    end: usize,
-) -> Result<Vec<Mark>, AllocError> {
+fn marks_before(alloc: Global, marks: &mut Vec<Mark>, end: usize) -> Result<Vec<Mark>, AllocError> {
     let mut before = Vec::new(alloc);
     for _ in 0..marks.len() {
         match marks.last() {
@@ -336,10 +332,7 @@ fn push_words(
                 continue;
             }
         };
-        let (start, end) = (
-            token.location.start as usize,
-            token.location.end as usize,
-        );
+        let (start, end) = (token.location.start as usize, token.location.end as usize);
         match (&token.value, hash) {
             (TokenValue::Hash, _) if token.start_of_line => {
                 hash = Some(start);

@@ -1,6 +1,7 @@
 //! A run over the items of a source and of the files that it includes.
 
 ghost use Rattle.std.specs.Prelude.{◌≡◌, ◌-◌, ◌^◌, ◌<◌, false, length};
+ghost use Rattle.pp_rs.specs.Giving.{is_ordinary_token};
 ghost use Rattle.pp_rs.specs.TokenValue.{is_ordinary};
 
 mod included;
@@ -15,7 +16,6 @@ use glslpp_parts::extensions::{EXTENSION_CONTENT, define_extension, turned_on};
 use glslpp_parts::failure::Failure;
 use glslpp_parts::fault::FaultFinder;
 use glslpp_parts::listing::Listing;
-use glslpp_parts::macro_uses::Watched;
 use glslpp_parts::output::Output;
 use glslpp_parts::pragma::is_once;
 use glslpp_parts::report::Reporter;
@@ -126,13 +126,21 @@ impl<'a> Run<'a> {
             finder: FaultFinder::new(alloc),
             unused: Vec::new(alloc),
             conditions,
-            view: if arguments.is_page { Some(View::new(alloc)) } else { None },
+            view: if arguments.is_page {
+                Some(View::new(alloc))
+            } else {
+                None
+            },
             readings: Vec::new(alloc),
         })
     }
 
     /// Takes all items of this source, and says what is left to be said.
-    pub(crate) fn read_to_end(&mut self, items: &mut Preprocessor<'a>, source: &str) -> Result<(), Failure>
+    pub(crate) fn read_to_end(
+        &mut self,
+        items: &mut Preprocessor<'a>,
+        source: &str,
+    ) -> Result<(), Failure>
         requires { length source.now < 2 ^ 32 - 1 }
     {
         if !has_version(self.alloc, source)? {
@@ -211,16 +219,15 @@ impl<'a> Run<'a> {
         Ok(())
     }
 
-    // Takes the next tokens, up to what isn't one.
-    fn next_item(&mut self, items: &mut Preprocessor<'a>) -> Option<Result<Token, (PreprocessorError, Location)>> {
+    // Takes the next tokens, up to what isn't one. A page shows the sources, and of the tokens what macros became.
+    fn next_item(
+        &mut self,
+        items: &mut Preprocessor<'a>,
+    ) -> Option<Result<Token, (PreprocessorError, Location)>>
+        ensures { is_ordinary_token result ≡ false }
+    {
         match &mut self.view {
-            Some(view) => {
-                let mut watched = Watched {
-                    output: &mut self.output,
-                    uses: &mut view.uses,
-                };
-                items.give_tokens(&mut watched)
-            }
+            Some(view) => items.give_tokens(&mut view.uses),
             None => items.give_tokens(&mut self.output),
         }
     }

@@ -308,7 +308,12 @@ fn with_include_options<'a>(alloc: Global, command: Command<'a>) -> Result<Comma
 }
 
 /// An option that may be repeated, with a long name, which is its id too.
-pub(crate) fn listed_option<'a>(alloc: Global, id: &'a str, value: &'a str, help: &'a str) -> Arg<'a>
+pub(crate) fn listed_option<'a>(
+    alloc: Global,
+    id: &'a str,
+    value: &'a str,
+    help: &'a str,
+) -> Arg<'a>
     ensures { IsOption result (long_listed id.now) }
 {
     long_option(alloc, id, value, help).action(ArgAction::Append)

@@ -5,9 +5,7 @@ ghost use Rattle.clap.specs.Words.{found_of};
 ghost use Rattle.glslpp_parts.specs.Asked.{AreDependencies};
 ghost use Rattle.glslpp_parts.specs.Options.{dependency_options, options_of};
 
-use crate::arguments::{
-    is_given, listed_option, long_flag, long_option, with_option, words_of,
-};
+use crate::arguments::{is_given, listed_option, long_flag, long_option, with_option, words_of};
 use clap::{ArgMatches, Command};
 use std::alloc::{AllocError, Global};
 

@@ -1,8 +1,7 @@
-//! What the uses of macros became.
+//! What the uses of macros became: a sink of tokens that keeps those of calls alone.
 
 ghost use Rattle.std.specs.Prelude.{⊤};
 
-use crate::output::Output;
 use pp_rs::pp::{CallPlace, TokenRef, TokenSink, ValueRef};
 use pp_rs::token::Location;
 use std::alloc::{AllocError, Global};
@@ -36,7 +35,7 @@ impl MacroUses {
     }
 
     // Takes a token of a call.
-    fn take(&mut self, call: CallPlace, value: ValueRef<'_>) -> Result<(), AllocError> {
+    fn add(&mut self, call: CallPlace, value: ValueRef<'_>) -> Result<(), AllocError> {
         if let Some(last) = self.uses.last_mut()
             && last.text == call.text
             && last.name == call.name
@@ -55,22 +54,13 @@ impl MacroUses {
     }
 }
 
-/// An output, and the uses of macros whose tokens it takes.
-#[derive(Drop)]
-pub struct Watched<'o, 'a> {
-    /// The output.
-    pub output: &'o mut Output<'a>,
-    /// The uses.
-    pub uses: &'o mut MacroUses,
-}
-
-impl<'o, 'a> TokenSink for Watched<'o, 'a> {
+impl TokenSink for MacroUses {
     ghost takes = { λ old token new. ⊤ };
 
     fn take(&mut self, token: TokenRef<'_>) -> Result<(), AllocError> {
-        if let Some(call) = token.origin.call {
-            self.uses.take(call, token.value)?;
+        match token.origin.call {
+            Some(call) => self.add(call, token.value),
+            None => Ok(()),
         }
-        self.output.take(token)
     }
 }

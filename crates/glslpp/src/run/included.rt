@@ -120,7 +120,12 @@ impl<'a> Run<'a> {
     }
 
     /// Begins with a file whose text has this number, in which these warnings are on.
-    pub(crate) fn open(&mut self, file: File<'a>, text: u32, warnings: Warnings) -> Result<(), AllocError>
+    pub(crate) fn open(
+        &mut self,
+        file: File<'a>,
+        text: u32,
+        warnings: Warnings,
+    ) -> Result<(), AllocError>
         requires { length file.text.now < 2 ^ 32 - 1 }
     {
         let undefined = self.conditions.undefined.as_slice();
