@@ -109,7 +109,7 @@ move_fits rules live facts items position whole within = by (cases_lt position (
         → position + (move_at rules live facts (sight_of (drop position items)) (drop position items)).taken ≤ length items
     by (inl more) =
         let few : (move_at rules live facts (sight_of (drop position items)) (drop position items)).taken ≤ length (drop position items) =
-            move_within rules live facts (drop position items) (line_from items position whole more) in
+        move_within rules live facts (drop position items) (line_from items position whole more) in
         omega (arith, few, length-drop position items)
     by (inr none) = rw (drop_all position items none) (omega arith)
 
@@ -282,10 +282,11 @@ by_definition name tokens e h = (still_here e.reader (with_added name tokens e).
 
 -- at the start of an included text the reader is at a line
 by_text : (text : List ℕ) (rules : Rules) (e : Expander SourceReader) → IsReading e → IsReading (with_included (items_by rules text) e)
-by_text text rules e h =
-    (held_at_line (with_included (items_by rules text) e).reader (without_end e.held)
-    (record { within = omega arith; begins_line = refl; live = refl; read_before = tt }),
-    (start_read rules text, h.1))
+by_text text rules e h = (
+  held_at_line (with_included (items_by rules text) e).reader (without_end e.held)
+      (record { within = omega arith; begins_line = refl; live = refl; read_before = tt }),
+  (start_read rules text, h.1),
+)
 
 -- a fault that asks for nothing is no `#include` line
 asked_line : (s : SourceReader) (line : IncludeLine) (fault : PlacedFault) (asked : Option Location) → asked ≡ None

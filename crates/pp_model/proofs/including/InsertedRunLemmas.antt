@@ -44,14 +44,29 @@ use Rattle.pp_model.proofs.including.AlikeLineLemmas.{alike_condition, alike_lin
 related_changed : (M X : List Seen) (q : ℕ) (r s : SourceReader) (d d2 : Definitions) (contents contents2 : ℕ) → AlikeDefinitions d d2 → Related M X q r s
     → Related M X q (record r { definitions = d; contents = contents }) (record s { definitions = d2; contents = contents2 })
 related_changed M X q r s d d2 contents contents2 alike (in_text i) = in_text (record {
-  both = record { rules = i.both.rules; definitions = alike }; outer = i.outer; around = i.around; frames = i.frames; text = i.text; directive = i.directive;
+  both = record { rules = i.both.rules; definitions = alike };
+  outer = i.outer;
+  around = i.around;
+  frames = i.frames;
+  text = i.text;
+  directive = i.directive;
 })
 related_changed M X q r s d d2 contents contents2 alike (behind_text b) = behind_text (record {
-  both = record { rules = b.both.rules; definitions = alike }; around = b.around; frames = b.frames; text_before = b.text_before; text = b.text;
-  text_known = b.text_known; directive_before = b.directive_before; directive = b.directive; directive_known = b.directive_known;
+  both = record { rules = b.both.rules; definitions = alike };
+  around = b.around;
+  frames = b.frames;
+  text_before = b.text_before;
+  text = b.text;
+  text_known = b.text_known;
+  directive_before = b.directive_before;
+  directive = b.directive;
+  directive_known = b.directive_known;
 })
 related_changed M X q r s d d2 contents contents2 alike (same_text e) = same_text (record {
-  both = record { rules = e.both.rules; definitions = alike }; frames = e.frames; earlier = e.earlier; around = e.around;
+  both = record { rules = e.both.rules; definitions = alike };
+  frames = e.frames;
+  earlier = e.earlier;
+  around = e.around;
 })
 
 -- what is alike is one item
@@ -148,9 +163,13 @@ module _ (level : ℕ) (M X : List Seen) (q : ℕ) (fits : Fits M X q) (no_line 
 
   later : (r s t m : SourceReader) (x : Taken) → ((u : SourceReader) → Alike m u → Reached u x t) → Stepped r s None m → Reached s x t
   later r s t m x further (inl f) =
-      let there = further f.reader f.related in
-      (there.0, there.1,
-      reads.later there.0 s f.reader there.1 (subst (λ (o : Option Taken). Steps A s o f.reader) (none_given f.given f.alike) f.does) there.2, there.3, there.4)
+      let there = further f.reader f.related in (
+        there.0,
+        there.1,
+        reads.later there.0 s f.reader there.1 (subst (λ (o : Option Taken). Steps A s o f.reader) (none_given f.given f.alike) f.does) there.2,
+        there.3,
+        there.4,
+      )
   later r s t m x further (inr stays) = further s stays.1
 
   source_reads : (r t s : SourceReader) (x : Taken) → Alike r s → Reads A r x t → Reached s x t
@@ -212,7 +231,7 @@ module _ (level : ℕ) (M X : List Seen) (q : ℕ) (fits : Fits M X q) (no_line 
   runs_alike rules e f calls replies alike none (run.failed fault e1 g more r gives is) =
       let there = alike_emits Alike (source_reading A) (source_reading A) source_follows level e g gives.taken f alike gives.emits in
       let item : Gives A f (outcome.Fault fault) there.1 =
-          record { taken = there.0; emits = there.2; is = gives.is ∙ same_item gives.taken there.0 there.3 } in
+      record { taken = there.0; emits = there.2; is = gives.is ∙ same_item gives.taken there.0 there.3 } in
       run.failed fault f there.1 more replies item is
 
 -- the law
@@ -238,8 +257,17 @@ included_is_inserted level rules text e calls replies closed here numbered none 
         outer = suspended_of e.reader;
         around = refl;
         frames = record {
-          items = refl; outer_items = refl; outer_position = refl; offset = sym numbered; outer_offset = refl; outer_unfinished = refl; whole = refl;
-          within = omega arith; position = omega arith; agree = agree; live = here.live;
+          items = refl;
+          outer_items = refl;
+          outer_position = refl;
+          offset = sym numbered;
+          outer_offset = refl;
+          outer_unfinished = refl;
+          whole = refl;
+          within = omega arith;
+          position = omega arith;
+          agree = agree;
+          live = here.live;
         };
         text = refl;
         directive = refl;

@@ -157,9 +157,17 @@ module _ (A : Answers) (conditions : AlikeConditions A) (numbers : AlikeNumbers 
       outer = i.outer;
       around = i.around;
       frames = record {
-        items = i.frames.items; outer_items = i.frames.outer_items; outer_position = i.frames.outer_position; offset = i.frames.offset;
-        outer_offset = i.frames.outer_offset; outer_unfinished = i.frames.outer_unfinished; whole = i.frames.whole; within = within;
-        position = omega (arith, i.frames.position); agree = agree; live = i.frames.live;
+        items = i.frames.items;
+        outer_items = i.frames.outer_items;
+        outer_position = i.frames.outer_position;
+        offset = i.frames.offset;
+        outer_offset = i.frames.outer_offset;
+        outer_unfinished = i.frames.outer_unfinished;
+        whole = i.frames.whole;
+        within = within;
+        position = omega (arith, i.frames.position);
+        agree = agree;
+        live = i.frames.live;
       };
       text = i.text;
       directive = i.directive;
@@ -208,7 +216,7 @@ module _ (A : Answers) (conditions : AlikeConditions A) (numbers : AlikeNumbers 
       taken_within : r.position + (move_of r).taken ≤ length X
       taken_within =
           let few : (move_of r).taken ≤ length (drop r.position r.items) =
-              move_within r.rules (is_live r.items r.truths r.position) (facts_here r) (drop r.position r.items) (rw rest has_line) in
+          move_within r.rules (is_live r.items r.truths r.position) (facts_here r) (drop r.position r.items) (rw rest has_line) in
           let left : length (drop r.position r.items) ≡ length X - r.position = rw i.frames.items (length-drop r.position X) in
           omega (arith, few, left, more)
 
@@ -239,7 +247,7 @@ module _ (A : Answers) (conditions : AlikeConditions A) (numbers : AlikeNumbers 
               → Alike (record (advanced_by (move_of r).taken r) { line_offset = offset }) (record (advanced_by (move_of r).taken s) { line_offset = offset })
           numbered word tokens offset e =
               let is : numbers_lines (sight_of (drop r.position r.items)) ≡ true =
-                  renumbers_in_line r.rules (is_live r.items r.truths r.position) (facts_here r) (drop r.position r.items) word tokens e in
+              renumbers_in_line r.rules (is_live r.items r.truths r.position) (facts_here r) (drop r.position r.items) word tokens e in
               let no : numbers_lines (sight_of (drop r.position r.items)) ≡ false = rw rest (no_line_at X r.position no_line) in
               absurd (true≢false (sym is ∙ no))
 
@@ -262,9 +270,16 @@ module _ (A : Answers) (conditions : AlikeConditions A) (numbers : AlikeNumbers 
         both = record { rules = i.both.rules; definitions = i.both.definitions };
         around = refl;
         frames = record {
-          items = i.frames.outer_items; whole = i.frames.whole; offset = i.frames.outer_offset; unfinished = i.frames.outer_unfinished;
-          further = 0; position = omega (arith, i.frames.outer_position); whole_position = omega (arith, i.frames.position, at_end);
-          inner = r.truths; agree = i.frames.agree; live = i.frames.live;
+          items = i.frames.outer_items;
+          whole = i.frames.whole;
+          offset = i.frames.outer_offset;
+          unfinished = i.frames.outer_unfinished;
+          further = 0;
+          position = omega (arith, i.frames.outer_position);
+          whole_position = omega (arith, i.frames.position, at_end);
+          inner = r.truths;
+          agree = i.frames.agree;
+          live = i.frames.live;
         };
         text_before = has_live_text_before M i.outer.truths q;
         text = text_here ∙ ap (λ (p : ℕ). s.earlier.text || (has_live_text_before M i.outer.truths q || has_live_text_before X r.truths p)) at_end;
@@ -330,9 +345,16 @@ module _ (A : Answers) (conditions : AlikeConditions A) (numbers : AlikeNumbers 
       both = record { rules = b.both.rules; definitions = alike };
       around = b.around;
       frames = record {
-        items = b.frames.items; whole = b.frames.whole; offset = refl; unfinished = refl; further = b.frames.further + count;
-        position = omega (arith, b.frames.position); whole_position = omega (arith, b.frames.whole_position); inner = b.frames.inner;
-        agree = b.frames.agree; live = b.frames.live;
+        items = b.frames.items;
+        whole = b.frames.whole;
+        offset = refl;
+        unfinished = refl;
+        further = b.frames.further + count;
+        position = omega (arith, b.frames.position);
+        whole_position = omega (arith, b.frames.whole_position);
+        inner = b.frames.inner;
+        agree = b.frames.agree;
+        live = b.frames.live;
       };
       text_before = b.text_before;
       text = b.text;
@@ -355,8 +377,14 @@ module _ (A : Answers) (conditions : AlikeConditions A) (numbers : AlikeNumbers 
         both = record { rules = b.both.rules; definitions = b.both.definitions };
         around = b.around;
         frames = record {
-          items = b.frames.items; whole = b.frames.whole; offset = b.frames.offset; unfinished = b.frames.unfinished; further = b.frames.further + count;
-          position = omega (arith, b.frames.position); whole_position = omega (arith, b.frames.whole_position); inner = b.frames.inner;
+          items = b.frames.items;
+          whole = b.frames.whole;
+          offset = b.frames.offset;
+          unfinished = b.frames.unfinished;
+          further = b.frames.further + count;
+          position = omega (arith, b.frames.position);
+          whole_position = omega (arith, b.frames.whole_position);
+          inner = b.frames.inner;
           agree = rw (b.frames.position, b.frames.whole_position)
               (agree_behind q (length X) r.truths b.frames.inner s.truths b.frames.agree holds b.frames.further);
           live = rw b.frames.position (live_decided M r.truths (q + b.frames.further) holds q (omega arith) ∙ b.frames.live);
@@ -546,7 +574,7 @@ module _ (A : Answers) (conditions : AlikeConditions A) (numbers : AlikeNumbers 
             let there : Does A r (end_at r).step (end_at r).after o t = subst (λ (a : Acted). Does A r a.step a.after o t) (end_move r none) steps in
             let none_there : drop s.position s.items ≡ [] = rw (sym e.frames.items, sym e.frames.position) none in
             let open_there : innermost (take s.unfinished (blocks_at s.items (length s.items))) ≡ innermost (take r.unfinished (blocks_at r.items (length r.items))) =
-                rw (e.frames.items, e.frames.unfinished) refl in
+            rw (e.frames.items, e.frames.unfinished) refl in
             subst (λ (a : Acted). Followed A conditions numbers Alike s a o t) (sym (end_move s none_there ∙ ap (λ block. end_by block s) open_there))
             (ends_same o t (innermost (take r.unfinished (blocks_at r.items (length r.items)))) there)
 
@@ -569,29 +597,32 @@ module _ (A : Answers) (conditions : AlikeConditions A) (numbers : AlikeNumbers 
 
   -- both read one more text: the texts around
   included_stacks : (r s : SourceReader) → Alike r s → (earlier_of r ≡ earlier_of s) × Stacks M X q (earlier_of r) (suspended_of r ∷ r.around) (suspended_of s ∷ s.around)
-  included_stacks r s (in_text i) =
-      (same_earlier r s (same_text_here r s i) (same_directive_here r s i),
-      in_stack (suspended_of r) i.outer (suspended_of s) (suspended_of r ∷ r.around) (suspended_of s ∷ s.around) s.around i.frames
-      (λ h. rw i.text (or_left (s.earlier.text || has_live_text_before M i.outer.truths q) (has_live_text_before r.items r.truths r.position)
-      (or_right s.earlier.text (has_live_text_before M i.outer.truths q) h)))
-      (λ h. rw i.directive (or_left (s.earlier.directive || has_directive (take q M)) (has_directive (take r.position r.items))
-      (or_right s.earlier.directive (has_directive (take q M)) h)))
-      (ap (λ around. suspended_of r ∷ around) i.around) refl)
-  included_stacks r s (behind_text b) =
-      (same_earlier r s (same_text_behind r s b) (same_directive_behind r s b),
-      behind_stack (suspended_of r) (suspended_of s) (suspended_of r ∷ r.around) (suspended_of s ∷ s.around) s.around b.frames
-      (λ h. rw b.text (or_left (s.earlier.text || (b.text_before || has_live_text_before X b.frames.inner (length X))) (has_live_text_before r.items r.truths r.position)
-      (or_right s.earlier.text (b.text_before || has_live_text_before X b.frames.inner (length X))
-      (or_right b.text_before (has_live_text_before X b.frames.inner (length X)) h))))
-      (λ h. rw b.directive (or_left (s.earlier.directive || (b.directive_before || has_directive X)) (has_directive (take r.position r.items))
-      (or_right s.earlier.directive (b.directive_before || has_directive X) (or_right b.directive_before (has_directive X) h))))
-      (ap (λ around. suspended_of r ∷ around) b.around) refl)
-  included_stacks r s (same_text e) =
-      (same_earlier r s (text_same r s e) (directive_same r s e),
-      under (suspended_of r) (suspended_of s) (suspended_of r ∷ r.around) (suspended_of s ∷ s.around) r.around s.around e.frames
-      (stacks_grow M X q r.earlier (earlier_of r) r.around s.around (or_left r.earlier.text (has_live_text_before r.items r.truths r.position))
-      (or_left r.earlier.directive (has_directive (take r.position r.items))) e.around)
-      refl refl)
+  included_stacks r s (in_text i) = (
+    same_earlier r s (same_text_here r s i) (same_directive_here r s i),
+    in_stack (suspended_of r) i.outer (suspended_of s) (suspended_of r ∷ r.around) (suspended_of s ∷ s.around) s.around i.frames
+        (λ h. rw i.text (or_left (s.earlier.text || has_live_text_before M i.outer.truths q) (has_live_text_before r.items r.truths r.position)
+        (or_right s.earlier.text (has_live_text_before M i.outer.truths q) h)))
+        (λ h. rw i.directive (or_left (s.earlier.directive || has_directive (take q M)) (has_directive (take r.position r.items))
+        (or_right s.earlier.directive (has_directive (take q M)) h)))
+        (ap (λ around. suspended_of r ∷ around) i.around) refl,
+  )
+  included_stacks r s (behind_text b) = (
+    same_earlier r s (same_text_behind r s b) (same_directive_behind r s b),
+    behind_stack (suspended_of r) (suspended_of s) (suspended_of r ∷ r.around) (suspended_of s ∷ s.around) s.around b.frames
+        (λ h. rw b.text (or_left (s.earlier.text || (b.text_before || has_live_text_before X b.frames.inner (length X))) (has_live_text_before r.items r.truths r.position)
+        (or_right s.earlier.text (b.text_before || has_live_text_before X b.frames.inner (length X))
+        (or_right b.text_before (has_live_text_before X b.frames.inner (length X)) h))))
+        (λ h. rw b.directive (or_left (s.earlier.directive || (b.directive_before || has_directive X)) (has_directive (take r.position r.items))
+        (or_right s.earlier.directive (b.directive_before || has_directive X) (or_right b.directive_before (has_directive X) h))))
+        (ap (λ around. suspended_of r ∷ around) b.around) refl,
+  )
+  included_stacks r s (same_text e) = (
+    same_earlier r s (text_same r s e) (directive_same r s e),
+    under (suspended_of r) (suspended_of s) (suspended_of r ∷ r.around) (suspended_of s ∷ s.around) r.around s.around e.frames
+        (stacks_grow M X q r.earlier (earlier_of r) r.around s.around (or_left r.earlier.text (has_live_text_before r.items r.truths r.position))
+        (or_left r.earlier.directive (has_directive (take r.position r.items))) e.around)
+        refl refl,
+  )
 
   -- they are related in it, too
   pub related_included : (items : List Seen) (r s : SourceReader) → Alike r s → Alike (with_text items r) (with_text items s)

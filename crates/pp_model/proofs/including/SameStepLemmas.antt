@@ -129,17 +129,27 @@ module _ (A : Answers) (conditions : AlikeConditions A) (numbers : AlikeNumbers 
     defined : (named : Named) (old old2 : Option Definition) → Both AlikeDefinition old old2
         → Defines r.text (defined_in r.text named) old (advanced_by count r) o t
         → (p : Option Taken) × (u : SourceReader) × Defines s.text (defined_in s.text named) old2 (advanced_by count s) p u × Both AlikeTaken o p × Related t u
-    defined named None None both d =
-        (None, _, (refl, refl), rw d.0 tt,
-        rw d.1 (known.changed _ _ (alike_change r.definitions s.definitions named.name (Some (defined_in r.text named).definition) (Some (defined_in s.text named).definition) known.definitions (refl, refl, refl))))
-    defined named (Some old) (Some old2) both (at, inl (same, none)) =
-        (None, advanced_by count s,
-        (refl, inl (same_definition old old2 (defined_in r.text named).definition (defined_in s.text named).definition both (refl, refl, refl) same, refl)),
-        rw none tt, rw at after_both)
-    defined named (Some old) (Some old2) both (at, inr (other, fault)) =
-        (Some (taken.Fault (placed s.text (DefineRedefined, named.location))), advanced_by count s,
-        (refl, inr ((λ same. other (same_definition old2 old (defined_in s.text named).definition (defined_in r.text named).definition (turned old old2 both) (refl, refl, refl) same)), refl)),
-        rw fault (refl, (refl, refl)), rw at after_both)
+    defined named None None both d = (
+      None,
+      _,
+      (refl, refl),
+      rw d.0 tt,
+      rw d.1 (known.changed _ _ (alike_change r.definitions s.definitions named.name (Some (defined_in r.text named).definition) (Some (defined_in s.text named).definition) known.definitions (refl, refl, refl))),
+    )
+    defined named (Some old) (Some old2) both (at, inl (same, none)) = (
+      None,
+      advanced_by count s,
+      (refl, inl (same_definition old old2 (defined_in r.text named).definition (defined_in s.text named).definition both (refl, refl, refl) same, refl)),
+      rw none tt,
+      rw at after_both,
+    )
+    defined named (Some old) (Some old2) both (at, inr (other, fault)) = (
+      Some (taken.Fault (placed s.text (DefineRedefined, named.location))),
+      advanced_by count s,
+      (refl, inr ((λ same. other (same_definition old2 old (defined_in s.text named).definition (defined_in r.text named).definition (turned old old2 both) (refl, refl, refl) same)), refl)),
+      rw fault (refl, (refl, refl)),
+      rw at after_both,
+    )
     defined named None (Some old2) both d = absurd both
     defined named (Some old) None both d = absurd both
 
@@ -182,16 +192,16 @@ module _ (A : Answers) (conditions : AlikeConditions A) (numbers : AlikeNumbers 
         let c = conditions (in_text r.text word) (in_text s.text word) tokens (list_numbering r.rules r.line_offset) r.definitions s.definitions d.0 (refl, refl) known.definitions d.1 in
         let f = evaluated d.0 c.0 (λ holds. decided r.position holds (advanced_by count r)) (λ holds. decided s.position holds (advanced_by count s)) known.after_condition c.2 d.2 in
         let there : IsCondition A (in_text s.text word) tokens (list_numbering s.rules s.line_offset) s.definitions c.0 =
-            subst (λ (n : Numbering). IsCondition A (in_text s.text word) tokens n s.definitions c.0) same_numbering c.1 in
+        subst (λ (n : Numbering). IsCondition A (in_text s.text word) tokens n s.definitions c.0) same_numbering c.1 in
         record { given = f.0; reader = f.1; does = (c.0, there, f.2); alike = f.3; related = f.4 }
     same_effect (renumbers word tokens) going numbered d =
         let c = numbers (in_text r.text word) (in_text s.text word) tokens (list_numbering r.rules r.line_offset) r.definitions s.definitions d.0 (refl, refl) known.definitions d.1 in
         let f = evaluated d.0 c.0 (λ n. record (advanced_by count r) { line_offset = pos n -ℤ pos (numbered_line r.rules word.line) })
-            (λ n. record (advanced_by count s) { line_offset = pos n -ℤ pos (numbered_line s.rules word.line) })
-            (λ n. subst (λ (offset : ℤ). Related (record (advanced_by count r) { line_offset = offset })
-            (record (advanced_by count s) { line_offset = pos n -ℤ pos (numbered_line s.rules word.line) }))
-            (ap (λ rules. pos n -ℤ pos (numbered_line rules word.line)) (sym known.rules))
-            (numbered word tokens (pos n -ℤ pos (numbered_line s.rules word.line)) refl)) c.2 d.2 in
+        (λ n. record (advanced_by count s) { line_offset = pos n -ℤ pos (numbered_line s.rules word.line) })
+        (λ n. subst (λ (offset : ℤ). Related (record (advanced_by count r) { line_offset = offset })
+        (record (advanced_by count s) { line_offset = pos n -ℤ pos (numbered_line s.rules word.line) }))
+        (ap (λ rules. pos n -ℤ pos (numbered_line rules word.line)) (sym known.rules))
+        (numbered word tokens (pos n -ℤ pos (numbered_line s.rules word.line)) refl)) c.2 d.2 in
         let there : IsLineNumber A (in_text s.text word) tokens (list_numbering s.rules s.line_offset) s.definitions c.0 =
-            subst (λ (n : Numbering). IsLineNumber A (in_text s.text word) tokens n s.definitions c.0) same_numbering c.1 in
+        subst (λ (n : Numbering). IsLineNumber A (in_text s.text word) tokens n s.definitions c.0) same_numbering c.1 in
         record { given = f.0; reader = f.1; does = (c.0, there, f.2); alike = f.3; related = f.4 }

@@ -165,10 +165,11 @@ module _ {R : Type 0} (I : Reading R) (Quiet : R → Type 0) (Allowed : R → Pl
   -- what is taken, gathered, called and given is allowed if what is held is
   fetching_with : (o : Taken) (e f : Expander R) → Fetches I e o f → IsQuiet e → IsTakenWith (Allowed f.reader) o × IsQuiet f
   fetching_with o e f (held o1 e1 f1 h p) quiet = (rw p (rw h at quiet.0), rw p (tt, quiet.1))
-  fetching_with o e f (listed o1 token rest e1 f1 h b is p) quiet =
-      (rw (is, p) (taken_with (Allowed e.reader) (allowance e.reader) (shown_token (I.shown_line e.reader) rest token)
-      (shown_unasked (I.shown_line e.reader) rest token)),
-      rw (p, h) (tt, quiet.1))
+  fetching_with o e f (listed o1 token rest e1 f1 h b is p) quiet = (
+    rw (is, p) (taken_with (Allowed e.reader) (allowance e.reader) (shown_token (I.shown_line e.reader) rest token)
+        (shown_unasked (I.shown_line e.reader) rest token)),
+    rw (p, h) (tt, quiet.1),
+  )
   fetching_with o e f (read x o1 reader e1 f1 h b r is p) quiet =
       let there = reads x e.reader reader r quiet.1 in
       (rw (is, p) (outcome_with (Allowed reader) (allowance reader) (I.shown_line reader) x there.0), rw (p, h) (tt, there.1))
@@ -198,10 +199,11 @@ module _ {R : Type 0} (I : Reading R) (Quiet : R → Type 0) (Allowed : R → Pl
         (rw p more.0, more.1)
     call_with d c e f (whole x paren gathered answer e1 g f1 c1 t h u a p) quiet =
         let there = paren_unasked x paren h in
-        let more = gathering_unasked 0 paren (Ok gathered) g f u there (taking_with x e g t quiet).1 in
-        (rw p (called_with (Allowed f.reader) (allowance f.reader) gathered.closing.line answer
-        (answers d (site_of I f paren gathered.tokens) answer there a)),
-        more.1)
+        let more = gathering_unasked 0 paren (Ok gathered) g f u there (taking_with x e g t quiet).1 in (
+          rw p (called_with (Allowed f.reader) (allowance f.reader) gathered.closing.line answer
+              (answers d (site_of I f paren gathered.tokens) answer there a)),
+          more.1,
+        )
 
     pub item_with : (o : Taken) (e f : Expander R) → Emits I A e o f → IsQuiet e → IsTakenWith (Allowed f.reader) o × IsQuiet f
     item_with o e f (itself x o1 e1 f1 t h p) quiet =
