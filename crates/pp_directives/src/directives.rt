@@ -204,6 +204,7 @@ impl<'a> DirectiveProcessor<'a> {
     }
 
     // Whether the text is live.
+    #[inline(always)]
     fn is_live(&self) -> bool
         ensures { result ≡ is_live_among self.now.dead_for_good self.now.blocks }
     {

@@ -109,6 +109,6 @@ pub record TakesWord (old : Source) (word : PlainItem) (act : Option ℕ) (new :
 abbrev pub GivesWord : Source → Option (PlainItem × Option ℕ) → Source → Type 0
 GivesWord old answer new = MatchOption answer (new ≡ old) (λ given. TakesWord old given.0 given.1 new)
 
--- a newline was a pause, or nothing changed
-abbrev pub PausesAtNewline : Source → Bool → Source → Type 0
-PausesAtNewline old answer new = MatchBool answer (IsStep old (Err Continue) new) (new ≡ old)
+-- one pause was passed, or nothing changed
+abbrev pub PausesOnce : Source → Bool → Source → Type 0
+PausesOnce old answer new = MatchBool answer (IsStep old (Err Continue) new) (new ≡ old)

@@ -3,11 +3,11 @@
 ghost use Rattle.std.specs.Prelude.{◌≡◌, ◌++◌, ◌∷◌, [], List, is_some, IfOk, IfSome};
 ghost use Rattle.pp_model.specs.declared.read.Read.{Read};
 ghost use Rattle.pp_macros.specs.inner.Reader.{of_source, nests, ReadsOnto};
-ghost use Rattle.pp_directives.specs.inner.PlainText.{IsInText, GivesWord, PausesAtNewline};
+ghost use Rattle.pp_directives.specs.inner.PlainText.{IsInText, GivesWord, PausesOnce};
 
 use crate::directives::DirectiveProcessor;
 use crate::words::{act_of, is_apart, is_parenthesis};
-use pp_lexer::lexer::PlainItem;
+use pp_lexer::lexer::{Form, PlainItem};
 use pp_macros::names::NameId;
 use pp_model::read::Read;
 use std::alloc::AllocError;
@@ -58,10 +58,32 @@ impl<'a> DirectiveProcessor<'a> {
     #[inline(never)]
     pub fn pass_newline(&mut self) -> bool
         requires { IsInText self.old }
-        ensures pauses { PausesAtNewline self.old result self.new }
+        ensures pauses { PausesOnce self.old result self.new }
         ensures text { self.new.text ≡ self.old.text }
         ensures stays { IsInText self.new }
     {
         self.lexer.pass_newline()
+    }
+
+    /// Passes a word or a newline of plain text, if one comes first in dead text, and returns whether it did. Otherwise
+    /// it changes nothing. A `#` isn't passed, since it may begin a directive.
+    #[inline(always)]
+    pub fn pass_dead(&mut self) -> bool
+        ensures { PausesOnce self.old result self.new }
+    {
+        if self.is_live() || self.lexer.is_spent() {
+            return false;
+        }
+        let Some(word) = self.lexer.peek_word() else {
+            return self.lexer.pass_newline();
+        };
+        if matches!(word.form, Form::Hash) {
+            return false;
+        }
+        let Ok(()) = self.lexer.pay() else {
+            return false;
+        };
+        self.lexer.pass_word(&word);
+        true
     }
 }

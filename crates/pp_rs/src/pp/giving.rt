@@ -64,7 +64,7 @@ impl<'a> Preprocessor<'a> {
     }
 
     // Gives the words of live text that come to the sink, up to a macro without parentheses, which opens, or to
-    // anything else. Returns whether a macro has opened.
+    // anything else; or passes words of dead text. Returns whether a macro has opened or words were passed.
     #[inline(never)]
     fn give_words<S: TokenSink>(&mut self, sink: &mut S) -> Result<bool, AllocError>
         requires unspent { is_spent self.old ≡ false }
@@ -75,7 +75,7 @@ impl<'a> Preprocessor<'a> {
         ensures rules { rules_of self.new ≡ rules_of self.old }
     {
         if !self.is_in_text() {
-            return Ok(false);
+            return Ok(self.pass_dead());
         }
         'words: while let Some(word) = self.next_word()? {
             self.pay()?;

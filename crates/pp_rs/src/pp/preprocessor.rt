@@ -1,7 +1,7 @@
 //! The items of a preprocessed source.
 
 ghost use Rattle.std.specs.Prelude.{◌≡◌, ◌-◌, ◌^◌, ◌<◌, [], false, length, if◌then◌else◌, true, IsTrue, OnOk};
-ghost use Rattle.std.specs.Prelude.{OnErr, IfOk, IfErr, Option, None, Some, Ok, Err, option_map, unwrap_or};
+ghost use Rattle.std.specs.Prelude.{MatchBool, OnErr, IfOk, IfErr, Option, None, Some, Ok, Err, option_map, unwrap_or};
 ghost use Rattle.pp_lexer.specs.declared.token.Token.{Token};
 ghost use Rattle.std.specs.Iterator.{at_most};
 ghost use Rattle.pp_lexer.specs.Location.{nowhere};
@@ -22,7 +22,7 @@ ghost use Rattle.pp_macros.specs.LexerErrors.{lexer_errors, lexer_errors_by};
 ghost use Rattle.pp_directives.specs.WordTokens.{word_token};
 ghost use Rattle.pp_directives.specs.inner.PlainText.{IsBare};
 ghost use Rattle.pp_rs.specs.inner.NextWord.{IsNextGiven, IsNextStep, IsNextWord, IsPassed, IsPlain, OpensNumbered};
-ghost use Rattle.pp_rs.specs.inner.NextWord.{IsAheadAs, ReadsText, SomeAhead, SomeAheadOf};
+ghost use Rattle.pp_rs.specs.inner.NextWord.{IsAheadAs, IsPause, ReadsText, SomeAhead, SomeAheadOf};
 ghost use Rattle.pp_rs.specs.Preprocessing.{IsNextItem};
 
 use crate::lexer::PlainItem;
@@ -278,6 +278,23 @@ impl<'a> Preprocessor<'a> {
         }
     }
 
+    // Passes the words and newlines of dead text that come next, and returns whether there were any. Otherwise it
+    // changes nothing. It is a function of its own, so that a pause costs no more than its word.
+    #[inline(never)]
+    pub(crate) fn pass_dead(&mut self) -> bool
+        requires { is_spent self.old ≡ false }
+        ensures { MatchBool result (IsPause self.old self.new) (self.new ≡ self.old) }
+    {
+        if self.in_text || !self.expander.is_idle() {
+            return false;
+        }
+        let mut is_passed = false;
+        'words: while self.source.pass_dead() {
+            is_passed = true;
+        }
+        is_passed
+    }
+
     // The number of the text that is read.
     #[inline(always)]
     pub(crate) fn source_text(&self) -> u32
@@ -395,14 +412,17 @@ impl<'a> Preprocessor<'a> {
         self.step()
     }
 
-    // Goes on where no word of live text comes that is given as it is: in the open macros, or by one step. Returns
-    // nothing if it is a pause, and otherwise what `next` returns. What `step` returns is taken apart, so that no other
-    // item is kept in memory with it.
+    // Goes on where no word of live text comes that is given as it is: in dead text, in the open macros, or by one
+    // step. Returns nothing if it is a pause, and otherwise what `next` returns. What `step` returns is taken apart, so
+    // that no other item is kept in memory with it.
     #[inline(always)]
     fn next_other(&mut self) -> Option<Option<PreprocessorItem>>
         requires { is_spent self.old ≡ false }
         ensures { IsNextStep self.old result self.new }
     {
+        if self.pass_dead() {
+            return None;
+        }
         if let Some(item) = self.next_given() {
             return Some(Some(item));
         }

@@ -1,3 +1,6 @@
+use Rattle.std.specs.Prelude.{MatchBool}
+use Rattle.pp_rs.specs.inner.NextWord.{IsPassed, IsPause}
+use Rattle.pp_rs.proofs.runs.PassedLemmas.{passed_nothing}
 use Rattle.std.proofs.Common.{◌≡◌, ◌∙◌, ◌<◌, ◌≤◌, Bool, true, false, refl, ap, arith}
 use Rattle.pp_rs.specs.Kept.{Preprocessing, is_spent, most_items, rules_of}
 use Rattle.pp_rs.specs.inner.GivingOn.{HasLeft}
@@ -8,6 +11,17 @@ has_left : (opened : Bool) (first now last : Preprocessing) → most_items now �
     → (opened ≡ true → most_items last < most_items now) → HasLeft opened first last
 has_left true first now last fewer no_more less = omega (arith, fewer, less refl)
 has_left false first now last fewer no_more less = omega (arith, fewer, no_more)
+
+dead_passes : (passed : Bool) (old new : Preprocessing) → MatchBool passed (IsPause old new) (new ≡ old) → IsPassed old new
+dead_passes true old new h = h.passed
+dead_passes false old new h = rw h (passed_nothing old)
+
+-- words of dead text are passed
+pub returns-then-not-is_in_text-clause-giving : goal.returns-then-not-is_in_text-clause-giving
+returns-then-not-is_in_text-clause-giving g c = λ start first p.
+    let passed : IsPassed c.args.self.now c.pass_dead.new.self =
+    rw c.is_in_text.ensures.same at (dead_passes c.pass_dead.result c.is_in_text.new.self c.pass_dead.new.self c.pass_dead.ensures) in
+    giving_passes _ start _ first _ p _ passed
 
 pub words-init : goal.words-init
 words-init g c = record {
