@@ -100,6 +100,7 @@ impl<'a> DirectiveProcessor<'a> {
             self.old result self.new }
     {
         let Some(block) = self.blocks.last() else {
+            self.has_directive = true;
             self.dead_for_good = true;
             return Err(DirectiveHalt::Fault((PreprocessorError::ElifOutsideOfBlock, word)));
         };
