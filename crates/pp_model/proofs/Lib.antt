@@ -5,6 +5,7 @@ pub mod values
 pub mod source
 pub mod holding
 pub mod runs
+pub mod onward
 pub mod respelling
 pub mod including
 pub mod ListLemmas

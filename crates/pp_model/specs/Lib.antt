@@ -22,13 +22,17 @@ pub mod Moves
 pub mod Acts
 pub mod LineValues
 pub mod Reads
+pub mod Faults
+pub mod Onward
 pub mod Run
+pub mod RunToEnd
 pub mod ExpansionLaws
 pub mod ApartMarks
 pub mod NoLineName
 pub mod RunLaws
 pub mod RunStates
 pub mod ExistenceLaws
+pub mod ToEndLaws
 pub mod OpenOnce
 pub mod BlockLaws
 pub mod LiveRuns

@@ -19,6 +19,7 @@ ghost use Rattle.pp_model.specs.RespellLaws.{RunsAreReadAfresh};
 ghost use Rattle.pp_model.specs.RunChains.{ChainsAreRuns};
 ghost use Rattle.pp_model.specs.RunLaws.{OneEvaluation, OneCondition, OneLineNumber, OneStep, OneReplies, OneRun};
 ghost use Rattle.pp_model.specs.RunLaws.{RedefinitionIsChecked};
+ghost use Rattle.pp_model.specs.ToEndLaws.{OneStepOn, AStepOn, OneRunToEnd, ARunToEnd, RunToEndBegins};
 ghost use Rattle.pp_model.specs.RunStates.{RunKeepsMarksApart, RunShowsNoLineName, EndStays, RunEndsForGood};
 ghost use Rattle.std.specs.Prelude.{ℕ};
 
@@ -251,4 +252,18 @@ pub fn a_run()
 pub fn included_text()
     ensures asked { (level : ℕ) → AskedIsAtLine (answers_at level) }
     ensures inserted { (level : ℕ) → IncludedIsInserted (answers_at level) }
+{}
+
+/// A token or line of a source has exactly one outcome, or gives nothing, also after faults.
+pub fn step_on()
+    ensures one { (level : ℕ) → OneStepOn (answers_at level) }
+    ensures a { (level : ℕ) → AStepOn (answers_at level) }
+{}
+
+/// Every source has exactly one run to its end for every list of calls. Up to and with the first error item it is the
+/// run that ends with that error.
+pub fn run_to_end()
+    ensures one { OneRunToEnd }
+    ensures a { ARunToEnd }
+    ensures begins { RunToEndBegins }
 {}

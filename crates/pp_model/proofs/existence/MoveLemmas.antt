@@ -9,7 +9,7 @@ use Rattle.pp_model.specs.ExistenceLaws.{is_given_token, IsFinite}
 use Rattle.pp_model.specs.declared.definition.Named.{Named}
 use Rattle.pp_model.specs.declared.step.Step.{Step}
 use Rattle.pp_model.specs.declared.step.Step.TheVariants as step
-use Rattle.pp_model.proofs.source.ActsLemmas.{act_holds}
+use Rattle.pp_model.proofs.source.ActsLemmas.{HoldsOfActs, act_holds}
 use Rattle.pp_model.proofs.existence.DefinitionLemmas.{without_one}
 
 -- an error or the end is given, after which nothing is read
@@ -50,17 +50,17 @@ leave_stays : (r : SourceReader) (around : List Suspended) → (leave around r).
 leave_stays r [] = refl
 leave_stays r (outer ∷ around) = refl
 
-end_less : (r : SourceReader) (block : Option Block) (n : ℕ) → stops (end_by block r).step ≡ false → left (end_by block r).after < n + left_around r.around
+pub end_less : (r : SourceReader) (block : Option Block) (n : ℕ) → stops (end_by block r).step ≡ false → left (end_by block r).after < n + left_around r.around
 end_less r (Some block) n h = cc
 end_less r None n h = leave_less r r.around n h
 
-end_moves : (r : SourceReader) (block : Option Block) → Moves r (end_by block r)
+pub end_moves : (r : SourceReader) (block : Option Block) → Moves r (end_by block r)
 end_moves r (Some block) = stays r _ refl (λ h. cc)
 end_moves r None = stays r _ (leave_stays r r.around) (λ h. inr (end_less r None (length (drop r.position r.items)) h))
 
--- Each act of a source moves so.
-pub moves : (r : SourceReader) → Moves r (act r)
-moves r = act_holds (Moves r) r (record {
+-- Each kind of act moves so.
+pub acts_move : (r : SourceReader) → HoldsOfActs (Moves r) r
+acts_move r = record {
   end = λ there. end_moves r _;
   fault = λ found. stays r _ refl (λ h. cc);
   nothing = λ count least. stays r _ refl (λ h. inl (refl, refl, omega (arith, least)));
@@ -75,17 +75,22 @@ moves r = act_holds (Moves r) r (record {
   };
   decision = λ its holds. stays r _ refl (λ h. inl (refl, refl, omega arith));
   token = λ its shown stands count least. stays r _ refl (λ h. inl (refl, refl, omega (arith, least)));
-})
+}
+
+-- So does each act of a source.
+pub moves : (r : SourceReader) → Moves r (act r)
+moves r = act_holds (Moves r) r (acts_move r)
+
+-- Where some items are left, a reader that goes further has less left.
+pub further_less : (r t : SourceReader) → 1 ≤ length (drop r.position r.items) → GoesFurther r t → left t < left r
+further_less r t least (inl (items, around, further)) =
+    omega (arith, length-drop t.position t.items, length-drop r.position r.items, ap length items, ap left_around around, further, least)
+further_less r t least (inr less) = less
 
 -- The reader after an act that doesn't stop has less left.
 pub act_less_left : (r : SourceReader) → stops (act r).step ≡ false → left (act r).after < left r
 act_less_left r on = go (drop r.position r.items) refl
   where
-    some : (t : SourceReader) → 1 ≤ length (drop r.position r.items) → GoesFurther r t → left t < left r
-    some t least (inl (items, around, further)) =
-        omega (arith, length-drop t.position t.items, length-drop r.position r.items, ap length items, ap left_around around, further, least)
-    some t least (inr less) = less
-
     go : (rest : List _) → drop r.position r.items ≡ rest → left (act r).after < left r
     go [] p = (let less : stops (act r).step ≡ false → left (act r).after < left r = rw p (end_less r _ 0) in less) on
-    go (s ∷ rest) p = some (act r).after (rw p (omega arith)) ((moves r).further on)
+    go (s ∷ rest) p = further_less r (act r).after (rw p (omega arith)) ((moves r).further on)

@@ -1,5 +1,5 @@
 -- Each token or line of a source has an outcome, and reading the source gives something next.
-use Rattle.std.proofs.Common.{◌≡◌, ℕ, zero, suc, ◌<◌, Bool, true, false, List, refl, arith, Option, Some, None, ◌⊎◌, inl, inr}
+use Rattle.std.proofs.Common.{◌≡◌, sym, subst, ℕ, zero, suc, ◌<◌, Bool, true, false, List, refl, arith, Option, Some, None, ◌⊎◌, inl, inr}
 use Rattle.std.specs.Prelude.{Result, Ok, Err, pos, ◌-ℤ◌}
 use Rattle.pp_lexer.specs.declared.token.Location.{Location}
 use Rattle.pp_lexer.specs.declared.token.PreprocessorError.TheVariants.{DefineRedefined}
@@ -13,8 +13,8 @@ use Rattle.pp_model.specs.Reading.{Expander}
 use Rattle.pp_model.specs.Calls.{Answers}
 use Rattle.pp_model.specs.LineValues.{IsCondition, IsLineNumber}
 use Rattle.pp_model.specs.SourceReader.{SourceReader}
-use Rattle.pp_model.specs.Acts.{decided, act}
-use Rattle.pp_model.specs.Reads.{Does, Steps, here, later, source_reading, numbered_line}
+use Rattle.pp_model.specs.Acts.{Acted, decided, act}
+use Rattle.pp_model.specs.Reads.{Does, here, later, source_reading, numbered_line}
 use Rattle.pp_model.specs.inner.Reads.{after_define}
 use Rattle.pp_model.specs.ExistenceLaws.{is_given_token, IsFinite, AnAnswer, AStep, AReading}
 use Rattle.pp_model.specs.declared.definition.Named.{Named}
@@ -26,12 +26,11 @@ use Rattle.pp_model.proofs.existence.Turns.{is_token, Given, GoesOn}
 use Rattle.pp_model.proofs.existence.EveryExpander.{every}
 use Rattle.pp_model.proofs.existence.DefinitionLemmas.{with_one, same_definition}
 use Rattle.pp_model.proofs.existence.LineValueLemmas.{a_condition, a_line_number}
-use Rattle.pp_model.proofs.existence.MoveLemmas.{stops, moves, left, act_less_left}
-use Rattle.pp_model.proofs.source.ReadsLemmas.{that_does}
+use Rattle.pp_model.proofs.existence.MoveLemmas.{stops, Moves, moves, left, act_less_left}
 use Rattle.pp_model.specs.Numbering.{list_numbering}
 
 -- reading goes on after a step with this outcome, or a token was given
-abbrev goes : Option Taken → Bool
+abbrev pub goes : Option Taken → Bool
 goes None = true
 goes (Some x) = is_token x
 
@@ -45,62 +44,65 @@ token_given text _ h = h
 module _ (A : Answers) (answered : AnAnswer A) where
   -- ---- one token or line
 
-  record Stepped (r : SourceReader) : Type 0 where
-    outcome : Option Taken
-    after : SourceReader
-    steps : Steps A r outcome after
-    finite : HasFinite after
-    falls : goes outcome ≡ true → left after < left r
+  -- what a step gives, and the reader after it, of which less is left if reading goes on
+  pub record Stepped (r : SourceReader) (a : Acted) : Type 0 where
+    pub outcome : Option Taken
+    pub after : SourceReader
+    pub does : Does A r a.step a.after outcome after
+    pub finite : HasFinite after
+    pub falls : goes outcome ≡ true → left after < left r
 
-  module _ (r : SourceReader) (f : HasFinite r) where
+  module _ (r : SourceReader) (a : Acted) (moved : Moves r a) (less : stops a.step ≡ false → left a.after < left r) (f : HasFinite r) where
+    by_step : (did : Step) (o : Option Taken) (t : SourceReader) → a.step ≡ did → Does A r did a.after o t → Does A r a.step a.after o t
+    by_step did o t p d = subst (λ z. Does A r z a.after o t) (sym p) d
+
     -- an outcome with which reading goes on, after the items that are taken
-    passed : (did : Step) (t : SourceReader) → (act r).step ≡ did → stops did ≡ false → HasFinite t → left t ≡ left (act r).after
-        → Does A r did (act r).after None t → Stepped r
+    passed : (did : Step) (t : SourceReader) → a.step ≡ did → stops did ≡ false → HasFinite t → left t ≡ left a.after → Does A r did a.after None t
+        → Stepped r a
     passed did t p on finite same d = record {
       outcome = None;
       after = t;
-      steps = that_does A did r None t p d;
+      does = by_step did None t p d;
       finite = finite;
-      falls = λ h. omega (arith, same, act_less_left r (rw p on));
+      falls = λ h. omega (arith, same, less (rw p on));
     }
 
     -- a fault
-    faulty : (did : Step) (fault : PlacedFault) (t : SourceReader) → (act r).step ≡ did → HasFinite t → Does A r did (act r).after (Some (taken.Fault fault)) t
-        → Stepped r
+    faulty : (did : Step) (fault : PlacedFault) (t : SourceReader) → a.step ≡ did → HasFinite t → Does A r did a.after (Some (taken.Fault fault)) t → Stepped r a
     faulty did fault t p finite d =
-        record { outcome = Some (taken.Fault fault); after = t; steps = that_does A did r _ t p d; finite = finite; falls = λ h. cc }
+        record { outcome = Some (taken.Fault fault); after = t; does = by_step did _ t p d; finite = finite; falls = λ h. cc }
 
-    defined_by : (named : Named) → (act r).step ≡ step.Defines named → (old : Option Definition) → r.definitions named.name ≡ old → Stepped r
+    defined_by : (named : Named) → a.step ≡ step.Defines named → (old : Option Definition) → r.definitions named.name ≡ old → Stepped r a
     defined_by named p None q =
-        passed (step.Defines named) (after_define named (act r).after) p refl
-        (with_one (act r).after.definitions named.name ((moves r).finite f) named.definition) refl (rw q (refl, refl))
+        passed (step.Defines named) (after_define named a.after) p refl
+        (with_one a.after.definitions named.name (moved.finite f) named.definition) refl (rw q (refl, refl))
     defined_by named p (Some old) q = by (same_definition old named.definition)
       where
-        by : IsSameDefinition old named.definition ⊎ (IsSameDefinition old named.definition → ⊥) → Stepped r
-        by (inl same) = passed (step.Defines named) (act r).after p refl ((moves r).finite f) refl (rw q (refl, inl (same, refl)))
-        by (inr other) = faulty (step.Defines named) (placed r.text (DefineRedefined, named.location)) (act r).after p ((moves r).finite f) (rw q (refl, inr (other, refl)))
+        by : IsSameDefinition old named.definition ⊎ (IsSameDefinition old named.definition → ⊥) → Stepped r a
+        by (inl same) = passed (step.Defines named) a.after p refl (moved.finite f) refl (rw q (refl, inl (same, refl)))
+        by (inr other) = faulty (step.Defines named) (placed r.text (DefineRedefined, named.location)) a.after p (moved.finite f) (rw q (refl, inr (other, refl)))
 
-    decided_by : (word : Location) (tokens : List Token) → (act r).step ≡ step.Condition word tokens
-        → (x : Result Bool PlacedFault) → IsCondition A (in_text r.text word) tokens (list_numbering r.rules r.line_offset) r.definitions x → Stepped r
+    decided_by : (word : Location) (tokens : List Token) → a.step ≡ step.Condition word tokens
+        → (x : Result Bool PlacedFault) → IsCondition A (in_text r.text word) tokens (list_numbering r.rules r.line_offset) r.definitions x → Stepped r a
     decided_by word tokens p (Ok holds) c =
-        passed (step.Condition word tokens) (decided r.position holds (act r).after) p refl ((moves r).finite f) refl (Ok holds, c, (refl, refl))
+        passed (step.Condition word tokens) (decided r.position holds a.after) p refl (moved.finite f) refl (Ok holds, c, (refl, refl))
     decided_by word tokens p (Err fault) c = faulty (step.Condition word tokens) (unasked fault) r p f (Err fault, c, (refl, refl))
 
-    numbered_by : (word : Location) (tokens : List Token) → (act r).step ≡ step.LineNumber word tokens
-        → (x : Result ℕ PlacedFault) → IsLineNumber A (in_text r.text word) tokens (list_numbering r.rules r.line_offset) r.definitions x → Stepped r
+    numbered_by : (word : Location) (tokens : List Token) → a.step ≡ step.LineNumber word tokens
+        → (x : Result ℕ PlacedFault) → IsLineNumber A (in_text r.text word) tokens (list_numbering r.rules r.line_offset) r.definitions x → Stepped r a
     numbered_by word tokens p (Ok n) c =
-        let t : SourceReader = record (act r).after { line_offset = pos n -ℤ pos (numbered_line r.rules word.line) } in
-        passed (step.LineNumber word tokens) t p refl ((moves r).finite f) refl (Ok n, c, (refl, refl))
+        let t : SourceReader = record a.after { line_offset = pos n -ℤ pos (numbered_line r.rules word.line) } in
+        passed (step.LineNumber word tokens) t p refl (moved.finite f) refl (Ok n, c, (refl, refl))
     numbered_by word tokens p (Err fault) c = faulty (step.LineNumber word tokens) (unasked fault) r p f (Err fault, c, (refl, refl))
 
-    step_by : (s : Step) → (act r).step ≡ s → Stepped r
-    step_by step.Passed p = passed step.Passed (act r).after p refl ((moves r).finite f) refl (refl, refl)
+    step_by : (s : Step) → a.step ≡ s → Stepped r a
+    step_by step.Passed p = passed step.Passed a.after p refl (moved.finite f) refl (refl, refl)
     step_by (step.Given x) p = record {
       outcome = Some (taken_of r.text x);
-      after = (act r).after;
-      steps = that_does A (step.Given x) r (Some (taken_of r.text x)) (act r).after p (refl, refl);
-      finite = (moves r).finite f;
-      falls = λ h. act_less_left r (rw p (rw (token_given r.text x h) refl));
+      after = a.after;
+      does = by_step (step.Given x) (Some (taken_of r.text x)) a.after p (refl, refl);
+      finite = moved.finite f;
+      falls = λ h. less (rw p (rw (token_given r.text x h) refl));
     }
     step_by (step.Defines named) p = defined_by named p (r.definitions named.name) refl
     step_by (step.Condition word tokens) p =
@@ -110,8 +112,11 @@ module _ (A : Answers) (answered : AnAnswer A) where
         let c = a_line_number A answered (in_text r.text word) tokens (list_numbering r.rules r.line_offset) r.definitions f in
         numbered_by word tokens p c.0 c.1
 
-    stepped : Stepped r
-    stepped = step_by (act r).step refl
+    pub stepped_as : Stepped r a
+    stepped_as = step_by a.step refl
+
+  stepped : (r : SourceReader) → HasFinite r → Stepped r (act r)
+  stepped r f = stepped_as r (act r) (moves r) (act_less_left r) f
 
   -- ---- up to what is given next
 
@@ -121,12 +126,12 @@ module _ (A : Answers) (answered : AnAnswer A) where
       let s = stepped r f in
       go s s.outcome refl (λ less. read_on fuel s.after s.finite (omega (arith, less, room)))
     where
-      go : (s : Stepped r) (o : Option Taken) → s.outcome ≡ o → (left s.after < left r → Given (source_reading A) HasFinite left s.after)
+      go : (s : Stepped r (act r)) (o : Option Taken) → s.outcome ≡ o → (left s.after < left r → Given (source_reading A) HasFinite left s.after)
           → Given (source_reading A) HasFinite left r
       go s (Some x) p more = record {
         given = x;
         after = s.after;
-        reads = here x r s.after (rw p at s.steps);
+        reads = here x r s.after (rw p at s.does);
         fine = s.finite;
         falls = λ h. s.falls (rw p h);
       }
@@ -136,7 +141,7 @@ module _ (A : Answers) (answered : AnAnswer A) where
           record {
             given = rest.given;
             after = rest.after;
-            reads = later rest.given r s.after rest.after (rw p at s.steps) rest.reads;
+            reads = later rest.given r s.after rest.after (rw p at s.does) rest.reads;
             fine = rest.fine;
             falls = λ h. omega (arith, rest.falls h, less);
           }
@@ -150,7 +155,7 @@ module _ (A : Answers) (answered : AnAnswer A) where
   every_source = every (record { gives = source_gives; finite = λ r finite. finite; answered = answered })
 
   pub a_step : AStep A
-  a_step r f = let s = stepped r f in (s.outcome, s.after, s.steps)
+  a_step r f = let s = stepped r f in (s.outcome, s.after, s.does)
 
   pub source_reads : AReading (source_reading A)
   source_reads r f = let g = source_gives r f in (g.given, g.after, g.reads)

@@ -68,7 +68,8 @@ module _ (P : Acted → Type 0) (r : SourceReader) (all : HoldsOfActs P r) where
         deciding = λ why tokens. all.wanted word tokens;
       })
 
-  sight_acts : (live : Bool) → is_live r.items r.truths r.position ≡ live → (block : Option BlockFacts) (s : Sight) → sight_of (items_left r) ≡ s
+  -- it holds of the sight, whatever blocks are open,
+  pub sight_acts : (live : Bool) → is_live r.items r.truths r.position ≡ live → (block : Option BlockFacts) (s : Sight) → sight_of (items_left r) ≡ s
       → P (perform (move_at r.rules live block s (items_left r)) r)
   sight_acts live here block sight.End there = all.end there
   sight_acts live here block (sight.Directive directive word) there = line_acts live here block directive word there

@@ -37,7 +37,7 @@ one_evaluated v w next r x y s t same a b = go v a (subst (λ u. Evaluated u nex
     go (Err fault) a b = one_pair a b
 
 module _ (A : Answers) (single : OneAnswer A) where
-  one_outcome : (did : Step) (after r : SourceReader) (x y : Option Taken) (s t : SourceReader) → Does A r did after x s
+  pub one_outcome : (did : Step) (after r : SourceReader) (x y : Option Taken) (s t : SourceReader) → Does A r did after x s
       → Does A r did after y t → (x ≡ y) × (s ≡ t)
   one_outcome step.Passed after r x y s t a b = one_pair a b
   one_outcome (step.Given z) after r x y s t a b = one_pair a b

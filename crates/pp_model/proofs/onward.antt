@@ -1,0 +1,6 @@
+pub mod StepLemmas
+pub mod ExistenceLemmas
+pub mod RunLemmas
+pub mod ReadsBeginLemmas
+pub mod EmitsBeginLemmas
+pub mod RunsBeginLemmas
