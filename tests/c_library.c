@@ -1,5 +1,6 @@
 /* Calls the library at its edges, and prints a line for each case. Run by tests/c_library, with sanitizers. */
 #define _DEFAULT_SOURCE
+#include "c_heap.h"
 #include "pp.h"
 
 #include <stdbool.h>
@@ -10,37 +11,6 @@
 
 _Static_assert(sizeof(pp_item) == 40, "docs/GUIDE.md says how much memory an item takes");
 _Static_assert(sizeof(pp_options) == 32, "crates/pp_c/specs/Options.antt says how long options are");
-
-/* The library's heap, of which one allocation can fail. */
-typedef struct {
-    bool ok;
-    void *block;
-} tried;
-
-static uint64_t asked, failing;
-
-static tried answer(void *block) {
-    static char nothing[16];
-    tried it = {block != NULL, block ? block : nothing};
-    return it;
-}
-
-static bool fails(void) {
-    return ++asked == failing;
-}
-
-tried rattle_alloc(size_t size, size_t alignment) {
-    return answer(fails() ? NULL : malloc(size ? size : alignment));
-}
-
-tried rattle_realloc(void *block, size_t kept, size_t size, size_t alignment) {
-    (void)kept;
-    return answer(fails() ? NULL : realloc(block, size ? size : alignment));
-}
-
-void rattle_dealloc(void *block) {
-    free(block);
-}
 
 static void check(const char *name, bool holds) {
     printf("%s: %s\n", name, holds ? "passed" : "it doesn't hold");

@@ -3,9 +3,11 @@
  *     fuzz SECONDS SEED < SOURCES
  *
  * SOURCES are texts with a NUL between them. Each run takes a part of one, changes some bytes, and calls with random rooms,
- * definitions, texts, options and refused allocations. It ends by a signal if a call reads or writes where it may not, and
- * with status 1 if an answer can't be. Run by tests/c_library --fuzz. */
+ * definitions, texts, options and refused allocations; or opens a stream, takes its items in random pieces with definitions and
+ * texts between them, and holds them against those of one call. It ends by a signal if a call reads or writes where it may
+ * not, and with status 1 if an answer can't be. Run by tests/c_library --fuzz. */
 #define _DEFAULT_SOURCE
+#include "c_heap.h"
 #include "pp.h"
 
 #include <stdbool.h>
@@ -14,32 +16,6 @@
 #include <string.h>
 #include <sys/mman.h>
 #include <time.h>
-
-typedef struct {
-    bool ok;
-    void *block;
-} tried;
-
-static uint64_t asked, failing;
-
-static tried answer(void *block) {
-    static char nothing[16];
-    tried it = {block != NULL, block ? block : nothing};
-    return it;
-}
-
-tried rattle_alloc(size_t size, size_t alignment) {
-    return answer(++asked == failing ? NULL : malloc(size ? size : alignment));
-}
-
-tried rattle_realloc(void *block, size_t kept, size_t size, size_t alignment) {
-    (void)kept;
-    return answer(++asked == failing ? NULL : realloc(block, size ? size : alignment));
-}
-
-void rattle_dealloc(void *block) {
-    free(block);
-}
 
 static uint64_t state;
 
@@ -91,7 +67,7 @@ static size_t take(uint8_t *to, size_t most) {
     return length;
 }
 
-static uint64_t answers[16];
+static uint64_t answers[16], held_against;
 
 static void fail(const char *what, uint32_t status) {
     fprintf(stderr, "%s, after the answer %u\n", what, (unsigned)status);
@@ -109,13 +85,26 @@ static void check_items(const pp_item *items, pp_sizes sizes, uint32_t status) {
     if (status == PP_INCLUDE && (sizes.items < 3 || items[sizes.items - 1].kind != PP_INCLUDE_LINE)) fail("no line asks", status);
 }
 
-static void run(void) {
+/* What is handed to calls, by chance. */
+static uint8_t *source, *words;
+static size_t source_length, words_length;
+static pp_options options;
+
+static void draw_texts(void) {
     static uint8_t source_bytes[1 << 14], word_bytes[1 << 14];
-    size_t source_length = take(source_bytes, draw(8) ? 300 : sizeof source_bytes - 1);
-    size_t words_length = take(word_bytes, draw(8) ? 100 : sizeof word_bytes - 1);
-    uint8_t *source = (uint8_t *)up_to_the_end(0, source_length, 1), *words = (uint8_t *)up_to_the_end(1, words_length, 1);
+    source_length = take(source_bytes, draw(8) ? 300 : sizeof source_bytes - 1);
+    words_length = take(word_bytes, draw(8) ? 100 : sizeof word_bytes - 1);
+    source = (uint8_t *)up_to_the_end(0, source_length, 1);
+    words = (uint8_t *)up_to_the_end(1, words_length, 1);
     if (source_length) memcpy(source, source_bytes, source_length);
     if (words_length) memcpy(words, word_bytes, words_length);
+    pp_options it = {.size = draw(50) ? sizeof it : draw(100), .rules = (uint32_t)draw(draw(50) ? 4 : 9)};
+    it.version = (uint32_t)(100 * draw(6));
+    it.budget = 1 + draw(draw(3) ? 200000 : 100);
+    options = it;
+}
+
+static void run_call(void) {
     size_t count = draw(4);
     pp_definition *entries = (pp_definition *)up_to_the_end(2, count, sizeof *entries);
     for (size_t n = 0; n < count; n++) {
@@ -125,9 +114,6 @@ static void run(void) {
         it.after = draw(6);
         entries[n] = it;
     }
-    pp_options options = {.size = draw(50) ? sizeof options : draw(100), .rules = (uint32_t)draw(draw(50) ? 4 : 9)};
-    options.version = (uint32_t)(100 * draw(6));
-    options.budget = 1 + draw(draw(3) ? 200000 : 100);
     options.most_items = draw(3) ? 0 : draw(40);
     pp_sizes room = {draw(2) ? 4000 : draw(60), draw(2) ? 8000 : draw(100)}, sizes = {0, 0};
     uint64_t call = draw(8), lines = draw(3);
@@ -164,6 +150,118 @@ static void run(void) {
         fail("a line without a number", 0);
 }
 
+/* The items of a stream, those of one call, and what was defined and included between them. */
+enum { MOST_ITEMS = 20000, MOST_TEXTS = 40000, MOST_ENTRIES = 12 };
+static struct {
+    pp_item items[MOST_ITEMS];
+    uint32_t numbers[MOST_ITEMS];
+    uint8_t texts[MOST_TEXTS];
+    pp_sizes sizes;
+} pieces, whole;
+static pp_definition entries[MOST_ENTRIES];
+static pp_fault faults[MOST_ENTRIES];
+static size_t entry_count;
+
+/* Takes some of the next items, and puts them behind those that came. Says how many there are, those held not counted. */
+static uint32_t take_piece(pp_stream *stream, uint64_t most, pp_sizes room, uint64_t *count) {
+    pp_item *items = (pp_item *)up_to_the_end(3, room.items, sizeof *items);
+    uint8_t *texts = (uint8_t *)up_to_the_end(4, room.texts, 1);
+    uint32_t *numbers = (uint32_t *)up_to_the_end(5, room.items, sizeof *numbers);
+    pp_sizes sizes = {0, 0};
+    uint32_t status = pp_stream_next(stream, most, items, room.items, texts, room.texts, numbers, room.items, &sizes);
+    *count = 0;
+    if (status == PP_TOO_SMALL && sizes.items <= PART / sizeof *items && sizes.texts <= PART) {
+        if (sizes.items <= room.items && sizes.texts <= room.texts) fail("there was room", status);
+        return take_piece(stream, most, sizes, count);
+    }
+    if (status != PP_DONE && status != PP_PARTIAL && status != PP_INCLUDE) return status;
+    if (sizes.items > room.items || sizes.texts > room.texts) fail("there was no room", status);
+    check_items(items, sizes, status);
+    for (uint64_t n = 0; n < sizes.items; n += 1 + items[n].children) ++*count;
+    if (most && *count > most) fail("there are too many items", status);
+    if (pieces.sizes.items + sizes.items > MOST_ITEMS || pieces.sizes.texts + sizes.texts > MOST_TEXTS) return PP_TOO_SMALL;
+    for (uint64_t n = 0; n < sizes.items; n++) {
+        pp_item it = items[n];
+        if (it.text_length) it.value += pieces.sizes.texts;
+        pieces.items[pieces.sizes.items + n] = it;
+        pieces.numbers[pieces.sizes.items + n] = numbers[n];
+    }
+    if (sizes.texts) memcpy(pieces.texts + pieces.sizes.texts, texts, sizes.texts);
+    pieces.sizes.items += sizes.items;
+    pieces.sizes.texts += sizes.texts;
+    return status;
+}
+
+/* Defines or includes a part of the words behind so many items. */
+static void add_entry(pp_stream *stream, uint64_t after, bool is_text) {
+    if (entry_count == MOST_ENTRIES) return;
+    pp_definition it = {.name_start = is_text ? PP_TEXT : draw(words_length + 1), .after = after};
+    if (!is_text) it.name_length = draw(words_length - it.name_start + 1) % 4;
+    it.content_start = draw(words_length + 1);
+    it.content_length = draw(words_length - it.content_start + 1);
+    pp_fault fault = {0, 0, 0, 1};
+    const uint8_t *content = words + it.content_start;
+    uint32_t status = is_text ? pp_stream_include(stream, 0, content, it.content_length)
+                              : pp_stream_define(stream, words + it.name_start, it.name_length, content, it.content_length, &fault);
+    answers[status]++;
+    if (status > PP_TOO_DEEP || (status != PP_DONE && status != PP_NOT_UTF8 && status != PP_TOO_DEEP && status != PP_OUT_OF_MEMORY))
+        fail("it isn't defined or included", status);
+    if (status != PP_DONE) return;
+    faults[entry_count] = fault;
+    entries[entry_count++] = it;
+}
+
+static void check_whole(uint32_t flags, uint32_t status) {
+    options.most_items = 0;
+    pp_definition *copied = (pp_definition *)up_to_the_end(2, entry_count, sizeof *copied);
+    if (entry_count) memcpy(copied, entries, entry_count * sizeof *copied);
+    uint32_t answer = flags & PP_ASK_INCLUDES
+        ? pp_preprocess_including(&options, UINT64_MAX, source, source_length, words, words_length, copied, entry_count, whole.items,
+                                  MOST_ITEMS, whole.texts, MOST_TEXTS, whole.numbers, MOST_ITEMS, &whole.sizes)
+        : pp_preprocess_with(&options, source, source_length, words, words_length, copied, entry_count, whole.items, MOST_ITEMS,
+                             whole.texts, MOST_TEXTS, &whole.sizes);
+    if (answer == PP_NOT_UTF8 || answer == PP_BAD_DEFINITION || answer == PP_TOO_SMALL) return;
+    /* A call may take some steps less than a stream. */
+    if (answer == PP_OVER_BUDGET || status == PP_OVER_BUDGET) return;
+    if (answer != status) fail("one call answers something else", answer);
+    if (answer != PP_DONE) return;
+    held_against++;
+    bool same = pieces.sizes.items == whole.sizes.items && pieces.sizes.texts == whole.sizes.texts;
+    same = same && memcmp(pieces.items, whole.items, whole.sizes.items * sizeof *whole.items) == 0;
+    same = same && memcmp(pieces.texts, whole.texts, whole.sizes.texts) == 0;
+    if (flags & PP_ASK_INCLUDES) same = same && memcmp(pieces.numbers, whole.numbers, whole.sizes.items * sizeof *whole.numbers) == 0;
+    for (size_t n = 0; n < entry_count; n++)
+        same = same && copied[n].error == faults[n].error && (!faults[n].error || (copied[n].start == faults[n].start &&
+               copied[n].end == faults[n].end && copied[n].line == faults[n].line));
+    if (!same) fail("one call gives something else", status);
+}
+
+static void run_stream(void) {
+    pp_stream stream = {0};
+    uint32_t flags = (uint32_t)draw(2);
+    uint64_t given = 0, count;
+    pieces.sizes.items = pieces.sizes.texts = entry_count = asked = 0;
+    failing = draw(4) ? 0 : draw(60);
+    uint32_t status = pp_stream_open(&options, flags, source, source_length, &stream);
+    answers[status]++;
+    if (status != PP_DONE && stream.state) fail("a stream is open", status);
+    bool is_open = status == PP_DONE;
+    for (bool goes_on = is_open; goes_on; given += count) {
+        uint64_t most = draw(3) ? 1 + draw(9) : draw(200);
+        pp_sizes room = {draw(2) ? 1000 : draw(30), draw(2) ? 2000 : draw(60)};
+        status = take_piece(&stream, most, room, &count);
+        answers[status]++;
+        goes_on = status == PP_PARTIAL || status == PP_INCLUDE;
+        if (status == PP_INCLUDE && draw(3)) add_entry(&stream, given + count, true);
+        /* If fewer came than were asked for, one more may have been read. */
+        if ((status == PP_INCLUDE || (status == PP_PARTIAL && count == most)) && !draw(4)) add_entry(&stream, given + count, false);
+    }
+    pp_stream_close(&stream);
+    if (bytes_held) fail("memory is held", status);
+    failing = 0;
+    if (is_open && status != PP_OUT_OF_MEMORY && status != PP_TOO_SMALL) check_whole(flags, status);
+}
+
 int main(int argc, char **argv) {
     if (argc < 3) return 2;
     time_t end = time(NULL) + atol(argv[1]);
@@ -172,10 +270,13 @@ int main(int argc, char **argv) {
     read_corpus();
     uint64_t runs = 0;
     while (runs % 256 || time(NULL) < end) {
-        run();
+        draw_texts();
+        if (draw(2)) run_call();
+        else run_stream();
         runs++;
     }
-    printf("%llu runs; answers 0 to 10:", (unsigned long long)runs);
+    printf("%llu runs, of which %llu held a stream against a call; answers 0 to 10:", (unsigned long long)runs,
+           (unsigned long long)held_against);
     for (int status = 0; status <= PP_TOO_DEEP; status++) printf(" %llu", (unsigned long long)answers[status]);
     putchar('\n');
     free(corpus);

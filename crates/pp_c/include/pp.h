@@ -17,8 +17,10 @@
  * - malloc, realloc and free are one allocator's and align as C says, and no call is made from a signal handler or in a
  *   forked child of a process with threads.
  *
- * Any bytes may be handed in as source and words, and any numbers in options and definitions. Calls share nothing and keep
- * nothing: each thread may make its own, if it has 256 KB of stack. */
+ * Any bytes may be handed in as source and words, and any numbers in options and definitions. Calls share nothing, and only
+ * a pp_stream keeps anything: each thread may make its own, if it has 256 KB of stack.
+ *
+ * A stream gives the items piece by piece, and definitions and texts come between them: pp_stream_open, below. */
 #ifndef PP_H
 #define PP_H
 
@@ -26,7 +28,7 @@
 #include <stdint.h>
 
 /* The version of this interface, from 1. A library of a later one has all that is declared here. */
-#define PP_API_VERSION 2
+#define PP_API_VERSION 3
 
 #ifdef __cplusplus
 extern "C" {
@@ -44,9 +46,10 @@ enum {
     PP_OVER_BUDGET = 6, /* the items need more steps than the budget has */
     PP_PARTIAL = 7,     /* as many items as were asked for are there; more may follow */
     PP_BAD_OPTIONS = 8, /* the options have another size or other rules than this library knows */
-    /* the last two are pp_preprocess_including's alone */
-    PP_INCLUDE = 9,  /* the last item is an #include line that asks for its text */
-    PP_TOO_DEEP = 10 /* a text was handed in inside of 200 others */
+    /* these two are pp_preprocess_including's and a stream's */
+    PP_INCLUDE = 9,   /* the last item is an #include line that asks for its text */
+    PP_TOO_DEEP = 10, /* a text was handed in inside of 200 others */
+    PP_CLOSED = 11    /* the stream isn't open */
 };
 
 /* What an item is. */
@@ -195,6 +198,81 @@ uint32_t pp_preprocess_including(const pp_options *options, uint64_t lines, cons
                                  const uint8_t *words, size_t words_length, pp_definition *definitions,
                                  size_t definitions_length, pp_item *items, size_t items_length, uint8_t *texts,
                                  size_t texts_length, uint32_t *numbers, size_t numbers_length, pp_sizes *sizes);
+
+/* A stream: a source whose items are taken piece by piece. With 0 it is closed: pp_stream stream = {0};
+ *
+ *     if (pp_stream_open(&options, 0, source, length, &stream) == PP_DONE) {
+ *         do {
+ *             answer = pp_stream_next(&stream, 0, items, 1000, texts, 10000, NULL, 0, &sizes);
+ *             ... take sizes.items items ...
+ *         } while (answer == PP_PARTIAL);
+ *         pp_stream_close(&stream);
+ *     }
+ *
+ * What is proved of its calls holds as long as the caller upholds this too:
+ *
+ * - The stream is {0}, or as the last of these calls left it, and is used at one place: a copy of it is not handed in.
+ * - The source and each included text stay as they are and where they are until the stream is closed or opened anew. What is
+ *   proved asks for more, that they stay for good; that it is enough until then is tested.
+ * - The memory that it keeps is malloc's: no other code frees it. A stream that isn't closed keeps it.
+ * - A stream stays on the thread that opened it. */
+typedef struct pp_stream {
+    void *state;
+} pp_stream;
+
+/* Bits of `flags` of a stream, and of a text of one. */
+enum {
+    PP_ASK_INCLUDES = 1, /* #include lines ask for their texts; not of a text */
+    PP_IS_UTF8 = 2       /* the source, or the text, is UTF-8: the caller vouches for it, and it isn't looked through */
+};
+
+/* Opens a stream of the items of `source`, by the rules of the options and within their budget, which is of all calls of
+ * the stream together. `most_items` has to be 0. A stream that is open is closed first.
+ *
+ * The answer is PP_DONE, PP_NOT_UTF8, PP_TOO_LONG, PP_OUT_OF_MEMORY or PP_BAD_OPTIONS, also for a flag that isn't known;
+ * the stream is open with PP_DONE alone. It reads nothing yet: with PP_IS_UTF8 it takes the same time for any source. */
+uint32_t pp_stream_open(const pp_options *options, uint32_t flags, const uint8_t *source, size_t source_length,
+                        pp_stream *stream);
+
+/* Gives the next items: at most `most`, those that others hold not counted, or any number with 0; and no more than there is
+ * room for. `sizes` says how many are there. Texts are in `texts` of this call, and so are their places. Into numbers[n] is
+ * written in which text items[n] is, as by pp_preprocess_including.
+ *
+ * PP_PARTIAL    more may come: `most` are there, or the next has no room
+ * PP_INCLUDE    the last one is an #include line that asks for its text; pp_stream_include is called now, or never for it
+ * PP_DONE       the end was reached; what is defined or included now may bring more
+ * PP_TOO_SMALL  the first has no room: `sizes` says how much it takes. It stays the next; the room may be written to
+ * PP_OUT_OF_MEMORY, PP_OVER_BUDGET  nothing was given, and no later call gives anything but this answer. Those before it
+ *               came with PP_PARTIAL
+ * PP_CLOSED     the stream isn't open
+ *
+ * Proved: all items of a stream, over all its calls, are those of the written rules with each definition and text at its
+ * call, up to and with the first error; those after it as pp_preprocess has it. A call takes the time of what it gives and
+ * of one item more, which it may have read for the next call. */
+uint32_t pp_stream_next(pp_stream *stream, uint64_t most, pp_item *items, size_t items_length, uint8_t *texts,
+                        size_t texts_length, uint32_t *numbers, size_t numbers_length, pp_sizes *sizes);
+
+/* The first error of a content and its place there: 0 at 0..0 on line 1 if it has none. */
+typedef struct pp_fault {
+    uint32_t error;
+    uint32_t start;
+    uint32_t end;
+    uint32_t line;
+} pp_fault;
+
+/* Adds a macro without parameters, for what is read from now on. The last call of pp_stream_next may have read one item that
+ * it had no room for: with room for all of `most` there is none. If the content has an error, that is in `fault`, the answer
+ * is PP_DONE too, and nothing was added. With PP_NOT_UTF8, PP_TOO_LONG, PP_OUT_OF_MEMORY and PP_CLOSED nothing happened; an
+ * answer after which nothing comes stays. Name and content may go after the call. */
+uint32_t pp_stream_define(pp_stream *stream, const uint8_t *name, size_t name_length, const uint8_t *content,
+                          size_t content_length, pp_fault *fault);
+
+/* Includes a text: its items come next, and then what came next before. `flags` is 0 or PP_IS_UTF8. If 200 texts are around
+ * it the answer is PP_TOO_DEEP, and reading goes on without it. Else it answers as pp_stream_define, or PP_BAD_OPTIONS. */
+uint32_t pp_stream_include(pp_stream *stream, uint32_t flags, const uint8_t *text, size_t text_length);
+
+/* Closes the stream and gives its memory back. One that isn't open stays as it is. */
+void pp_stream_close(pp_stream *stream);
 
 /* Gives the tokens of `source` before preprocessing, newlines and number signs among them. Proved of PP_DONE: they are those
  * of the written rules, errors and what comes after them too. */

@@ -5,8 +5,8 @@ use Rattle.std.proofs.Math.ListN.{replicate}
 use Rattle.pp_model.specs.Run.{Call, next}
 use Rattle.pp_rs.specs.Kept.{Preprocessing, is_spent, rules_of}
 use Rattle.pp_c.specs.Calls.{calls_from, entering}
-use Rattle.pp_c.specs.Preprocessed.{Given, entries_of, times_asked}
-use Rattle.pp_c.specs.inner.Making.{Made, answers_of, is_all, is_front, made_of, AskedBy, IsAsked, StopsBy, IsWithin, up_to, IsSmall, HasCome, IsUntil, GoesOn, HasRest, IsPossible, HasAdded, HasAll, AddsOne}
+use Rattle.pp_c.specs.Preprocessed.{Given, answers_of, entries_of, times_asked}
+use Rattle.pp_c.specs.inner.Making.{Made, is_all, is_front, made_of, AskedBy, IsAsked, StopsBy, IsWithin, up_to, IsSmall, HasCome, IsUntil, GoesOn, HasRest, IsPossible, HasAdded, HasAll, AddsOne}
 use Rattle.pp_c.specs.inner.Settings.{takes_texts}
 use Rattle.pp_c.specs.declared.items.Definition.{Definition}
 use Rattle.pp_c.specs.declared.output.Output.{Output}

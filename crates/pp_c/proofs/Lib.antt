@@ -1,3 +1,5 @@
+pub mod HandleLemmas
+pub mod LooseLemmas
 pub mod OverLemmas
 pub mod TakingLemmas
 pub mod TextLemmas
@@ -10,6 +12,12 @@ pub mod RestLemmas
 pub mod AllLemmas
 pub mod WrittenLemmas
 pub mod PreprocessedLemmas
+pub mod StreamLemmas
+pub mod CallLemmas
+pub mod ReadLemmas
+pub mod AnswerLemmas
+pub mod StreamedLemmas
+pub mod BatchLemmas
 pub mod StatusLemmas
 pub mod FrontLemmas
 pub mod LexLemmas

@@ -8,8 +8,8 @@ use Rattle.pp_c.specs.Calls.{calls_from}
 use Rattle.pp_c.specs.Ends.{HasRoom}
 use Rattle.pp_c.specs.Entries.{Entry, in_64_bits, items_from, texts_of, room_of, put_over}
 use Rattle.pp_c.specs.Options.{most_in, most_asking_in}
-use Rattle.pp_c.specs.Preprocessed.{Given, times_asked, AreWritten, StopsAt, Preprocesses, PreprocessesWith, StopsAsking, HasAskedItems, Includes}
-use Rattle.pp_c.specs.inner.Making.{answers_of, is_all, StopsBy, IsAsked, HasAll, Gives, Answers}
+use Rattle.pp_c.specs.Preprocessed.{Given, answers_of, times_asked, AreWritten, StopsAt, Preprocesses, PreprocessesWith, StopsAsking, HasAskedItems, Includes}
+use Rattle.pp_c.specs.inner.Making.{is_all, StopsBy, IsAsked, HasAll, Gives, Answers}
 use Rattle.pp_c.specs.inner.Settings.{setting_in, asking_setting, takes_texts}
 use Rattle.pp_c.specs.inner.Taking.{Takes, HaveRoom, written_over}
 use Rattle.pp_c.specs.declared.items.Definition.{Definition}
@@ -20,8 +20,8 @@ use Rattle.pp_c.specs.declared.options.Setting.{Setting}
 use Rattle.pp_c.specs.declared.status.End.{End}
 use Rattle.pp_c.specs.declared.status.End.TheVariants.{All, Front, Include}
 use Rattle.pp_c.specs.declared.output.Output.{Output}
-use Rattle.pp_c.proofs.MadeLemmas.{answers_then, run_of_calls, reported}
-use Rattle.pp_c.proofs.TakingLemmas.{room_after-is, sizes_same}
+use Rattle.pp_c.proofs.MadeLemmas.{answers_by}
+use Rattle.pp_c.proofs.TakingLemmas.{room_of_all}
 
 -- the items of a source, from what was made of it
 pub gives_items : (setting : Setting) (end : End) (source words : List ℕ) (definitions : List Definition) (begun new : Preprocessing) (output after : Output)
@@ -29,21 +29,10 @@ pub gives_items : (setting : Setting) (end : End) (source words : List ℕ) (def
     → rules_of begun ≡ setting.rules → HasAll setting end begun output words definitions new after
     → Gives setting end source words definitions output after
 gives_items setting end source words definitions begun new output after stands errors same h =
-    let rules = setting.rules in
     let calls = calls_from (takes_texts setting) words (times_asked (is_all end) h.given) 0 definitions in
-    let r = run_of_calls rules begun new calls (is_all end) h.given (start_by rules (items_by rules source)) same stands h.made in
-    let p = reported rules begun new calls (answers_of h.given (is_all end)) (is_all end) h.given (sym (answers_then h.given (is_all end))) same h.made in
     record {
       given = h.given;
-      are_items = record {
-        replies = r.replies;
-        run = r.runs;
-        gives = r.gives;
-        left = p.left;
-        places = rw errors at p.places;
-        none_left = p.none_left;
-        holds = p.holds;
-      };
+      are_items = answers_by setting.rules source begun new calls (answers_of h.given (is_all end)) stands errors same h.made;
       stops = h.stops;
       asked = h.asked;
       takes = h.takes;
@@ -61,7 +50,7 @@ are_written entries output after items items_after texts texts_after sizes i t o
     let zero_items : output.sizes.items ≡ 0 = ap (λ (s : Sizes). s.items) os in
     let zero_texts : output.sizes.texts ≡ 0 = ap (λ (s : Sizes). s.texts) os in
     let room : sizes ≡ room_of entries =
-    as_ ∙ h.sizes ∙ room_after-is output.sizes entries (omega arith) (omega arith) ∙ rw (zero_items, zero_texts) (sizes_same _ _ _ _ (omega arith) (omega arith)) in
+    as_ ∙ h.sizes ∙ room_of_all output.sizes entries os in
     let count : sizes.items ≡ in_64_bits (length entries) = ap (λ (s : Sizes). s.items) room in
     let bytes : sizes.texts ≡ in_64_bits (length (texts_of entries)) = ap (λ (s : Sizes). s.texts) room in
     let items_same : length output.items.now ≡ length items = ap length oi in

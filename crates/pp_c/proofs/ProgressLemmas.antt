@@ -9,7 +9,7 @@ use Rattle.pp_model.specs.Run.{Call, next}
 use Rattle.pp_rs.specs.Kept.{Preprocessing}
 use Rattle.pp_c.specs.Entries.{Entry}
 use Rattle.pp_c.specs.Preprocessed.{Given, given_entries, entries_of, asks, lines_in}
-use Rattle.pp_c.specs.inner.Making.{GivesNext, Made, NextIsWritten, answers_of, is_all, is_front, made_of, taken, end_after, passes_after, AskedBy, IsSmall, HasCome, Approaches, GoesOn}
+use Rattle.pp_c.specs.inner.Making.{GivesNext, Made, NextIsWritten, is_all, is_front, made_of, taken, end_after, passes_after, AskedBy, IsSmall, HasCome, Approaches, GoesOn}
 use Rattle.pp_c.specs.inner.Making as made
 use Rattle.pp_c.specs.inner.Taking.{Takes}
 use Rattle.pp_c.specs.declared.output.Output.{Output}
@@ -58,10 +58,10 @@ come_none passed start first progress e small = rw e (record {
 })
 
 -- one line more, or none
-lines_push : (given : List Given) (g : Given) → lines_in (given ++ g ∷ []) ≡ lines_in given + lines_in (g ∷ [])
+pub lines_push : (given : List Given) (g : Given) → lines_in (given ++ g ∷ []) ≡ lines_in given + lines_in (g ∷ [])
 lines_push given g = sum_by-append _ given (g ∷ [])
 
-line_is : (g : Given) (asking : Bool) → asks g ≡ asking → lines_in (g ∷ []) ≡ (if asking then 1 else 0)
+pub line_is : (g : Given) (asking : Bool) → asks g ≡ asking → lines_in (g ∷ []) ≡ (if asking then 1 else 0)
 line_is g true e = rw e refl
 line_is g false e = rw e refl
 

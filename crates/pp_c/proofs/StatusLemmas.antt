@@ -21,6 +21,7 @@ use Rattle.pp_c.specs.declared.status.Status.TheVariants.{
   BadOptions,
   Include,
   TooDeep,
+  Closed,
 }
 use Rattle.pp_c.specs.declared.status.End.{End}
 use Rattle.pp_c.specs.declared.status.End.TheVariants as where_to
@@ -37,7 +38,8 @@ numbered (suc (suc (suc (suc (suc (suc zero)))))) = OverBudget
 numbered (suc (suc (suc (suc (suc (suc (suc zero))))))) = Partial
 numbered (suc (suc (suc (suc (suc (suc (suc (suc zero)))))))) = BadOptions
 numbered (suc (suc (suc (suc (suc (suc (suc (suc (suc zero))))))))) = Include
-numbered (suc (suc (suc (suc (suc (suc (suc (suc (suc (suc n)))))))))) = TooDeep
+numbered (suc (suc (suc (suc (suc (suc (suc (suc (suc (suc zero)))))))))) = TooDeep
+numbered (suc (suc (suc (suc (suc (suc (suc (suc (suc (suc (suc n))))))))))) = Closed
 
 numbered_by : (status : Status) → status ≡ numbered (tag_of the_type status)
 numbered_by Done = refl
@@ -51,40 +53,43 @@ numbered_by Partial = refl
 numbered_by BadOptions = refl
 numbered_by Include = refl
 numbered_by TooDeep = refl
+numbered_by Closed = refl
 
 -- an answer is the one with its number
 pub by_number : (status : Status) (n : ℕ) → tag_of the_type status ≡ n → status ≡ numbered n
 by_number status n e = numbered_by status ∙ ap numbered e
 
 -- the answers with which a call may end that doesn't ask for texts, or does
-pub answers_by : (Asking : Type 0) (status : Status) → status ≢ BadOptions → (status ≡ Include → Asking) → (status ≡ TooDeep → Asking)
+pub answers_by : (Asking : Type 0) (status : Status) → status ≢ BadOptions → status ≢ Closed → (status ≡ Include → Asking) → (status ≡ TooDeep → Asking)
     → (tag_of the_type status < 8) ⊎ (Asking × ((tag_of the_type status ≡ 9) ⊎ (tag_of the_type status ≡ 10)))
-answers_by Asking Done good include deep = inl (omega arith)
-answers_by Asking TooSmall good include deep = inl (omega arith)
-answers_by Asking NotUtf8 good include deep = inl (omega arith)
-answers_by Asking TooLong good include deep = inl (omega arith)
-answers_by Asking BadDefinition good include deep = inl (omega arith)
-answers_by Asking OutOfMemory good include deep = inl (omega arith)
-answers_by Asking OverBudget good include deep = inl (omega arith)
-answers_by Asking Partial good include deep = inl (omega arith)
-answers_by Asking BadOptions good include deep = absurd (good refl)
-answers_by Asking Include good include deep = inr (include refl, inl refl)
-answers_by Asking TooDeep good include deep = inr (deep refl, inr refl)
+answers_by Asking Done good calls include deep = inl (omega arith)
+answers_by Asking TooSmall good calls include deep = inl (omega arith)
+answers_by Asking NotUtf8 good calls include deep = inl (omega arith)
+answers_by Asking TooLong good calls include deep = inl (omega arith)
+answers_by Asking BadDefinition good calls include deep = inl (omega arith)
+answers_by Asking OutOfMemory good calls include deep = inl (omega arith)
+answers_by Asking OverBudget good calls include deep = inl (omega arith)
+answers_by Asking Partial good calls include deep = inl (omega arith)
+answers_by Asking BadOptions good calls include deep = absurd (good refl)
+answers_by Asking Include good calls include deep = inr (include refl, inl refl)
+answers_by Asking TooDeep good calls include deep = inr (deep refl, inr refl)
+answers_by Asking Closed good calls include deep = absurd (calls refl)
 
 -- those of the lexer
-pub answers_of_lexer : (status : Status) → status ≢ BadOptions → status ≢ Partial → status ≢ Include → status ≢ OverBudget → status ≢ TooDeep
+pub answers_of_lexer : (status : Status) → status ≢ BadOptions → status ≢ Closed → status ≢ Partial → status ≢ Include → status ≢ OverBudget → status ≢ TooDeep
     → tag_of the_type status < 6
-answers_of_lexer Done good whole unasked in_time shallow = omega arith
-answers_of_lexer TooSmall good whole unasked in_time shallow = omega arith
-answers_of_lexer NotUtf8 good whole unasked in_time shallow = omega arith
-answers_of_lexer TooLong good whole unasked in_time shallow = omega arith
-answers_of_lexer BadDefinition good whole unasked in_time shallow = omega arith
-answers_of_lexer OutOfMemory good whole unasked in_time shallow = omega arith
-answers_of_lexer OverBudget good whole unasked in_time shallow = absurd (in_time refl)
-answers_of_lexer Partial good whole unasked in_time shallow = absurd (whole refl)
-answers_of_lexer BadOptions good whole unasked in_time shallow = absurd (good refl)
-answers_of_lexer Include good whole unasked in_time shallow = absurd (unasked refl)
-answers_of_lexer TooDeep good whole unasked in_time shallow = absurd (shallow refl)
+answers_of_lexer Done good calls whole unasked in_time shallow = omega arith
+answers_of_lexer TooSmall good calls whole unasked in_time shallow = omega arith
+answers_of_lexer NotUtf8 good calls whole unasked in_time shallow = omega arith
+answers_of_lexer TooLong good calls whole unasked in_time shallow = omega arith
+answers_of_lexer BadDefinition good calls whole unasked in_time shallow = omega arith
+answers_of_lexer OutOfMemory good calls whole unasked in_time shallow = omega arith
+answers_of_lexer OverBudget good calls whole unasked in_time shallow = absurd (in_time refl)
+answers_of_lexer Partial good calls whole unasked in_time shallow = absurd (whole refl)
+answers_of_lexer BadOptions good calls whole unasked in_time shallow = absurd (good refl)
+answers_of_lexer Include good calls whole unasked in_time shallow = absurd (unasked refl)
+answers_of_lexer TooDeep good calls whole unasked in_time shallow = absurd (shallow refl)
+answers_of_lexer Closed good calls whole unasked in_time shallow = absurd (calls refl)
 
 -- where the items end, and what holds then
 pub record HowEnded (P : End → Type 0) (answer : ℕ) : Type 0 where
@@ -108,6 +113,7 @@ module _ (end : Result End Refusal) (status : Status) (done : status ≡ Done �
   ok_by OverBudget e h = absurd (omega (arith, h))
   ok_by BadOptions e h = absurd (omega (arith, h))
   ok_by TooDeep e h = absurd (omega (arith, h))
+  ok_by Closed e h = absurd (omega (arith, h))
 
   -- with items the call ended well
   pub ok_if_items : HasAskedItems (tag_of the_type status) → IsOk end

@@ -1,7 +1,7 @@
 -- Entries that are written after others.
 use Rattle.std.proofs.Common.{◌≡◌, ℕ, suc, ◌+◌, ◌^◌, ◌<◌, ◌≤◌, List, [], ◌∷◌, ◌++◌, length, sym, refl, ap, ◌∙◌, arith, append_assoc, length-append, add-zero}
 use Rattle.pp_c.proofs.OverLemmas.{written_over-nil, written_over-append}
-use Rattle.pp_c.specs.Entries.{Entry, bare, with_text, text_of, in_64_bits, placed, items_from, texts_of}
+use Rattle.pp_c.specs.Entries.{Entry, bare, with_text, text_of, in_64_bits, placed, items_from, texts_of, room_of}
 use Rattle.pp_c.specs.inner.Taking.{with_room, room_after, HaveRoom, Takes, written_over}
 use Rattle.pp_c.specs.declared.items.Item.{Item}
 use Rattle.pp_c.specs.declared.items.Sizes.{Sizes}
@@ -41,6 +41,12 @@ room_after-is sizes (with_text item text ∷ es) i t =
     room_after-is (with_room sizes (with_text item text)) es (omega arith) (omega arith)
     ∙ sizes_same _ _ _ _ (omega arith) (omega (arith, length-append text (texts_of es)))
 
+-- with nothing before
+pub room_of_all : (sizes : Sizes) (es : List Entry) → sizes ≡ record { items = 0; texts = 0 } → room_after sizes es ≡ room_of es
+room_of_all sizes es e =
+    let none : Sizes = record { items = 0; texts = 0 } in
+    rw e (room_after-is none es (omega arith) (omega arith) ∙ sizes_same _ _ _ _ (omega arith) (omega arith))
+
 -- none
 pub takes_none : (output : Output) → Takes output [] output
 takes_none output = record {
@@ -77,7 +83,7 @@ room_of_first output xs ys h = record {
 }
 
 -- how much is counted of what has room
-exact_room : (old between : Output) (xs : List Entry) → length old.items.now < 2 ^ 63 → length old.texts.now < 2 ^ 63 → Takes old xs between
+pub exact_room : (old between : Output) (xs : List Entry) → length old.items.now < 2 ^ 63 → length old.texts.now < 2 ^ 63 → Takes old xs between
     → HaveRoom old xs → (between.sizes.items ≡ old.sizes.items + length xs) × (between.sizes.texts ≡ old.sizes.texts + length (texts_of xs))
 exact_room old between xs i t first h =
     let p = h.items in
@@ -86,7 +92,7 @@ exact_room old between xs i t first h =
     (ap (λ (s : Sizes). s.items) e ∙ omega arith, ap (λ (s : Sizes). s.texts) e ∙ omega arith)
 
 -- and after them
-room_of_last : (old between : Output) (xs ys : List Entry) → length old.items.now < 2 ^ 63 → length old.texts.now < 2 ^ 63 → Takes old xs between
+pub room_of_last : (old between : Output) (xs ys : List Entry) → length old.items.now < 2 ^ 63 → length old.texts.now < 2 ^ 63 → Takes old xs between
     → HaveRoom old (xs ++ ys) → HaveRoom between ys
 room_of_last old between xs ys i t first h =
     let e = exact_room old between xs i t first (room_of_first old xs ys h) in
@@ -94,6 +100,17 @@ room_of_last old between xs ys i t first h =
     record {
       items = omega (arith, e.0, h.items, first.items_room, length-append xs ys);
       texts = omega (arith, e.1, h.texts, first.texts_room, f, length-append (texts_of xs) (texts_of ys));
+    }
+
+-- what has room after others has room with them
+pub room_then : (old between : Output) (xs ys : List Entry) → length old.items.now < 2 ^ 63 → length old.texts.now < 2 ^ 63 → Takes old xs between
+    → HaveRoom old xs → HaveRoom between ys → HaveRoom old (xs ++ ys)
+room_then old between xs ys i t first h more =
+    let e = exact_room old between xs i t first h in
+    let f : length (texts_of (xs ++ ys)) ≡ length (texts_of xs ++ texts_of ys) = ap length (texts_of-append xs ys) in
+    record {
+      items = omega (arith, e.0, more.items, first.items_room, length-append xs ys);
+      texts = omega (arith, e.1, more.texts, first.texts_room, f, length-append (texts_of xs) (texts_of ys));
     }
 
 -- some and then others

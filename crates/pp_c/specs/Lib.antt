@@ -1,8 +1,11 @@
 pub mod Ends
+pub mod Handles
 pub mod Options
 pub mod Entries
 pub mod Calls
 pub mod Preprocessed
+pub mod Streams
+pub mod StreamCalls
 pub mod Fronts
 pub mod Lexing
 pub mod Numbers

@@ -2,7 +2,7 @@
 -- preprocessor.
 use Rattle.std.specs.Prelude.{◌≡◌, ℕ, ◌+◌, ◌<◌, ◌≤◌, ◌⊎◌, Bool, true, false, if◌then◌else◌, List, [], ◌∷◌, ◌++◌}
 use Rattle.std.specs.Prelude.{length, ◌≢◌}
-use Rattle.std.specs.Prelude.{Option, Some, None, Err, ⊤}
+use Rattle.std.specs.Prelude.{Option, Some, None, MatchOption, Err, map, ⊤}
 use Rattle.std.specs.List.{flat_map, count_by, AllByRecursion as Each}
 use Rattle.pp_macros.specs.LexerErrors.{ErrorAt, lexer_errors_by, PassesErrors}
 use Rattle.pp_model.specs.Places.{Fault}
@@ -56,18 +56,23 @@ lines_in given = count_by asks given
 abbrev pub times_asked : Bool → List Given → ℕ
 times_asked has_ended given = length given + (if has_ended then 1 else 0)
 
--- the reply after the items, if the end was reached
-abbrev pub end_if : Bool → List Outcome
-end_if has_ended = if has_ended then outcome.End ∷ [] else []
+-- the answers of `next`: these items, and then the end, if it was reached, which is `None`
+abbrev pub answers_of : List Given → Bool → List (Option Given)
+answers_of given false = map Some given
+answers_of given true = map Some given ++ None ∷ []
 
--- the replies of `next` in a run: the items up to and with the first error, or all of them, and then the end if it was
--- reached
+-- the replies of `next` in a run, if these are its answers: up to and with the first error
+abbrev pub outcomes_to_error : List (Option Given) → List Outcome
+outcomes_to_error [] = []
+outcomes_to_error (None ∷ answers) = outcome.End ∷ outcomes_to_error answers
+outcomes_to_error (Some (token t) ∷ answers) = outcome.Token t ∷ outcomes_to_error answers
+outcomes_to_error (Some (error fault place None) ∷ answers) = outcome.Fault fault ∷ []
+outcomes_to_error (Some (error fault place (Some rest)) ∷ answers) =
+    outcome.Include (record { word = fault.1; rest = rest }) ∷ outcomes_to_error answers
+
+-- the same for these items, and then the end if it was reached
 abbrev pub outcomes_of : Bool → List Given → List Outcome
-outcomes_of has_ended [] = end_if has_ended
-outcomes_of has_ended (token t ∷ given) = outcome.Token t ∷ outcomes_of has_ended given
-outcomes_of has_ended (error fault place None ∷ given) = outcome.Fault fault ∷ []
-outcomes_of has_ended (error fault place (Some rest) ∷ given) =
-    outcome.Include (record { word = fault.1; rest = rest }) ∷ outcomes_of has_ended given
+outcomes_of has_ended given = outcomes_to_error (answers_of given has_ended)
 
 -- the replies to `next`, without those to other calls
 abbrev pub replies_to_next : List Reply → List Outcome
@@ -80,69 +85,81 @@ replies_to_next (reply.TooDeep ∷ replies) = replies_to_next replies
 
 -- The places of all errors that these calls give, also after the first, if the errors of the lexer in one list were
 -- not given before, and those in another were not given after. If the rules pass errors in dead text and on lines
--- that are skipped, some may be gone before each item, and at the end. An error is the first of the lexer's that are
--- left, at its true place, or any error at the place in its item. Those of a text come at its call.
-pub data ErrorsStand (rules : Rules) : List Call → List Given → List ErrorAt → List ErrorAt → Type 0 where
-  none : (calls : List Call) (given : List Given) (before after : List ErrorAt)
+-- that are skipped, some may be gone before each item, and at the end. At the end none is left. An error is the first
+-- of the lexer's that are left, at its true place, or any error at the place in its item. Those of a text come at its
+-- call.
+pub data ErrorsStand (rules : Rules) : List Call → List (Option Given) → List ErrorAt → List ErrorAt → Type 0 where
+  none : (calls : List Call) (answers : List (Option Given)) (before after : List ErrorAt)
       → calls ≡ []
-      → given ≡ []
+      → answers ≡ []
       → after ≡ before
-      → ErrorsStand rules calls given before after
-  at_end : (calls others : List Call) (given : List Given) (before after : List ErrorAt)
+      → ErrorsStand rules calls answers before after
+  at_end : (calls others : List Call) (answers rest : List (Option Given)) (before after : List ErrorAt)
       → calls ≡ next ∷ others
-      → given ≡ []
-      → PassesErrors rules.passes_dead_errors before after
-      → ErrorsStand rules calls given before after
-  after_definition : (name content : List ℕ) (calls others : List Call) (given : List Given)
+      → answers ≡ None ∷ rest
+      → PassesErrors rules.passes_dead_errors before []
+      → ErrorsStand rules others rest [] after
+      → ErrorsStand rules calls answers before after
+  after_definition : (name content : List ℕ) (calls others : List Call) (answers : List (Option Given))
       (before after : List ErrorAt)
       → calls ≡ add_define name content ∷ others
-      → ErrorsStand rules others given before after
-      → ErrorsStand rules calls given before after
-  after_text : (text : List ℕ) (calls others : List Call) (given : List Given) (before left after : List ErrorAt)
+      → ErrorsStand rules others answers before after
+      → ErrorsStand rules calls answers before after
+  after_text : (text : List ℕ) (calls others : List Call) (answers : List (Option Given))
+      (before left after : List ErrorAt)
       → calls ≡ include text ∷ others
       → IsInserted (lexer_errors_by rules text) before left
-      → ErrorsStand rules others given left after
-      → ErrorsStand rules calls given before after
-  after_token : (t : Token) (calls others : List Call) (given rest : List Given) (before left after : List ErrorAt)
-      → calls ≡ next ∷ others
-      → given ≡ token t ∷ rest
-      → PassesErrors rules.passes_dead_errors before left
-      → ErrorsStand rules others rest left after
-      → ErrorsStand rules calls given before after
-  of_lexer : (fault : Fault) (place : Location) (asked : Option Location) (calls others : List Call)
-      (given rest : List Given) (before left after : List ErrorAt)
-      → calls ≡ next ∷ others
-      → given ≡ error fault place asked ∷ rest
-      → PassesErrors rules.passes_dead_errors before (record { item = fault; place = place } ∷ left)
-      → ErrorsStand rules others rest left after
-      → ErrorsStand rules calls given before after
-  of_its_own : (fault : Fault) (asked : Option Location) (calls others : List Call) (given rest : List Given)
+      → ErrorsStand rules others answers left after
+      → ErrorsStand rules calls answers before after
+  after_token : (t : Token) (calls others : List Call) (answers rest : List (Option Given))
       (before left after : List ErrorAt)
       → calls ≡ next ∷ others
-      → given ≡ error fault fault.1 asked ∷ rest
+      → answers ≡ Some (token t) ∷ rest
       → PassesErrors rules.passes_dead_errors before left
       → ErrorsStand rules others rest left after
-      → ErrorsStand rules calls given before after
+      → ErrorsStand rules calls answers before after
+  of_lexer : (fault : Fault) (place : Location) (asked : Option Location) (calls others : List Call)
+      (answers rest : List (Option Given)) (before left after : List ErrorAt)
+      → calls ≡ next ∷ others
+      → answers ≡ Some (error fault place asked) ∷ rest
+      → PassesErrors rules.passes_dead_errors before (record { item = fault; place = place } ∷ left)
+      → ErrorsStand rules others rest left after
+      → ErrorsStand rules calls answers before after
+  of_its_own : (fault : Fault) (asked : Option Location) (calls others : List Call) (answers rest : List (Option Given))
+      (before left after : List ErrorAt)
+      → calls ≡ next ∷ others
+      → answers ≡ Some (error fault fault.1 asked) ∷ rest
+      → PassesErrors rules.passes_dead_errors before left
+      → ErrorsStand rules others rest left after
+      → ErrorsStand rules calls answers before after
 
 -- the tokens inside a directive's item are ordinary, and only an unknown directive asks for a text, if the rules say so
 abbrev pub IsPossibleGiven : Rules → Given → Type 0
 IsPossibleGiven rules (token t) = HoldsOrdinary t.value
 IsPossibleGiven rules (error fault place asked) = Asks rules (Some (Err fault)) asked
 
+-- the same of an answer; of the end it says nothing
+abbrev pub IsPossibleAnswer : Rules → Option Given → Type 0
+IsPossibleAnswer rules answer = MatchOption answer ⊤ (IsPossibleGiven rules)
+
+-- These calls of a preprocessor of a source by these rules have these answers of `next`, of which `None` is the end. Up
+-- to and with the first error they are those of the run. At the end none of the lexer's errors is left.
+pub record AreAnswersBy (rules : Rules) (source : List ℕ) (calls : List Call) (answers : List (Option Given))
+    : Type 0 where
+  pub replies : List Reply
+  pub run : IsRunBy rules source calls replies
+  pub gives : replies_to_next replies ≡ outcomes_to_error answers
+  pub left : List ErrorAt
+  pub places : ErrorsStand rules calls answers (lexer_errors_by rules source) left
+  pub holds : Each (IsPossibleAnswer rules) answers
+
 -- These are the items of a source by these rules, with each definition added, and if the call takes texts each text
 -- included, when its number of items was given or no further item is: all of them, if the end was reached, and
--- otherwise those at the front. Up to and with the first error they are those of the run. At the end none of the
--- lexer's errors is left.
-pub record AreItemsBy (rules : Rules) (texts : Bool) (source words : List ℕ) (definitions : List Definition)
-    (has_ended : Bool) (given : List Given) : Type 0 where
-  pub replies : List Reply
-  pub run : IsRunBy rules source (calls_from texts words (times_asked has_ended given) 0 definitions) replies
-  pub gives : replies_to_next replies ≡ outcomes_of has_ended given
-  pub left : List ErrorAt
-  pub places : ErrorsStand rules (calls_from texts words (times_asked has_ended given) 0 definitions) given
-      (lexer_errors_by rules source) left
-  pub none_left : has_ended ≡ true → left ≡ []
-  pub holds : Each (IsPossibleGiven rules) given
+-- otherwise those at the front.
+abbrev pub AreItemsBy : Rules → Bool → List ℕ → List ℕ → List Definition → Bool → List Given → Type 0
+AreItemsBy rules texts source words definitions has_ended given =
+    AreAnswersBy rules source (calls_from texts words (times_asked has_ended given) 0 definitions)
+    (answers_of given has_ended)
 
 -- a call that stops after `most` items, or at the end, gave this many and reached the end or not
 abbrev pub StopsAt : Option ℕ → Bool → ℕ → Type 0

@@ -5,3 +5,5 @@ pub mod Taking
 pub mod Making
 pub mod Lexes
 pub mod Refusing
+pub mod Reached
+pub mod Batches

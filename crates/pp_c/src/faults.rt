@@ -2,8 +2,26 @@
 
 ghost use Rattle.std.specs.Prelude.{◌≡◌};
 ghost use Rattle.pp_c.specs.Numbers.{error_number};
+ghost use Rattle.pp_c.specs.StreamCalls.{written_fault};
 
-use pp_rs::token::PreprocessorError;
+use crate::items::ContentFault;
+use pp_rs::token::{Location, PreprocessorError};
+
+/// An error of a content with its place, or none, as C gets it.
+pub(crate) fn written_fault(found: Option<(PreprocessorError, Location)>) -> ContentFault
+    ensures { result ≡ written_fault found }
+{
+    let (error, place) = match found {
+        Some((error, place)) => (number_of(&error), place),
+        None => (0, Location::default()),
+    };
+    ContentFault {
+        error: error as u32,
+        start: place.start,
+        end: place.end,
+        line: place.line,
+    }
+}
 
 /// The number of an error: its position in `PreprocessorError`, from 1.
 pub(crate) fn number_of(error: &PreprocessorError) -> u16

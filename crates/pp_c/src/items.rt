@@ -55,6 +55,20 @@ pub struct Definition {
     pub line: u32,
 }
 
+/// The first error of a content, and its place there.
+#[repr(C)]
+#[derive(Clone, Copy)]
+pub struct ContentFault {
+    /// The number of the error, or 0 if there is none.
+    pub error: u32,
+    /// The byte offset at which it begins.
+    pub start: u32,
+    /// The byte offset just after it.
+    pub end: u32,
+    /// The 1-based line on which it begins.
+    pub line: u32,
+}
+
 /// How much room items and their texts take.
 #[repr(C)]
 #[derive(Clone, Copy)]

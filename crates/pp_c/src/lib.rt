@@ -24,10 +24,11 @@ mod options;
 mod output;
 mod preprocessing;
 mod status;
+mod stream;
 mod words;
 
 use definitions::LIMIT;
-pub use items::{Definition, Item, Position, Sizes};
+pub use items::{ContentFault, Definition, Item, Position, Sizes};
 use lexing::lex;
 pub use options::Options;
 use options::Setting;
@@ -37,6 +38,9 @@ use preprocessing::preprocess;
 use status::{End, Status, status_after};
 use std::alloc::Global;
 use std::str;
+pub use stream::{
+    Stream, pp_stream_close, pp_stream_define, pp_stream_include, pp_stream_next, pp_stream_open,
+};
 
 // The room that the caller provides.
 fn room_of(items: &[Item], texts: &[u8]) -> Sizes
@@ -327,7 +331,7 @@ pub extern "C" fn pp_line_column(source: &[u8], offset: u64, position: &mut Posi
 /// Returns the version of this library's interface, `PP_API_VERSION` of its header.
 #[unsafe(no_mangle)]
 pub extern "C" fn pp_version() -> u32
-    ensures { result ≡ 2 }
+    ensures { result ≡ 3 }
 {
-    2
+    3
 }

@@ -1,13 +1,20 @@
 //! How a caller in C wants a source to be preprocessed.
 
 ghost use Rattle.std.specs.Prelude.{◌≡◌, IfSome, None};
-ghost use Rattle.pp_c.specs.Options.{AreOptions, rules_numbered, unless_zero, all_unless_zero};
-ghost use Rattle.pp_c.specs.inner.Settings.{setting_in, asking_setting};
+ghost use Rattle.pp_c.specs.Options.{rules_numbered, unless_zero, all_unless_zero, says_text};
+ghost use Rattle.pp_c.specs.Options.{AreOptions, AreStreamOptions};
+ghost use Rattle.pp_c.specs.inner.Settings.{setting_in, asking_setting, stream_setting};
 
 use pp_rs::rules::{Profile, Rules};
 
 /// The bytes that [`Options`] take.
 pub(crate) const SIZE: u64 = 32;
+
+/// The flag that asks `#include` lines for their texts.
+pub(crate) const ASK_INCLUDES: u32 = 1;
+
+/// The flag that says that a source or a text is UTF-8.
+pub(crate) const IS_UTF8: u32 = 2;
 
 /// How a source is preprocessed.
 #[repr(C)]
@@ -66,6 +73,22 @@ impl Options {
         })
     }
 
+    /// What they ask for in a stream with these flags.
+    pub(crate) fn stream_setting(&self, flags: u32) -> Option<Setting>
+        ensures known { IfSome result (λ setting.
+            AreStreamOptions self.now flags × (setting ≡ stream_setting self.now flags)) }
+        ensures unknown { result ≡ None → ¬ (AreStreamOptions self.now flags) }
+    {
+        if flags > (ASK_INCLUDES | IS_UTF8) || self.most_items != 0 {
+            return None;
+        }
+        let mut setting = self.setting()?;
+        if flags & ASK_INCLUDES == ASK_INCLUDES {
+            setting.rules = setting.rules.with_includes();
+        }
+        Some(setting)
+    }
+
     /// What they ask for in a call that asks for texts and stops after so many lines.
     pub(crate) fn asking_setting(&self, passes: u64) -> Option<Setting>
         ensures known { IfSome result (λ setting.
@@ -80,6 +103,13 @@ impl Options {
             passes: Some(passes),
         })
     }
+}
+
+/// Whether the flags say that a source or a text is UTF-8.
+pub(crate) fn says_text(flags: u32) -> bool
+    ensures { result ≡ says_text flags }
+{
+    flags & IS_UTF8 == IS_UTF8
 }
 
 // The rules with this number.
@@ -101,8 +131,8 @@ fn unless_zero(count: u64) -> Option<u64>
     if count == 0 { None } else { Some(count) }
 }
 
-// After how many items a call that asks for texts stops.
-fn most_asking(most_items: u64) -> u64
+/// After how many items a call stops that names this number, or any number if it is 0.
+pub(crate) fn most_asking(most_items: u64) -> u64
     ensures { result ≡ all_unless_zero most_items }
 {
     if most_items == 0 {

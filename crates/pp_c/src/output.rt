@@ -1,6 +1,6 @@
 //! The caller's memory, into which items are written.
 
-ghost use Rattle.std.specs.Prelude.{◌≡◌, ◌+◌, ◌<◌, ◌≤◌, ◌∷◌, [], length};
+ghost use Rattle.std.specs.Prelude.{◌≡◌, ◌↔◌, ◌+◌, ◌-◌, ◌<◌, ◌≤◌, ◌∷◌, [], length, IsTrue};
 ghost use Rattle.pp_c.specs.Entries.{bare, with_text};
 ghost use Rattle.pp_c.specs.inner.Taking.{Takes, written_over};
 
@@ -36,6 +36,23 @@ impl<'a> Output<'a> {
         ensures { result ≡ self.now.sizes }
     {
         self.sizes
+    }
+
+    /// Whether there is no room for any item more.
+    pub(crate) fn is_full(&self) -> bool
+        ensures { IsTrue result ↔ (length self.now.items.now ≤ self.now.sizes.items) }
+    {
+        self.items.len() as u64 <= self.sizes.items
+    }
+
+    /// Whether there is so much room behind what came so far.
+    pub(crate) fn has_room(&self, wanted: Sizes) -> bool
+        ensures { IsTrue result ↔ ((wanted.items ≤ length self.now.items.now - self.now.sizes.items)
+            × (wanted.texts ≤ length self.now.texts.now - self.now.sizes.texts)) }
+    {
+        let items = (self.items.len() as u64).saturating_sub(self.sizes.items);
+        let texts = (self.texts.len() as u64).saturating_sub(self.sizes.texts);
+        wanted.items <= items && wanted.texts <= texts
     }
 
     /// Takes an item without a text.

@@ -2,8 +2,7 @@
 
 ghost use Rattle.std.specs.Prelude.{◌≡◌, ◌↔◌, ◌⊎◌, ◌<◌, ◌≤◌, ◌-◌, ◌^◌, ◌∷◌, [], true, false, map, length};
 ghost use Rattle.std.specs.Prelude.{◌≢◌, Option, None, IsOk, OnOk, IfOk, IfErr, IsTrue, IsUtf8, All, Any, Some};
-ghost use Rattle.std.specs.Prelude.{◌+◌, is_some};
-ghost use Rattle.pp_macros.specs.Item.{is_out_of_memory};
+ghost use Rattle.std.specs.Prelude.{◌+◌, is_some, OnErr};
 ghost use Rattle.pp_rs.specs.Preprocessing.{is_refusal};
 ghost use Rattle.pp_rs.specs.TokenRefs.{value_of};
 ghost use Rattle.pp_c.specs.Preprocessed.{given_entries};
@@ -28,7 +27,6 @@ use crate::options::Setting;
 use crate::output::Output;
 use crate::status::{End, Refusal};
 use crate::words::{give_error, give_float, give_integer, give_name, give_punctuator, item_at};
-use pp_macros::step::is_out_of_memory;
 use pp_rs::pp::{Preprocessor, PreprocessorItem, TokenRef, TokenSink, ValueRef};
 use pp_rs::token::{Location, PreprocessorError, Token, TokenValue};
 use std::alloc::{AllocError, Global};
@@ -106,8 +104,8 @@ fn give_within<'a>(
     }
 }
 
-// Bounds the steps, if there is a budget.
-fn set_budget(pp: &mut Preprocessor<'_>, budget: Option<u64>) -> Result<(), AllocError>
+/// Bounds the steps, if there is a budget.
+pub(crate) fn set_budget(pp: &mut Preprocessor<'_>, budget: Option<u64>) -> Result<(), AllocError>
     ensures { pp.new ≡ pp.old }
 {
     let Some(steps) = budget else {
@@ -231,7 +229,7 @@ fn give_rest(
         return Ok(());
     }
     'items: while let Some(item) = pp.give_tokens(output) {
-        give_item(item, pp.place(), pp.include_line(), output)?;
+        give_unless_refused(item, pp.place(), pp.include_line(), output)?;
     }
     Ok(())
 }
@@ -251,13 +249,13 @@ fn give_next(
     };
     let first = output.sizes().items;
     let asked = pp.include_line();
-    give_item(item, pp.place(), asked, output)?;
+    give_unless_refused(item, pp.place(), asked, output)?;
     number(numbers, first, output.sizes().items, pp.origin().text);
     Ok(Some(asked.is_some()))
 }
 
-// Writes the number of a text at the items from `first` up to `end`, if there is room.
-fn number(numbers: &mut [u32], first: u64, end: u64, text: u32) {
+/// Writes the number of a text at the items from `first` up to `end`, if there is room.
+pub(crate) fn number(numbers: &mut [u32], first: u64, end: u64, text: u32) {
     for i in first as usize..numbers.len().min(end as usize) {
         numbers[i] = text;
     }
@@ -288,8 +286,19 @@ fn give_ordinary(place: Location, value: ValueRef<'_>, output: &mut Output<'_>)
     }
 }
 
-// Gives an item. If it is an error, `place` is its true place, and `asked` the rest of its line, if it asks for a text.
-fn give_item(
+/// Fails if the item says that memory ran out.
+pub(crate) fn unless_refused(item: &PreprocessorItem) -> Result<(), AllocError>
+    ensures given { OnOk result (is_refusal (Some item.now) ≡ false) }
+    ensures refused { OnErr result (is_refusal (Some item.now) ≡ true) }
+{
+    match item {
+        Err((PreprocessorError::OutOfMemory, _)) => Err(AllocError),
+        _ => Ok(()),
+    }
+}
+
+// Gives an item, or fails if it says that memory ran out.
+fn give_unless_refused(
     item: PreprocessorItem,
     place: Location,
     asked: Option<Location>,
@@ -298,14 +307,26 @@ fn give_item(
     ensures given { OnOk result (Takes output.old (given_entries (given_of item place asked)) output.new) }
     ensures reported { OnOk result (is_refusal (Some item) ≡ false) }
 {
+    unless_refused(&item)?;
+    give_item(&item, place, asked, output);
+    Ok(())
+}
+
+/// Gives an item. If it is an error, `place` is its true place, and `asked` the rest of its line, if it asks for a
+/// text.
+pub(crate) fn give_item(
+    item: &PreprocessorItem,
+    place: Location,
+    asked: Option<Location>,
+    output: &mut Output<'_>,
+)
+    ensures { Takes output.old (given_entries (given_of item.now place asked)) output.new }
+{
     match item {
-        Ok(token) => {
-            give_value(token.location, &token.value, output);
-            Ok(())
-        }
+        Ok(token) => give_value(token.location, &token.value, output),
         Err((error, location)) => match asked {
-            Some(rest) => give_include_line(&error, location, place, rest, output),
-            None => give_fault(&error, location, place, output),
+            Some(rest) => give_include_line(error, *location, place, rest, output),
+            None => give_fault(error, *location, place, output),
         },
     }
 }
@@ -317,17 +338,11 @@ fn give_include_line(
     place: Location,
     rest: Location,
     output: &mut Output<'_>,
-) -> Result<(), AllocError>
-    ensures given { OnOk result
-        (Takes output.old (asking_entries error.now location place rest) output.new) }
-    ensures reported { OnOk result (is_out_of_memory error.now ≡ false) }
+)
+    ensures { Takes output.old (asking_entries error.now location place rest) output.new }
 {
-    if is_out_of_memory(error) {
-        return Err(AllocError);
-    }
     give_error(error, location, place, 1, output);
     output.take(item_at(rest, Kind::IncludeLine, 0));
-    Ok(())
 }
 
 // Gives an error, with its place and the token that it carries.
@@ -336,12 +351,10 @@ fn give_fault(
     location: Location,
     place: Location,
     output: &mut Output<'_>,
-) -> Result<(), AllocError>
-    ensures given { OnOk result (Takes output.old (error_entries error.now location place) output.new) }
-    ensures reported { OnOk result (is_out_of_memory error.now ≡ false) }
+)
+    ensures { Takes output.old (error_entries error.now location place) output.new }
 {
     match error {
-        PreprocessorError::OutOfMemory => return Err(AllocError),
         PreprocessorError::UnexpectedToken(value) => {
             let held = count(tokens_of(value).len());
             give_error(error, location, place, held.saturating_add(1), output);
@@ -349,7 +362,6 @@ fn give_fault(
         }
         _ => give_error(error, location, place, 0, output),
     }
-    Ok(())
 }
 
 // Gives a token, and after it the tokens of its line.

@@ -3,6 +3,7 @@
 ghost use Rattle.std.specs.Prelude.{◌≡◌, ◌≢◌, ◌⊎◌, ◌↔◌, IsOk};
 ghost use Rattle.pp_c.specs.Ends.{HasRoom};
 ghost use Rattle.pp_c.specs.inner.Making.{is_front};
+ghost use Rattle.pp_c.specs.inner.Refusing.{refusal_number};
 
 use crate::items::Sizes;
 use std::alloc::AllocError;
@@ -32,6 +33,8 @@ pub(crate) enum Status {
     Include,
     /// A text is inside of too many others.
     TooDeep,
+    /// The stream isn't open.
+    Closed,
 }
 
 /// Where the items of a call end.
@@ -65,6 +68,46 @@ pub(crate) enum Refusal {
     TooDeep,
 }
 
+/// What ran out, so that a stream gives no items any more.
+#[derive(Clone, Copy)]
+pub(crate) enum Shortage {
+    /// An allocation failed.
+    Memory,
+    /// The steps of the budget.
+    Budget,
+}
+
+impl Refusal {
+    /// The number of the status that it is.
+    pub(crate) fn number(self) -> u32
+        ensures { result ≡ refusal_number self }
+    {
+        let status = match self {
+            Refusal::NotUtf8 => Status::NotUtf8,
+            Refusal::TooLong => Status::TooLong,
+            Refusal::BadDefinition => Status::BadDefinition,
+            Refusal::OutOfMemory => Status::OutOfMemory,
+            Refusal::OverBudget => Status::OverBudget,
+            Refusal::TooDeep => Status::TooDeep,
+        };
+        status as u32
+    }
+}
+
+impl From<Shortage> for Refusal {
+    ghost use Rattle.std.specs.Prelude.{◌≡◌};
+    ghost use Rattle.pp_c.specs.inner.Refusing.{refusal_for};
+
+    ghost from_gives = { λ shortage refusal. refusal ≡ refusal_for shortage };
+
+    fn from(shortage: Shortage) -> Self {
+        match shortage {
+            Shortage::Memory => Refusal::OutOfMemory,
+            Shortage::Budget => Refusal::OverBudget,
+        }
+    }
+}
+
 impl From<AllocError> for Refusal {
     ghost use Rattle.std.specs.Prelude.{◌≡◌};
     ghost use Rattle.pp_c.specs.declared.status.Refusal.TheVariants.{OutOfMemory as out_of_memory};
@@ -85,9 +128,11 @@ pub(crate) fn status_after(end: Result<End, Refusal>, sizes: Sizes, room: Sizes)
     ensures not_utf8 { (result ≡ Status.NotUtf8) ↔ (end ≡ Err Refusal.NotUtf8) }
     ensures too_long { (result ≡ Status.TooLong) ↔ (end ≡ Err Refusal.TooLong) }
     ensures bad_definition { (result ≡ Status.BadDefinition) ↔ (end ≡ Err Refusal.BadDefinition) }
+    ensures out_of_memory { (result ≡ Status.OutOfMemory) ↔ (end ≡ Err Refusal.OutOfMemory) }
     ensures over_budget { (result ≡ Status.OverBudget) ↔ (end ≡ Err Refusal.OverBudget) }
     ensures too_deep { (result ≡ Status.TooDeep) ↔ (end ≡ Err Refusal.TooDeep) }
     ensures good_options { result ≢ Status.BadOptions }
+    ensures no_stream { result ≢ Status.Closed }
     ensures room { (result ≡ Status.Done) ⊎ (result ≡ Status.Partial) ⊎ (result ≡ Status.Include)
         → HasRoom room.items room.texts sizes }
     ensures no_room { result ≡ Status.TooSmall → ¬ (HasRoom room.items room.texts sizes) }

@@ -70,7 +70,7 @@ returns-clause-too_deep c = λ e. c.preprocess-end.ensures.too_deep (c.status_af
 pub returns-clause-answer : goal.returns-clause-answer
 returns-clause-answer c =
     let s = c.status_after.ensures in
-    answers_by (IsTrue (takes_texts c.args.setting)) c.status_after.result s.good_options
+    answers_by (IsTrue (takes_texts c.args.setting)) c.status_after.result s.good_options s.no_stream
     (λ e.
     let gives = if_ok_at _ c.preprocess-end.result Include (s.asking e) c.preprocess-end.ensures.given in
     asks_for_texts c.args.setting.passes gives.given gives.asked)

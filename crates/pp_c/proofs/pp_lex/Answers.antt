@@ -38,7 +38,7 @@ returns-clause-no_definition c = λ e.
 pub returns-clause-answer : goal.returns-clause-answer
 returns-clause-answer c =
     let s = c.status_after.ensures in
-    answers_of_lexer c.status_after.result s.good_options
+    answers_of_lexer c.status_after.result s.good_options s.no_stream
     (λ e. let bad : Front ≡ All = and_value c.lex-end.result All Front (sym c.and.ensures ∙ s.partial e) in cc)
     (λ e. let bad : Include ≡ All = and_value c.lex-end.result All Include (sym c.and.ensures ∙ s.asking e) in cc)
     (λ e. c.lex-end.ensures.no_budget (and_err c.lex-end.result All _ (rw c.and.ensures at s.over_budget.0 e)))

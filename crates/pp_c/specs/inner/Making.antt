@@ -14,7 +14,7 @@ use Rattle.pp_rs.specs.declared.token.Location.{Location}
 use Rattle.pp_rs.specs.declared.token.Token.{Token}
 use Rattle.pp_c.specs.Calls.{entering, answered_in, calls_from}
 use Rattle.pp_c.specs.Preprocessed.{Given, token, error, given_entries, entries_of, asks, lines_in, times_asked}
-use Rattle.pp_c.specs.Preprocessed.{AreItemsBy, AreWritten, EndsAtLine}
+use Rattle.pp_c.specs.Preprocessed.{answers_of, AreItemsBy, AreWritten, EndsAtLine}
 use Rattle.pp_c.specs.inner.Settings.{takes_texts}
 use Rattle.pp_c.specs.inner.Taking.{Takes}
 use Rattle.pp_c.specs.declared.items.Definition.{Definition}
@@ -85,11 +85,6 @@ pub record NextIsWritten (old new : Preprocessing) (output output_after : Output
   pub gives : GivesNext old answer new
   pub takes : MatchOption answer (output_after ≡ output) (λ given. Takes output (given_entries given) output_after)
   pub is_more : more ≡ option_map asks answer
-
--- the answers of `next`, with the end if it was given
-abbrev pub answers_of : List Given → Bool → List (Option Given)
-answers_of given false = map Some given
-answers_of given true = map Some given ++ None ∷ []
 
 -- the end was reached
 abbrev pub is_all : End → Bool

@@ -1,6 +1,6 @@
 -- What options ask for, as a call takes it. No contract of a public call cites this.
 use Rattle.std.specs.Prelude.{ℕ, Bool, Some, None, is_some}
-use Rattle.pp_c.specs.Options.{rules_in, asking_rules_in, unless_zero, most_in, most_asking_in}
+use Rattle.pp_c.specs.Options.{rules_in, asking_rules_in, unless_zero, most_in, most_asking_in, stream_rules}
 use Rattle.pp_c.specs.declared.options.Options.{Options}
 use Rattle.pp_c.specs.declared.options.Setting.{Setting}
 
@@ -19,6 +19,15 @@ asking_setting options passed = record {
   budget = unless_zero options.budget;
   most_items = Some (most_asking_in options);
   passes = Some passed;
+}
+
+-- the same for a stream with these flags
+abbrev pub stream_setting : Options → ℕ → Setting
+stream_setting options flags = record {
+  rules = stream_rules options flags;
+  budget = unless_zero options.budget;
+  most_items = None;
+  passes = None;
 }
 
 -- the call takes texts

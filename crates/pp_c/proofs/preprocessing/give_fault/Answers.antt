@@ -6,8 +6,8 @@ use Rattle.pp_c.specs.Entries.{in_32_bits}
 use Rattle.pp_c.specs.Tokens.{token_entries, error_entry, place_entry}
 use Rattle.pp_c.proofs.preprocessing.give_fault.Goals as goal
 
-pub returns-in-UnexpectedToken-clause-given : goal.returns-in-UnexpectedToken-clause-given
-returns-in-UnexpectedToken-clause-given c =
+pub returns-in-UnexpectedToken : goal.returns-in-UnexpectedToken
+returns-in-UnexpectedToken c =
     let carried = token_entries c.args.location c.in-UnexpectedToken.value in
     let n : in_32_bits (c.saturating_add.result + 1) ≡ in_32_bits (1 + length carried) =
     omega (arith, c.saturating_add.ensures, c.count-held.ensures, length-token_entries c.args.location c.in-UnexpectedToken.value c.tokens_of.result.now c.tokens_of.ensures.held) in

@@ -6,7 +6,7 @@ use Rattle.pp_c.proofs.preprocessing.give_next.Goals as goal
 
 pub returns-clause-given : goal.returns-clause-given
 returns-clause-given c =
-    let given = c.in_ok-give_item.ensures {u = tt} in
+    let given = c.in_ok-give_unless_refused.ensures {u = tt} in
     let item = given_of c.in-Some.item c.place.result c.include_line-asked.result in
     let gives : GivesNext c.args.pp.now (Some item) c.next.new.self =
     rw (c.place.ensures, c.include_line-asked.ensures) (next_item c.args.pp.now c.next.new.self c.requires c.in-Some.item given.reported (c.in-Some.ensures {u = tt}).steps) in

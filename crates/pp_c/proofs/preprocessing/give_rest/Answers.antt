@@ -12,7 +12,7 @@ pub items-preserved : goal.items-preserved
 items-preserved c =
     let small : IsSmall c.args.output.now = record { items = omega arith; texts = omega arith } in
     let gives = c.in-Some.ensures in
-    let given = c.in_ok-give_item.ensures {u = tt} in
+    let given = c.in_ok-give_unless_refused.ensures {u = tt} in
     let before = rest_given c.args.pp.now c.args.output.now small _ _ c.items.invariant _ _ gives.given in
     let item = given_of c.in-Some.item c.place.result c.include_line.result in
     rest_more _ _ _ _ _ _ (rest_small _ _ small _ _ before) before (asks item) (record {
