@@ -11,13 +11,14 @@ loader finds libraries. Only the library is proved. Calls may be made by several
 
 from __future__ import annotations
 
+import collections
 import ctypes
 import enum
-import itertools
+import math
 import os
 import struct
 from typing import (
-    Any, Callable, Dict, Iterable, Iterator, List, Mapping, NamedTuple, Optional, Sequence, Tuple, Type, Union
+    Callable, Deque, Dict, Iterable, Iterator, List, Mapping, NamedTuple, Optional, Tuple, Type, Union
 )
 
 __all__ = [
@@ -259,7 +260,13 @@ def preprocess(
 
     Raises the first `Error` of a definition's content; OverBudget; ValueError if the source isn't UTF-8, or it or a content
     has 2^32 - 1 bytes or more; MemoryError if memory runs out."""
-    return _preprocess(source, _added(definitions), _Options(rules, budget, most_items))[1]
+    data, options, added = _data(source), _Options(rules, budget, most_items), _added(definitions)
+    words, entries = _definitions(added)
+    put = data, len(data), words, len(words), entries, len(added)
+    items = _Room(*_guess(data)).fill(lambda room, sizes: _LIBRARY.pp_preprocess_with(options, *put, *room, sizes))[1]
+    for entry in entries[: len(added)]:
+        _raise_fault(entry)
+    return items
 
 
 def stream(
@@ -269,51 +276,37 @@ def stream(
     budget: int = 0,
     includes: Optional[Includes] = None,
 ) -> Iterator[Item]:
-    """The same items, made as they are read: some at a time, each time twice as many as before, from the beginning. What
-    `preprocess` raises is raised as soon as it is met.
+    """The same items, made as they are read, some at a time, on one thread. What `preprocess` raises is raised when it is met.
 
     With `includes` each `#include` line is asked for its text: the function is called with the line, and what it returns comes in
     place of the line, if it isn't None. Otherwise the item is the error UNKNOWN_DIRECTIVE at the word. Errors of the lexer in
     dead text and on skipped lines aren't given then. Raises TooDeep if the text is inside of 200 others."""
-    data, added = _data(source), _added(definitions)
-    if includes:
-        yield from _including(data, added, rules, budget, includes)
-        return
-    given, most = 0, _FIRST_ITEMS
-    answer = _PARTIAL
-    while answer == _PARTIAL:
-        answer, items = _preprocess(data, added, _Options(rules, budget, most))
-        yield from itertools.islice(items, given, None)
-        given, most = most, 2 * most
-
-
-def _including(
-    data: bytes, added: _Added, rules: Optional[Glsl], budget: int, includes: Includes
-) -> Iterator[Item]:
-    given, most, lines = 0, _FIRST_ITEMS, 0
-    answer = _PARTIAL
-    while answer in (_PARTIAL, _INCLUDE):
-        answer, items = _preprocess(data, added, _Options(rules, budget, most), lines)
-        for item in itertools.islice(items, given, None):
-            given += 1
-            line = _include_line(item, data, added)
-            if not line:
-                yield item
-                continue
-            # It is the last one.
-            lines += 1
-            text = includes(line)
-            if text is None:
-                yield item
-            else:
-                added.insert(_place_of(given, added), _Text(_data(text), given))
-        if answer == _PARTIAL:
-            most *= 2
+    opened = _Stream(_data(source), _Options(rules, budget, 0), asks=includes is not None)
+    waiting = collections.deque(_added(definitions))
+    given, most, answer = 0, 1, _PARTIAL
+    try:
+        while answer != _DONE:
+            opened.define_due(waiting, given)
+            answer, items = opened.next(min(most, waiting[0].after - given) if waiting else most)
+            for item in items:
+                given += 1
+                line = opened.include_line(item)
+                text = includes(line) if includes and line else None
+                if text is None:
+                    yield item
+                else:
+                    opened.define_due(waiting, given)
+                    opened.include(_data(text))
+            most = min(2 * most, _MOST_ITEMS)
+        opened.define_due(waiting)
+    finally:
+        opened.close()
 
 
 def lex(source: Union[str, bytes]) -> Iterator[Item]:
     """The tokens of a source before preprocessing, newlines and number signs among them. Raises as `preprocess` does."""
-    return _items(_data(source), lambda data, room: _LIBRARY.pp_lex(*data, *room))[1]
+    data = _data(source)
+    return _Room(*_guess(data)).fill(lambda room, sizes: _LIBRARY.pp_lex(data, len(data), *room, sizes))[1]
 
 
 def line_column(source: Union[str, bytes], offset: int) -> Tuple[int, int]:
@@ -331,6 +324,14 @@ class _Definition(ctypes.Structure):
         *((it, ctypes.c_uint64) for it in ("name_start", "name_length", "content_start", "content_length", "after")),
         *((it, ctypes.c_uint32) for it in ("error", "start", "end", "line")),
     ]
+
+
+class _Fault(ctypes.Structure):
+    _fields_ = [(it, ctypes.c_uint32) for it in ("error", "start", "end", "line")]
+
+
+class _Handle(ctypes.Structure):
+    _fields_ = [("state", ctypes.c_void_p)]
 
 
 class _Sizes(ctypes.Structure):
@@ -362,11 +363,11 @@ class _Options(ctypes.Structure):
 _ITEM = struct.Struct("=HHIIiIIIIQ")
 _WORDS_OF_AN_ITEM = _ITEM.size // 8
 _ERROR, _INCLUDE_LINE = 0, 10
-_DONE, _TOO_SMALL, _PARTIAL, _INCLUDE = 0, 1, 7, 9
-# Where the name of an included text begins.
-_TEXT = (1 << 64) - 1
-# How many items are asked for first.
-_FIRST_ITEMS = 256
+_DONE, _TOO_SMALL, _PARTIAL = 0, 1, 7
+# Flags of `pp_stream_open`.
+_ASK_INCLUDES = 1
+# How many items of a stream are asked for at a time.
+_MOST_ITEMS = 256
 _REFUSED: Dict[int, Tuple[Type[Exception], str]] = {
     2: (ValueError, "the source isn't UTF-8"),
     3: (ValueError, "the source or a content has 2^32 - 1 bytes or more"),
@@ -394,14 +395,16 @@ def _load() -> ctypes.CDLL:
     room = [ctypes.c_void_p, ctypes.c_size_t, *text, ctypes.POINTER(_Sizes)]
     words = [*text, ctypes.POINTER(_Definition), ctypes.c_size_t]
     library.pp_preprocess_with.argtypes = [ctypes.POINTER(_Options), *text, *words, *room]
-    numbers = [ctypes.c_void_p, ctypes.c_size_t]
-    library.pp_preprocess_including.argtypes = [
-        ctypes.POINTER(_Options), ctypes.c_uint64, *text, *words, *room[:-1], *numbers, room[-1]
-    ]
+    numbers, stream = [ctypes.c_void_p, ctypes.c_size_t], ctypes.POINTER(_Handle)
+    library.pp_stream_open.argtypes = [ctypes.POINTER(_Options), ctypes.c_uint32, *text, stream]
+    library.pp_stream_next.argtypes = [stream, ctypes.c_uint64, *room[:-1], *numbers, room[-1]]
+    library.pp_stream_define.argtypes = [stream, *text, *text, ctypes.POINTER(_Fault)]
+    library.pp_stream_include.argtypes = [stream, ctypes.c_uint32, *text]
+    library.pp_stream_close.argtypes, library.pp_stream_close.restype = [stream], None
     library.pp_lex.argtypes = [*text, *room]
     library.pp_line_column.argtypes = [*text, ctypes.c_uint64, ctypes.POINTER(_Position)]
-    for call in (library.pp_preprocess_with, library.pp_preprocess_including, library.pp_lex, library.pp_line_column):
-        call.restype = ctypes.c_uint32
+    for name in ("preprocess_with", "stream_open", "stream_next", "stream_define", "stream_include", "lex", "line_column"):
+        getattr(library, f"pp_{name}").restype = ctypes.c_uint32
     library.pp_error_sentence.argtypes, library.pp_error_sentence.restype = [ctypes.c_uint32], ctypes.c_char_p
     return library
 
@@ -409,80 +412,23 @@ def _load() -> ctypes.CDLL:
 _LIBRARY = _load()
 
 
-class _Text(NamedTuple):
-    """A text that is included once so many items were given."""
-
-    content: bytes
-    after: int
-
-
-_Added = List[Union[Definition, _Text]]
-
-
-def _definitions(added: _Added) -> Tuple[bytes, ctypes.Array[_Definition]]:
-    """The words of definitions and texts, and where each is in them. No list is empty, since its pointer would lead to nothing."""
-    words, entries = bytearray(), []
-    for it in added:
-        if isinstance(it, _Text):
-            name, name_start, content = b"", _TEXT, it.content
-        else:
-            name, name_start, content = it.name.encode(), len(words), it.content.encode()
-        entries.append(_Definition(name_start, len(name), len(words) + len(name), len(content), it.after))
-        words += name + content
-    return bytes(words), (_Definition * (len(entries) + 1))(*entries)
-
-
-def _added(definitions: Definitions) -> _Added:
+def _added(definitions: Definitions) -> List[Definition]:
     given = definitions.items() if isinstance(definitions, Mapping) else definitions
     return [Definition(*it) for it in given]
 
 
-def _place_of(given: int, added: _Added) -> int:
-    """Where a text stands in the list that is included after so many items: before the definitions that aren't added yet."""
-    reached = itertools.accumulate((it.after for it in added), max)
-    return sum(after <= given for after in reached)
-
-
-def _include_line(item: Item, data: bytes, added: _Added) -> Optional[IncludeLine]:
-    """The line that the item asks with, if it does. Each definition that was added has no error, so it has a number."""
-    if not isinstance(item, Error) or not item.rest:
-        return None
-    start, end, line = item.rest
-    content = added[item.source - 1].content if item.source else data
-    text = content.encode() if isinstance(content, str) else content
-    return IncludeLine(text[start:end].decode(), start, end, line, item.source)
+def _definitions(added: List[Definition]) -> Tuple[bytes, ctypes.Array[_Definition]]:
+    """The words of definitions, and where each is in them. No list is empty, since its pointer would lead to nothing."""
+    words, entries = bytearray(), []
+    for it in added:
+        name, content = it.name.encode(), it.content.encode()
+        entries.append(_Definition(len(words), len(name), len(words) + len(name), len(content), it.after))
+        words += name + content
+    return bytes(words), (_Definition * (len(entries) + 1))(*entries)
 
 
 def _data(source: Union[str, bytes]) -> bytes:
     return source.encode() if isinstance(source, str) else bytes(memoryview(source))
-
-
-def _preprocess(
-    source: Union[str, bytes], added: _Added, options: _Options, lines: Optional[int] = None
-) -> Tuple[int, Iterator[Item]]:
-    """The answer of a call and its items: if `lines` is given, one that asks for texts once it has passed so many lines. Raises the
-    first error of a definition."""
-    words, entries = _definitions(added)
-    put = words, len(words), entries, len(added)
-    if lines is None:
-        given = _items(_data(source), lambda data, room: _LIBRARY.pp_preprocess_with(options, *data, *put, *room))
-    else:
-        numbers: List[ctypes.Array[ctypes.c_uint32]] = []
-
-        def call(data: Tuple[Any, ...], room: Tuple[Any, ...]) -> int:
-            items, count, texts, length, sizes = room
-            numbers[:] = [(ctypes.c_uint32 * count)()]
-            return int(
-                _LIBRARY.pp_preprocess_including(
-                    options, lines, *data, *put, items, count, texts, length, numbers[0], count, sizes
-                )
-            )
-
-        given = _items(_data(source), call, numbers)
-    for entry in entries[: len(added)]:
-        if entry.error:
-            raise Error(ErrorKind(entry.error), entry.start, entry.end, entry.line)
-    return given
 
 
 def _check(answer: int) -> None:
@@ -492,21 +438,78 @@ def _check(answer: int) -> None:
         raise kind(sentence)
 
 
-def _items(
-    data: bytes, call: Callable[..., int], numbers: Sequence[ctypes.Array[ctypes.c_uint32]] = ()
-) -> Tuple[int, Iterator[Item]]:
-    """The answer of a call, which is made with more room until there is enough, and its items, in texts with these numbers. The first
-    room is a guess."""
-    sizes = _Sizes(len(data) // 2 + 16, len(data) + 16)
-    answer = _TOO_SMALL
-    while answer == _TOO_SMALL:
-        count, length = sizes.items, sizes.texts + 1
-        items, texts = (ctypes.c_uint64 * (_WORDS_OF_AN_ITEM * count))(), ctypes.create_string_buffer(length)
-        answer = call((data, len(data)), (items, count, texts, length, sizes))
-    _check(answer)
-    written = memoryview(items).cast("B")[: sizes.items * _ITEM.size]
-    of_texts = itertools.chain(*numbers, itertools.repeat(0))
-    return answer, _read(zip(_ITEM.iter_unpack(written), of_texts), ctypes.string_at(texts, sizes.texts))
+def _raise_fault(it: Union[_Definition, _Fault]) -> None:
+    """Raises the error of a definition that wasn't added."""
+    if it.error:
+        raise Error(ErrorKind(it.error), it.start, it.end, it.line)
+
+
+def _guess(data: bytes) -> Tuple[int, int]:
+    """How many items and bytes of texts a source may have."""
+    return len(data) // 2 + 16, len(data) + 16
+
+
+class _Room:
+    """Room for items, for their texts, and for the number of the text that each is in."""
+
+    def __init__(self, items: int, texts: int) -> None:
+        self.make(items, texts)
+
+    def make(self, items: int, texts: int) -> None:
+        self.count, self.items = items, (ctypes.c_uint64 * (_WORDS_OF_AN_ITEM * items))()
+        self.texts, self.numbers = ctypes.create_string_buffer(texts + 1), (ctypes.c_uint32 * items)()
+
+    def fill(self, call: Callable[..., int]) -> Tuple[int, Iterator[Item]]:
+        """The answer of a call, which is made with more room until there is enough, and its items. They have to be read before the
+        room is filled again."""
+        sizes = _Sizes()
+        while True:
+            answer = call((self.items, self.count, self.texts, len(self.texts)), sizes)
+            if answer != _TOO_SMALL:
+                break
+            self.make(sizes.items, sizes.texts)
+        _check(answer)
+        written = memoryview(self.items).cast("B")[: sizes.items * _ITEM.size]
+        return answer, _read(zip(_ITEM.iter_unpack(written), self.numbers), ctypes.string_at(self.texts, sizes.texts))
+
+
+class _Stream:
+    """A stream of the library, with the texts that it reads."""
+
+    def __init__(self, data: bytes, options: _Options, asks: bool) -> None:
+        self.handle, self.texts, self.room = _Handle(), [data], _Room(_MOST_ITEMS, 16 * _MOST_ITEMS)
+        self.asks = asks
+        _check(_LIBRARY.pp_stream_open(options, _ASK_INCLUDES * asks, data, len(data), self.handle))
+
+    def next(self, most: int) -> Tuple[int, Iterator[Item]]:
+        def call(room: Tuple[object, ...], sizes: _Sizes) -> int:
+            numbers = (self.room.numbers, self.room.count) if self.asks else (None, 0)
+            return int(_LIBRARY.pp_stream_next(self.handle, most, *room, *numbers, sizes))
+
+        return self.room.fill(call)
+
+    def define_due(self, waiting: Deque[Definition], given: float = math.inf) -> None:
+        """Adds those that are first and come after at most so many items. Raises the first error."""
+        while waiting and waiting[0].after <= given:
+            it, fault = waiting.popleft(), _Fault()
+            name, content = it.name.encode(), it.content.encode()
+            _check(_LIBRARY.pp_stream_define(self.handle, name, len(name), content, len(content), fault))
+            _raise_fault(fault)
+            self.texts.append(content)
+
+    def include(self, text: bytes) -> None:
+        _check(_LIBRARY.pp_stream_include(self.handle, 0, text, len(text)))
+        self.texts.append(text)
+
+    def include_line(self, item: Item) -> Optional[IncludeLine]:
+        """The line that the item asks with, if it does."""
+        if not isinstance(item, Error) or not item.rest:
+            return None
+        start, end, line = item.rest
+        return IncludeLine(self.texts[item.source][start:end].decode(), start, end, line, item.source)
+
+    def close(self) -> None:
+        _LIBRARY.pp_stream_close(self.handle)
 
 
 # Each with the number of its text.

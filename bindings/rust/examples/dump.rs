@@ -4,11 +4,6 @@
 use pp_rs::pp::Preprocessor;
 use std::io::{self, Read, Write};
 
-// It compiles only if a preprocessor may be handed to another thread, and shared, as docs/GUIDE.md says.
-const _: fn() = is_shareable::<Preprocessor<'static>>;
-
-fn is_shareable<T: Send + Sync>() {}
-
 fn main() -> io::Result<()> {
     let mut source = String::new();
     io::stdin().read_to_string(&mut source)?;

@@ -6,11 +6,6 @@ use pp_rs::reader::{Error, Profile, Reader, Rules};
 use pp_rs::token::Token;
 use std::io::{self, Read, Write};
 
-// It compiles only if a reader may be handed to another thread, and shared.
-const _: fn() = is_shareable::<Reader<'static>>;
-
-fn is_shareable<T: Send + Sync>() {}
-
 fn rules_of(text: &str) -> Option<Rules> {
     let (version, profile) = match text.split_once(',') {
         None => (text, Profile::Core),

@@ -1,4 +1,5 @@
 //! pp.h in Rust.
+use std::ffi::c_void;
 
 #[repr(C)]
 #[derive(Clone, Copy)]
@@ -16,13 +17,14 @@ pub struct Item {
 }
 
 #[repr(C)]
+pub struct Stream {
+    pub state: *mut c_void,
+}
+
+/// What is wrong with a definition, and where in its content. The error 0 is none.
+#[repr(C)]
 #[derive(Clone, Copy, Default)]
-pub struct Definition {
-    pub name_start: u64,
-    pub name_length: u64,
-    pub content_start: u64,
-    pub content_length: u64,
-    pub after: u64,
+pub struct Fault {
     pub error: u32,
     pub start: u32,
     pub end: u32,
@@ -68,8 +70,9 @@ pub const PARTIAL: u32 = 7;
 pub const INCLUDE: u32 = 9;
 pub const TOO_DEEP: u32 = 10;
 
-/// Where the name of an included text begins.
-pub const TEXT: u64 = u64::MAX;
+/// Flags of a source: each `#include` line asks for its text, and the source is UTF-8, so it isn't looked through.
+pub const ASKS: u32 = 1;
+pub const IS_UTF8: u32 = 2;
 
 pub const RULES_PP_RS: u32 = 0;
 pub const RULES_CORE: u32 = 1;
@@ -93,6 +96,18 @@ pub const NON_DIRECTIVE_BEFORE: u32 = 8;
 
 pub const UNEXPECTED_TOKEN: u16 = 4;
 
+/// A macro without parameters, by where its name and its content are in the words.
+#[repr(C)]
+#[derive(Clone, Copy)]
+pub struct Definition {
+    pub name_start: u64,
+    pub name_length: u64,
+    pub content_start: u64,
+    pub content_length: u64,
+    pub after: u64,
+    pub fault: Fault,
+}
+
 extern "C" {
     pub fn pp_preprocess_with(
         options: *const Options,
@@ -109,15 +124,17 @@ extern "C" {
         sizes: *mut Sizes,
     ) -> u32;
 
-    pub fn pp_preprocess_including(
+    pub fn pp_stream_open(
         options: *const Options,
-        lines: u64,
+        flags: u32,
         source: *const u8,
         source_length: usize,
-        words: *const u8,
-        words_length: usize,
-        definitions: *mut Definition,
-        definitions_length: usize,
+        stream: *mut Stream,
+    ) -> u32;
+
+    pub fn pp_stream_next(
+        stream: *mut Stream,
+        most: u64,
         items: *mut Item,
         items_length: usize,
         texts: *mut u8,
@@ -126,4 +143,22 @@ extern "C" {
         numbers_length: usize,
         sizes: *mut Sizes,
     ) -> u32;
+
+    pub fn pp_stream_define(
+        stream: *mut Stream,
+        name: *const u8,
+        name_length: usize,
+        content: *const u8,
+        content_length: usize,
+        fault: *mut Fault,
+    ) -> u32;
+
+    pub fn pp_stream_include(
+        stream: *mut Stream,
+        flags: u32,
+        text: *const u8,
+        text_length: usize,
+    ) -> u32;
+
+    pub fn pp_stream_close(stream: *mut Stream);
 }

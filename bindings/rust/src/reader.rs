@@ -17,15 +17,11 @@
 //! let texts: Vec<_> = reader.flatten().map(|token| token.value.to_string()).collect();
 //! assert_eq!(texts, ["float", "a", "=", "1.0", ";"]);
 //! ```
-use crate::items::Items;
+use crate::handle::TooDeep;
 use crate::raw;
-use crate::source::{NoItems, Source};
+use crate::stream::Stream;
 use crate::token::{Location, PreprocessorError, Token};
 use std::fmt;
-
-// How many items are made ahead first, and how many times as many each time after that.
-const FIRST: u64 = 32;
-const MORE: u64 = 4;
 
 /// The profile of a version of GLSL.
 #[derive(Clone, Copy, PartialEq, Eq, Debug)]
@@ -127,19 +123,9 @@ impl std::error::Error for IncludeError {}
 
 /// A source as an iterator of its preprocessed tokens, which are made as they are read. It goes on after an error of the
 /// source.
-///
-/// Some items are made at a time, each time about four times as many as before, from the beginning of the source. An
-/// `add_define` between items lets the next `next` begin anew too, and so does an [`include`](Reader::include): the items
-/// before it stay what they were.
 pub struct Reader<'a> {
-    source: Source<'a>,
-    items: Option<Items>,
-    // How often `next` was called, also at the end, and the number of the next item in the list.
-    asked: u64,
-    at: usize,
-    // How many items to make ahead of these, and how often `next` was called up to the last definition or text.
-    ahead: u64,
-    begun: u64,
+    stream: Stream<'a>,
+    // Whether it was said that the budget is over.
     is_over_budget: bool,
     // Of the last item: the number of its text, and the rest of its line if it asks for a text.
     text: u32,
@@ -155,13 +141,12 @@ impl<'a> Reader<'a> {
     /// Reads a source, and the contents of definitions, by these rules. A float has the value of an `f32`, whatever its
     /// width is.
     pub fn with_rules(input: &'a str, rules: Rules) -> Reader<'a> {
+        Reader::with_flags(input, rules, 0)
+    }
+
+    fn with_flags(input: &'a str, rules: Rules, flags: u32) -> Reader<'a> {
         Reader {
-            source: Source::new(input, rules.options()),
-            items: None,
-            asked: 0,
-            at: 0,
-            ahead: FIRST,
-            begun: 0,
+            stream: Stream::new(input, rules.options(), flags),
             is_over_budget: false,
             text: 0,
             rest: None,
@@ -191,9 +176,7 @@ impl<'a> Reader<'a> {
     /// # Ok::<(), Box<dyn std::error::Error>>(())
     /// ```
     pub fn with_includes(input: &'a str, rules: Rules) -> Reader<'a> {
-        let mut reader = Reader::with_rules(input, rules);
-        reader.source.ask_includes();
-        reader
+        Reader::with_flags(input, rules, raw::ASKS)
     }
 
     /// Bounds the steps that the items may take, from the first item on, or not if it is 0, as without this call.
@@ -202,7 +185,7 @@ impl<'a> Reader<'a> {
     /// for the items that are made next, `next` returns [`Error::OverBudget`]. So the time and the memory that a `next`
     /// takes are bounded by the number, and by the length of the longest token.
     pub fn set_budget(&mut self, steps: u64) {
-        self.source.set_budget(steps);
+        self.stream.set_budget(steps);
     }
 
     /// Defines a name as an object-like macro, replacing any definition of it. After an error nothing is changed.
@@ -211,15 +194,13 @@ impl<'a> Reader<'a> {
         name: &str,
         content: &str,
     ) -> Result<(), (PreprocessorError, Location)> {
-        self.source.add_define(name, content, self.asked)?;
-        self.begin_anew();
-        Ok(())
+        self.stream.add_define(name, content)
     }
 
     /// The rest of the line of the last item, after the word `include`, if it is a line that asks for its text.
     pub fn include_line(&self) -> Option<&str> {
         let rest = self.rest?;
-        let text = self.source.text(self.text)?;
+        let text = self.stream.text(self.text)?;
         text.get(rest.start as usize..rest.end as usize)
     }
 
@@ -230,15 +211,9 @@ impl<'a> Reader<'a> {
         if self.rest.is_none() {
             return Err(IncludeError::NotAsked);
         }
-        self.source.include(text, self.asked);
-        self.begin_anew();
-        match self.make() {
-            Err(NoItems::TooDeep) => {
-                self.source.exclude();
-                return Err(IncludeError::TooDeep);
-            }
-            items => self.items = items.ok(),
-        }
+        self.stream
+            .include(text)
+            .map_err(|TooDeep| IncludeError::TooDeep)?;
         self.rest = None;
         Ok(())
     }
@@ -249,65 +224,27 @@ impl<'a> Reader<'a> {
     pub fn text_number(&self) -> u32 {
         self.text
     }
-
-    // Forgets the items that were made. If definitions come one after another, about as many items are used up to the next
-    // one as since the last.
-    fn begin_anew(&mut self) {
-        self.items = None;
-        self.ahead = FIRST.max(2 * (self.asked - self.begun));
-        self.begun = self.asked;
-    }
-
-    // Makes the items up to those that come next.
-    fn make(&mut self) -> Result<Items, NoItems> {
-        let items = self.source.items(self.asked + self.ahead)?;
-        self.ahead = MORE.saturating_mul(self.ahead);
-        Ok(items)
-    }
-
-    // The next of the items that were made, if there is one, or the end.
-    fn next_made(&mut self) -> Option<Option<<Self as Iterator>::Item>> {
-        let items = self.items.as_ref()?;
-        let at = self.at;
-        match items.item(&mut self.at) {
-            None if items.is_front => None,
-            None => Some(None),
-            Some(item) => {
-                self.text = items.text_number(at);
-                self.rest = item.as_ref().err().and_then(|fault| fault.rest);
-                if self.rest.is_some() {
-                    self.source.pass_line();
-                }
-                Some(Some(item.map_err(|fault| Error::Source {
-                    error: fault.error,
-                    place: fault.place,
-                })))
-            }
-        }
-    }
 }
 
 impl<'a> Iterator for Reader<'a> {
     type Item = Result<Token, Error>;
 
     fn next(&mut self) -> Option<Self::Item> {
-        self.rest = None;
-        if self.is_over_budget {
-            return None;
-        }
-        loop {
-            if let Some(item) = self.next_made() {
-                self.asked += 1;
-                return item;
+        let rest = &mut self.rest;
+        *rest = None;
+        let item = self.stream.next(|fault| {
+            *rest = fault.rest;
+            Error::Source {
+                error: fault.error,
+                place: fault.place,
             }
-            match self.make() {
-                Ok(items) => self.items = Some(items),
-                // No text is too deep here, since each was tried.
-                Err(NoItems::OverBudget | NoItems::TooDeep) => {
-                    self.is_over_budget = true;
-                    return Some(Err(Error::OverBudget));
-                }
-            }
+        });
+        if item.is_some() {
+            self.text = self.stream.text_number();
+        } else if self.stream.is_over_budget() && !self.is_over_budget {
+            self.is_over_budget = true;
+            return Some(Err(Error::OverBudget));
         }
+        item
     }
 }
