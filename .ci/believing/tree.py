@@ -68,6 +68,10 @@ class Tree:
         derived = re.match(r'Rattle\.(\w+)\.specs\.contracts\.(.+)\.TheImpl$', path)
         if derived and derived[1] in self.crates:
             return self.derived(derived[1], derived[2].split('.'))
+        # A type as a row, which says what memory its values own.
+        row = re.match(r'Rattle\.(\w+)\.specs\.contracts\.(.+)$', path)
+        if name == 'the_row' and row and row[1] in self.crates:
+            return self.declared(row[1], row[2].split('.'))
         module = self.module(path)
         return module and self.inside(module, name)
 
