@@ -1,6 +1,6 @@
 //! How many tokens of a source come from macros. No memory is taken for them.
 
-ghost use Rattle.std.specs.Prelude.{⊤};
+ghost use Rattle.std.specs.Prelude.{⊤, false};
 
 use anyhow::{Result, bail};
 use pp_rs::pp::{Preprocessor, TokenRef, TokenSink};
@@ -17,12 +17,20 @@ struct Counts {
 impl TokenSink for Counts {
     ghost takes = { λ _ _ _. ⊤ };
 
+    ghost refuses = { λ _ _. ⊤ };
+
+    ghost is_full = { λ _. false };
+
     fn take(&mut self, token: TokenRef<'_>) -> Result<(), AllocError> {
         self.tokens = self.tokens.saturating_add(1);
         if token.origin.call.is_some() {
             self.from_macros = self.from_macros.saturating_add(1);
         }
         Ok(())
+    }
+
+    fn is_full(&self) -> bool {
+        false
     }
 }
 

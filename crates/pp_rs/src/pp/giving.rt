@@ -12,12 +12,13 @@ use std::alloc::AllocError;
 
 impl<'a> Preprocessor<'a> {
     /// Gives the ordinary tokens that come to the sink, as `next` would return them, and returns what `next` returns
-    /// after them: a `#version`, `#extension` or `#pragma`, an error, or `None` at the end.
+    /// after them: a `#version`, `#extension` or `#pragma`, an error, or `None` at the end. Once the sink is full, it
+    /// returns `None` and reads no further than the last token that was given.
     ///
     /// No memory is taken for most of these tokens. If the sink fails, it returns `OutOfMemory`, as `next` does if
     /// memory runs out for an item.
     pub fn give_tokens<S: TokenSink>(&mut self, sink: &mut S) -> Option<PreprocessorItem>
-        ensures { GivesTokens S.takes self.old sink.old result self.new sink.new }
+        ensures { GivesTokens S.takes S.refuses S.is_full self.old sink.old result self.new sink.new }
     {
         if self.is_spent() {
             return None;
@@ -38,14 +39,21 @@ impl<'a> Preprocessor<'a> {
         sink: &mut S,
     ) -> Result<Option<PreprocessorItem>, AllocError>
         requires unspent { is_spent self.old ≡ false }
-        ensures gives { IfOk result (λ item. GivesTokens S.takes self.old sink.old item self.new sink.new) }
-        ensures refused { OnErr result (IsRefusedAfter S.takes self.old sink.old) }
+        ensures gives { IfOk result (λ item. GivesTokens S.takes S.refuses S.is_full self.old sink.old item
+            self.new sink.new) }
+        ensures refused { OnErr result (IsRefusedAfter S.takes S.refuses S.is_full self.old sink.old sink.new) }
         ensures rules { rules_of self.new ≡ rules_of self.old }
     {
         'items: loop {
             self.give_front(sink)?;
+            if sink.is_full() {
+                return Ok(None);
+            }
             if self.give_words(sink)? {
                 continue;
+            }
+            if sink.is_full() {
+                return Ok(None);
             }
             match self.step() {
                 Some(Some(Ok(token))) => {
@@ -68,20 +76,24 @@ impl<'a> Preprocessor<'a> {
     #[inline(never)]
     fn give_words<S: TokenSink>(&mut self, sink: &mut S) -> Result<bool, AllocError>
         requires unspent { is_spent self.old ≡ false }
+        requires wants { S.is_full sink.old ≡ false }
         ensures spent { OnOk result (is_spent self.new ≡ false) }
         ensures left { IfOk result (λ opened. HasLeft opened self.old self.new) }
-        ensures giving { OnOk result (KeepsGiving S.takes self.old sink.old self.new sink.new) }
-        ensures refused { OnErr result (IsRefused S.takes self.old sink.old) }
+        ensures giving { OnOk result (KeepsGiving S.takes S.is_full self.old sink.old self.new sink.new) }
+        ensures refused { OnErr result (IsRefused S.takes S.refuses S.is_full self.old sink.old sink.new) }
         ensures rules { rules_of self.new ≡ rules_of self.old }
     {
         if !self.is_in_text() {
             return Ok(self.pass_dead());
         }
-        'words: while let Some(word) = self.next_word()? {
+        'words: while !sink.is_full() {
+            let Some(word) = self.next_word()? else {
+                return Ok(!self.is_idle());
+            };
             self.pay()?;
             sink.take(TokenRef::of_word(self.source_text(), &word))?;
         }
-        Ok(!self.is_idle())
+        Ok(false)
     }
 
     // Gives the tokens to the sink that the open macros give next, from their lists.
@@ -90,14 +102,14 @@ impl<'a> Preprocessor<'a> {
         requires unspent { is_spent self.old ≡ false }
         ensures spent { OnOk result (is_spent self.new ≡ false) }
         ensures left { OnOk result (most_items self.new ≤ most_items self.old) }
-        ensures giving { OnOk result (KeepsGiving S.takes self.old sink.old self.new sink.new) }
-        ensures refused { OnErr result (IsRefused S.takes self.old sink.old) }
+        ensures giving { OnOk result (KeepsGiving S.takes S.is_full self.old sink.old self.new sink.new) }
+        ensures refused { OnErr result (IsRefused S.takes S.refuses S.is_full self.old sink.old sink.new) }
         ensures rules { rules_of self.new ≡ rules_of self.old }
     {
         if self.is_idle() {
             return Ok(());
         }
-        'tokens: while self.advance()? {
+        'tokens: while !sink.is_full() && self.advance()? {
             let token = self.front();
             let text = token.origin.text;
             self.pay()?;

@@ -1,6 +1,6 @@
 //! Tokens before memory is taken for them, and what takes them.
 
-ghost use Rattle.std.specs.Prelude.{◌≡◌, ◌++◌, IsTrue, OnOk, OnErr, None, string_bytes};
+ghost use Rattle.std.specs.Prelude.{◌≡◌, ◌++◌, Bool, false, ⊤, IsTrue, IfOk, OnOk, OnErr, None, string_bytes};
 ghost use Rattle.std.specs.Str.{chars};
 ghost use Rattle.pp_lexer.specs.Spelling.{spelling};
 ghost use Rattle.pp_directives.specs.WordTokens.{word_token, word_value};
@@ -10,9 +10,9 @@ ghost use Rattle.pp_rs.specs.TokenRefs.{TakesText, token_of, value_of};
 
 use crate::lexer::{Form, PlainItem, without_suffix};
 use crate::pp::spelling::{push_float, push_integer, push_punct};
-use crate::token::{Integer, Location, Punct, Token, TokenValue};
+use crate::token::{Float, Integer, Location, Punct, Text, Token, TokenValue};
 use pp_model::splice::Origin;
-use std::alloc::AllocError;
+use std::alloc::{AllocError, Global};
 
 /// The value of an ordinary token, before memory is taken for it.
 #[derive(Clone, Copy)]
@@ -45,23 +45,54 @@ pub trait TokenSink {
     // What it is once it has taken a token.
     ghost takes: { Self → TokenRef → Self → Type 0 };
 
+    // What it is once memory has run out for one.
+    ghost refuses: { Self → Self → Type 0 };
+
+    // Whether it takes no more.
+    ghost is_full: { Self → Bool };
+
     /// Takes a token. Fails only if an allocation fails.
     fn take(&mut self, token: TokenRef<'_>) -> Result<(), AllocError>
-        ensures { OnOk result (takes self.old token.entry self.new) };
+        requires { is_full self.old ≡ false }
+        ensures taken { OnOk result (takes self.old token.entry self.new) }
+        ensures refused { OnErr result (refuses self.old self.new) };
+
+    /// Whether it takes no more tokens.
+    fn is_full(&self) -> bool
+        ensures { result ≡ is_full self.now };
 }
 
-/// A text takes the text of each token, as `spell_tokens` spells it, and a space after it.
+/// A text takes the text of each token, as `spell_tokens` spells it, and a space after it. It is never full.
 impl TokenSink for String {
     ghost takes = { TakesText };
+
+    ghost refuses = { λ _ _. ⊤ };
+
+    ghost is_full = { λ _. false };
 
     #[inline(always)]
     fn take(&mut self, token: TokenRef<'_>) -> Result<(), AllocError> {
         token.value.push_to(self)?;
         self.push(' ')
     }
+
+    #[inline(always)]
+    fn is_full(&self) -> bool {
+        false
+    }
 }
 
 impl<'a> TokenRef<'a> {
+    /// The token with memory of its own. The error is that an allocation failed.
+    pub fn to_token(self, alloc: Global) -> Result<Token, AllocError>
+        ensures { IfOk result (λ token. token ≡ token_of self.entry) }
+    {
+        Ok(Token {
+            value: self.value.to_value(alloc)?,
+            location: self.location,
+        })
+    }
+
     // A word of this text, which no macro gave.
     #[inline(always)]
     pub(crate) fn of_word(text: u32, word: &PlainItem<'a>) -> TokenRef<'a>
@@ -109,6 +140,21 @@ impl<'a> ValueRef<'a> {
         }
     }
 
+    // The value with memory of its own. The error is that an allocation failed.
+    fn to_value(self, alloc: Global) -> Result<TokenValue, AllocError>
+        ensures { IfOk result (λ value. value ≡ value_of self.entry) }
+    {
+        Ok(match self {
+            ValueRef::Ident(name) => TokenValue::Ident(text_of(alloc, name)?),
+            ValueRef::Integer(integer) => TokenValue::Integer(integer),
+            ValueRef::Float(digits, width) => TokenValue::Float(Float {
+                text: text_of(alloc, digits)?,
+                width,
+            }),
+            ValueRef::Punct(punct) => TokenValue::Punct(punct),
+        })
+    }
+
     // The value of a word of plain text.
     #[inline(always)]
     fn of_word(word: &PlainItem<'a>) -> ValueRef<'a>
@@ -150,4 +196,11 @@ impl<'a> ValueRef<'a> {
             }
         }
     }
+}
+
+// A text of these characters.
+fn text_of(alloc: Global, characters: &str) -> Result<Text, AllocError>
+    ensures { IfOk result (λ text. text ≡ chars characters.now) }
+{
+    Ok(Text::from(String::from_str(alloc, characters)?))
 }

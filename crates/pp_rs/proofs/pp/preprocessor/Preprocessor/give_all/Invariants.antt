@@ -7,7 +7,7 @@ abbrev pub invariant-items : goal.invariant-items
 invariant-items g l = record {
   unspent : is_spent l.self ≡ false;
   rules : rules_of l.self ≡ rules_of l.fn.self;
-  giving : IsGiving g.S.TokenSink.takes l.fn.self l.fn.sink l.self l.sink;
+  giving : IsGiving g.S.TokenSink.takes g.S.TokenSink.is_full l.fn.self l.fn.sink l.self l.sink;
 }
 
 abbrev pub decreases-items : goal.decreases-items

@@ -1,4 +1,4 @@
-use Rattle.std.proofs.Common.{◌∙◌, refl, arith, sym}
+use Rattle.std.proofs.Common.{◌∙◌, refl, arith, sym, inl, inr}
 use Rattle.pp_rs.specs.TokenRefs.{token_of}
 use Rattle.pp_rs.proofs.runs.GivingLemmas.{giving_passes, giving_refused, giving_takes, on_err, origin_is, token_unspent}
 use Rattle.pp_rs.proofs.pp.preprocessor.Preprocessor.give_front.Goals as goal
@@ -6,10 +6,11 @@ use Rattle.pp_rs.proofs.pp.preprocessor.Preprocessor.give_front.Goals as goal
 pub tokens-init : goal.tokens-init
 tokens-init g c = record { unspent = c.requires.unspent; left = omega arith; rules = refl; giving = λ start first p. p }
 
--- a token of an open macro
+-- a token of an wants macro
 pub tokens-preserved : goal.tokens-preserved
 tokens-preserved g c =
     let before = c.tokens.invariant in
+    let wants = sym c.is_full.ensures ∙ c.tokens-test.true in
     let passed = (c.in_ok-advance.ensures {u = tt}).passed in
     let token = c.front-token.result in
     let ahead = c.front-token.ensures.ahead in
@@ -20,36 +21,40 @@ tokens-preserved g c =
       left = omega (arith, next.less_left, passed.no_more_left, before.left);
       rules = next.rules ∙ passed.rules ∙ before.rules;
       giving = λ start first p.
-          giving_takes _ start _ first _ (giving_passes _ start _ first _ (before.giving start first p) _ passed) fresh token _ _ next
-          (sym (origin_is token.origin _ c.pass.ensures.text (c.pass.ensures.call ∙ sym c.front-token.ensures.call))) (c.in_ok-take.ensures {u = tt});
+          giving_takes _ _ start _ first _ (giving_passes _ _ start _ first _ (before.giving start first p) wants _ passed) fresh token _ _ next
+          (sym (origin_is token.origin _ c.pass.ensures.text (c.pass.ensures.call ∙ sym c.front-token.ensures.call))) (c.in_ok-take.ensures {u = tt}).taken;
     }
 
 -- no more tokens
-pub returns-clause-giving : goal.returns-clause-giving
-returns-clause-giving g c = λ start first p.
-    giving_passes _ start _ first _ (c.tokens.invariant.giving start first p) _ (c.in_ok-advance.ensures {u = tt}).passed
+pub returns-else-branch-clause-giving : goal.returns-else-branch-clause-giving
+returns-else-branch-clause-giving g c = λ start first p.
+    giving_passes _ _ start _ first _ (c.tokens.invariant.giving start first p) (sym c.is_full.ensures ∙ c.tokens-test.true) _
+    (c.in_ok-advance.ensures {u = tt}).passed
 
 -- no memory to go on
 pub returns-in_err-advance-clause-refused : goal.returns-in_err-advance-clause-refused
 returns-in_err-advance-clause-refused g c = on_err c.from_residual.result (λ start first p.
     let before = c.tokens.invariant in
-    giving_refused _ start _ first _ (before.giving start first p) before.unspent (c.in_err-advance.ensures {u = tt}).some_left)
+    let wants = sym c.is_full.ensures ∙ c.tokens-test.true in
+    giving_refused _ _ _ start _ first _ (before.giving start first p) wants before.unspent (c.in_err-advance.ensures {u = tt}).some_left _ (inl refl))
 
 -- no memory for a token
 pub returns-in_err-take-clause-refused : goal.returns-in_err-take-clause-refused
 returns-in_err-take-clause-refused g c = on_err c.from_residual-in_err-take.result (λ start first p.
     let before = c.tokens.invariant in
+    let wants = sym c.is_full.ensures ∙ c.tokens-test.true in
     let passed = (c.in_ok-advance.ensures {u = tt}).passed in
-    giving_refused _ start _ first _ (giving_passes _ start _ first _ (before.giving start first p) _ passed) (passed.spent ∙ before.unspent)
-    c.front-token.ensures.some_left)
+    giving_refused _ _ _ start _ first _ (giving_passes _ _ start _ first _ (before.giving start first p) wants _ passed) wants (passed.spent ∙ before.unspent)
+    c.front-token.ensures.some_left _ (inr (c.in_err-take.ensures {u = tt}).refused))
 
 -- no step is left for it
 pub returns-in_err-pay-clause-refused : goal.returns-in_err-pay-clause-refused
 returns-in_err-pay-clause-refused g c = on_err c.from_residual-in_err-pay.result (λ start first p.
     let before = c.tokens.invariant in
+    let wants = sym c.is_full.ensures ∙ c.tokens-test.true in
     let passed = (c.in_ok-advance.ensures {u = tt}).passed in
-    giving_refused _ start _ first _ (giving_passes _ start _ first _ (before.giving start first p) _ passed) (passed.spent ∙ before.unspent)
-    c.front-token.ensures.some_left)
+    giving_refused _ _ _ start _ first _ (giving_passes _ _ start _ first _ (before.giving start first p) wants _ passed) wants (passed.spent ∙ before.unspent)
+    c.front-token.ensures.some_left _ (inl refl))
 
 pub pass-requires : goal.pass-requires
 pass-requires g c =

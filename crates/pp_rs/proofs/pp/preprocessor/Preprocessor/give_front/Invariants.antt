@@ -8,7 +8,7 @@ invariant-tokens g l = record {
   unspent : is_spent l.self ≡ false;
   left : most_items l.self ≤ most_items l.fn.self;
   rules : rules_of l.self ≡ rules_of l.fn.self;
-  giving : KeepsGiving g.S.TokenSink.takes l.fn.self l.fn.sink l.self l.sink;
+  giving : KeepsGiving g.S.TokenSink.takes g.S.TokenSink.is_full l.fn.self l.fn.sink l.self l.sink;
 }
 
 abbrev pub decreases-tokens : goal.decreases-tokens

@@ -5,7 +5,7 @@ use Rattle.pp_rs.proofs.pp.preprocessor.Preprocessor.give_tokens.Goals as goal
 
 -- memory had run out
 pub returns-then-is_spent : goal.returns-then-is_spent
-returns-then-is_spent g c = giving_nothing _ _ _ (sym c.is_spent.ensures ∙ c.if-is_spent.true)
+returns-then-is_spent g c = giving_nothing _ _ _ _ _ (sym c.is_spent.ensures ∙ c.if-is_spent.true)
 
 pub give_all-requires : goal.give_all-requires
 give_all-requires g c = record { unspent = sym c.is_spent.ensures ∙ c.if-is_spent.false }
@@ -13,5 +13,5 @@ give_all-requires g c = record { unspent = sym c.is_spent.ensures ∙ c.if-is_sp
 -- memory runs out
 pub returns-in-Err : goal.returns-in-Err
 unfolding is_spent rules_of
-returns-in-Err g c = rw c.out_of_memory.ensures (giving_stops _ _ _ _ _ (c.in-Err.ensures {u = tt}).refused (ap (λ p. p.spent) c.spend.ensures)
+returns-in-Err g c = rw c.out_of_memory.ensures (giving_stops _ _ _ _ _ _ _ (c.in-Err.ensures {u = tt}).refused (ap (λ p. p.spent) c.spend.ensures)
     (ap rules_of c.spend.ensures ∙ (c.give_all.ensures).rules))

@@ -1,7 +1,7 @@
 use Rattle.std.specs.Prelude.{MatchBool}
 use Rattle.pp_rs.specs.inner.NextWord.{IsPassed, IsPause}
 use Rattle.pp_rs.proofs.runs.PassedLemmas.{passed_nothing}
-use Rattle.std.proofs.Common.{◌≡◌, ◌∙◌, ◌<◌, ◌≤◌, Bool, true, false, refl, ap, arith}
+use Rattle.std.proofs.Common.{◌≡◌, ◌∙◌, ◌<◌, ◌≤◌, Bool, true, false, refl, ap, sym, inl, inr, arith}
 use Rattle.pp_rs.specs.Kept.{Preprocessing, is_spent, most_items, rules_of}
 use Rattle.pp_rs.specs.inner.GivingOn.{HasLeft}
 use Rattle.pp_rs.proofs.runs.GivingLemmas.{giving_passes, giving_refused, giving_word, on_err}
@@ -21,7 +21,7 @@ pub returns-then-not-is_in_text-clause-giving : goal.returns-then-not-is_in_text
 returns-then-not-is_in_text-clause-giving g c = λ start first p.
     let passed : IsPassed c.args.self.now c.pass_dead.new.self =
     rw c.is_in_text.ensures.same at (dead_passes c.pass_dead.result c.is_in_text.new.self c.pass_dead.new.self c.pass_dead.ensures) in
-    giving_passes _ start _ first _ p _ passed
+    giving_passes _ _ start _ first _ p c.requires.wants _ passed
 
 pub words-init : goal.words-init
 words-init g c = record {
@@ -44,8 +44,8 @@ words-preserved g c =
       left = omega (arith, word.next.less_left, before.left);
       rules = word.next.rules ∙ before.rules;
       giving = λ start first p.
-          giving_word _ start _ first _ (before.giving start first p) before.reads.unspent c.in-Some.word _ c.of_word.result _ word
-          c.of_word.ensures.token (rw c.source_text.ensures at c.of_word.ensures.origin) (c.in_ok-take.ensures {u = tt});
+          giving_word _ _ start _ first _ (before.giving start first p) before.reads.unspent c.in-Some.word _ c.of_word.result _ word
+          c.of_word.ensures.token (rw c.source_text.ensures at c.of_word.ensures.origin) (c.in_ok-take.ensures {u = tt}).taken;
     }
 
 pub words-smaller : goal.words-smaller
@@ -57,36 +57,36 @@ pub of_word-requires : goal.of_word-requires
 of_word-requires g c = (rw c.in-Some.is at (c.in_ok-word.ensures {u = tt}).gives).plain
 
 -- no more words
-pub returns-clause-spent : goal.returns-clause-spent
+pub returns-in_default-clause-spent : goal.returns-in_default-clause-spent
 unfolding is_spent
-returns-clause-spent g c =
+returns-in_default-clause-spent g c =
     let text = rw c.in_default.is at (c.in_ok-word.ensures {u = tt}).gives in
     text.passed.spent ∙ c.words.invariant.reads.unspent
 
-pub returns-clause-left : goal.returns-clause-left
-returns-clause-left g c =
+pub returns-in_default-clause-left : goal.returns-in_default-clause-left
+returns-in_default-clause-left g c =
     let text = rw c.in_default.is at (c.in_ok-word.ensures {u = tt}).gives in
     has_left _ _ _ _ c.words.invariant.left text.passed.no_more_left
     (λ opened. text.less_left (rw c.is_idle.ensures at opened))
 
-pub returns-clause-giving : goal.returns-clause-giving
-returns-clause-giving g c = λ start first p.
+pub returns-in_default-clause-giving : goal.returns-in_default-clause-giving
+returns-in_default-clause-giving g c = λ start first p.
     let text = rw c.in_default.is at (c.in_ok-word.ensures {u = tt}).gives in
-    giving_passes _ start _ first _ (c.words.invariant.giving start first p) _ text.passed
+    giving_passes _ _ start _ first _ (c.words.invariant.giving start first p) (sym c.is_full.ensures ∙ c.words-test.true) _ text.passed
 
 -- memory runs out
 pub returns-in_err-word-clause-refused : goal.returns-in_err-word-clause-refused
 unfolding is_spent
 returns-in_err-word-clause-refused g c = on_err c.from_residual.result (λ start first p.
     let before = c.words.invariant in
-    giving_refused _ start _ first _ (before.giving start first p) before.reads.unspent (c.in_err-word.ensures {u = tt}).some_left)
+    giving_refused _ _ _ start _ first _ (before.giving start first p) (sym c.is_full.ensures ∙ c.words-test.true) before.reads.unspent (c.in_err-word.ensures {u = tt}).some_left _ (inl refl))
 
 pub returns-in_err-take-clause-refused : goal.returns-in_err-take-clause-refused
 unfolding is_spent
 returns-in_err-take-clause-refused g c = on_err c.from_residual-in_err-take.result (λ start first p.
     let before = c.words.invariant in
     let word = rw c.in-Some.is at (c.in_ok-word.ensures {u = tt}).gives in
-    giving_refused _ start _ first _ (before.giving start first p) before.reads.unspent (omega (arith, word.next.less_left)))
+    giving_refused _ _ _ start _ first _ (before.giving start first p) (sym c.is_full.ensures ∙ c.words-test.true) before.reads.unspent (omega (arith, word.next.less_left)) _ (inr (c.in_err-take.ensures {u = tt}).refused))
 
 -- no step is left for it
 pub returns-in_err-pay-clause-refused : goal.returns-in_err-pay-clause-refused
@@ -94,4 +94,9 @@ unfolding is_spent
 returns-in_err-pay-clause-refused g c = on_err c.from_residual-in_err-pay.result (λ start first p.
     let before = c.words.invariant in
     let word = rw c.in-Some.is at (c.in_ok-word.ensures {u = tt}).gives in
-    giving_refused _ start _ first _ (before.giving start first p) before.reads.unspent (omega (arith, word.next.less_left)))
+    giving_refused _ _ _ start _ first _ (before.giving start first p) (sym c.is_full.ensures ∙ c.words-test.true) before.reads.unspent (omega (arith, word.next.less_left)) _ (inl refl))
+
+-- the sink is full
+pub returns-clause-spent : goal.returns-clause-spent
+unfolding is_spent
+returns-clause-spent g c = c.words.invariant.reads.unspent

@@ -9,7 +9,7 @@ invariant-words g l = record {
   reads : ReadsText l.self;
   left : most_items l.self ≤ most_items l.fn.self;
   rules : rules_of l.self ≡ rules_of l.fn.self;
-  giving : KeepsGiving g.S.TokenSink.takes l.fn.self l.fn.sink l.self l.sink;
+  giving : KeepsGiving g.S.TokenSink.takes g.S.TokenSink.is_full l.fn.self l.fn.sink l.self l.sink;
 }
 
 abbrev pub decreases-words : goal.decreases-words
