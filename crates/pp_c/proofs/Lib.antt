@@ -14,10 +14,11 @@ pub mod WrittenLemmas
 pub mod PreprocessedLemmas
 pub mod StreamLemmas
 pub mod CallLemmas
-pub mod ReadLemmas
 pub mod AnswerLemmas
 pub mod StreamedLemmas
 pub mod BatchLemmas
+pub mod FillLemmas
+pub mod ReadLemmas
 pub mod StatusLemmas
 pub mod FrontLemmas
 pub mod LexLemmas

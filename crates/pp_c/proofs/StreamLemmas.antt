@@ -10,7 +10,7 @@ use Rattle.pp_rs.specs.declared.rules.Rules.{Rules}
 use Rattle.pp_c.specs.Preprocessed.{Given}
 use Rattle.pp_c.specs.Streams.{Log, log_of, with_call, with_answers, Streaming, if_waiting, answers_read, HasMade, MakesCall, GivesAnswers}
 use Rattle.pp_c.specs.inner.Batches.{Reads}
-use Rattle.pp_c.specs.inner.Making.{Made}
+use Rattle.pp_c.specs.inner.Making.{GivesNext, Made}
 use Rattle.pp_c.specs.inner.Making as made
 use Rattle.pp_c.specs.inner.Reached.{Reached}
 use Rattle.pp_c.proofs.MadeLemmas.{made_then, answers_by}
@@ -100,7 +100,7 @@ reads_first p first unspent = record {
 }
 
 -- one more, if none waited
-pub reads_one : (answer : Option Given) (p q : Preprocessing) → Made p (next ∷ []) (answer ∷ []) q → is_spent q ≡ false → Reads p None (answer ∷ []) q None
+reads_one : (answer : Option Given) (p q : Preprocessing) → Made p (next ∷ []) (answer ∷ []) q → is_spent q ≡ false → Reads p None (answer ∷ []) q None
 reads_one answer p q m unspent = record {
   more = answer ∷ [];
   made = m;
@@ -108,12 +108,27 @@ reads_one answer p q m unspent = record {
   unspent = unspent;
 }
 
+-- one call of `next`
+pub reads_call : (answer : Option Given) (p q : Preprocessing) → GivesNext p answer q → Reads p None (answer ∷ []) q None
+reads_call answer p q g =
+    reads_one answer p q (made.gave answer p q q [] (next ∷ []) [] (answer ∷ []) g (made.none q q [] [] refl refl refl) refl refl) g.given.spent
+
 -- the one that was read waits
 pub reads_waiting : (p q : Preprocessing) (waited : Option Given) (item : Given) → Reads p waited (Some item ∷ []) q None → Reads p waited [] q (Some item)
 reads_waiting p q waited item h = record {
   more = h.more;
   made = h.made;
   same = h.same;
+  unspent = h.unspent;
+}
+
+-- the one that waited no longer waits
+pub reads_settled : (p q : Preprocessing) (waited : Option Given) (item : Given) (answers : List (Option Given)) → Reads p waited answers q (Some item)
+    → Reads p waited (answers ++ Some item ∷ []) q None
+reads_settled p q waited item answers h = record {
+  more = h.more;
+  made = h.made;
+  same = h.same ∙ sym (append-nil (answers ++ Some item ∷ []));
   unspent = h.unspent;
 }
 

@@ -2,6 +2,7 @@
 
 ghost use Rattle.std.specs.Prelude.{◌≡◌, ◌↔◌, ◌+◌, ◌-◌, ◌<◌, ◌≤◌, ◌∷◌, [], length, IsTrue};
 ghost use Rattle.pp_c.specs.Entries.{bare, with_text};
+ghost use Rattle.pp_c.specs.inner.Making.{IsSmall};
 ghost use Rattle.pp_c.specs.inner.Taking.{Takes, written_over};
 
 use crate::items::{Item, Sizes};
@@ -47,8 +48,9 @@ impl<'a> Output<'a> {
 
     /// Whether there is so much room behind what came so far.
     pub(crate) fn has_room(&self, wanted: Sizes) -> bool
-        ensures { IsTrue result ↔ ((wanted.items ≤ length self.now.items.now - self.now.sizes.items)
+        ensures room { IsTrue result ↔ ((wanted.items ≤ length self.now.items.now - self.now.sizes.items)
             × (wanted.texts ≤ length self.now.texts.now - self.now.sizes.texts)) }
+        ensures small { IsSmall self.now }
     {
         let items = (self.items.len() as u64).saturating_sub(self.sizes.items);
         let texts = (self.texts.len() as u64).saturating_sub(self.sizes.texts);

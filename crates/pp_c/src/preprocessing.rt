@@ -262,20 +262,30 @@ pub(crate) fn number(numbers: &mut [u32], first: u64, end: u64, text: u32) {
 }
 
 impl TokenSink for Output<'_> {
+    ghost use Rattle.std.specs.Prelude.{false, ⊤};
     ghost use Rattle.pp_c.specs.inner.Taking.{TakesToken};
 
     ghost takes = { TakesToken };
+
+    ghost refuses = { λ _ _. ⊤ };
+
+    ghost is_full = { λ _. false };
 
     #[inline(always)]
     fn take(&mut self, token: TokenRef<'_>) -> Result<(), AllocError> {
         give_ordinary(token.location, token.value, self);
         Ok(())
     }
+
+    #[inline(always)]
+    fn is_full(&self) -> bool {
+        false
+    }
 }
 
-// Gives an ordinary token.
+/// Gives an ordinary token.
 #[inline(always)]
-fn give_ordinary(place: Location, value: ValueRef<'_>, output: &mut Output<'_>)
+pub(crate) fn give_ordinary(place: Location, value: ValueRef<'_>, output: &mut Output<'_>)
     ensures { Takes output.old (token_entries place (value_of value.entry)) output.new }
 {
     match value {

@@ -9,6 +9,7 @@ ghost use Rattle.pp_c.specs.Options.{all_unless_zero, says_text, AreStreamOption
 ghost use Rattle.pp_c.specs.Preprocessed.{HasAskedItems};
 ghost use Rattle.pp_c.specs.Streams.{shortage_number, GivesItems, GivesNothing, MakesCall};
 
+mod batch;
 mod handle;
 mod loose;
 mod state;
@@ -103,7 +104,7 @@ pub extern "C" fn pp_stream_next(
     let Some(mut state) = stream.take(alloc) else {
         return Status::Closed as u32;
     };
-    let answer = state.next(most_asking(most), items, texts, numbers, sizes);
+    let answer = state.next(alloc, most_asking(most), items, texts, numbers, sizes);
     stream.keep(alloc, state);
     answer
 }

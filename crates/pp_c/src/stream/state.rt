@@ -1,28 +1,27 @@
 //! What a stream keeps: the preprocessor of its source, and the item that is given next.
 
 ghost use Rattle.std.specs.Prelude.{◌≡◌, ◌⊎◌, ◌<◌, ◌≤◌, ◌-◌, ◌^◌, true, false, length, is_some};
-ghost use Rattle.std.specs.Prelude.{◌∷◌, [], None, Err, IsOk, IfOk, IfErr, IfSome, OnOk, OnErr, IsUtf8, option_map};
+ghost use Rattle.std.specs.Prelude.{[], None, Err, IsOk, IfOk, IfErr, IfSome, OnOk, OnErr, IsUtf8};
 ghost use Rattle.pp_model.specs.Run.{include};
-ghost use Rattle.pp_rs.specs.Kept.{is_spent};
 ghost use Rattle.pp_c.specs.Ends.{HasRoom};
-ghost use Rattle.pp_c.specs.Entries.{room_of};
-ghost use Rattle.pp_c.specs.Preprocessed.{asks, given_entries, HasAskedItems};
+ghost use Rattle.pp_c.specs.Preprocessed.{HasAskedItems};
 ghost use Rattle.pp_c.specs.Streams.{shortage_number, Defines, GivesItems, GivesNothing, IsOpened, MakesCall};
-ghost use Rattle.pp_c.specs.inner.Batches.{item_in, EndsBatch, GivesBatch, GivesWaiting, IsShort, ReadsNext, RunsOut};
+ghost use Rattle.pp_c.specs.inner.Batches.{EndsBatch, IsShort};
 ghost use Rattle.pp_c.specs.inner.Refusing.{refusal_for, IsCallRefusal, IsNoText};
-ghost use Rattle.pp_c.specs.inner.Taking.{HaveRoom, Takes};
+ghost use Rattle.pp_c.specs.inner.Taking.{HaveRoom};
 
+use super::batch::{Batch, Waiting};
 use crate::definitions::LIMIT;
 use crate::items::{Item, Sizes};
 use crate::options::Setting;
 use crate::output::Output;
-use crate::preprocessing::{give_item, number, set_budget, unless_refused};
+use crate::preprocessing::set_budget;
 use crate::room_of;
 use crate::status::{End, Refusal, Shortage, status_after};
 use pp_macros::step::is_out_of_memory;
-use pp_rs::pp::{IncludeError, Preprocessor, PreprocessorItem};
+use pp_rs::pp::{IncludeError, Preprocessor};
 use pp_rs::token::{Location, PreprocessorError};
-use std::alloc::{AllocError, Global};
+use std::alloc::Global;
 use std::marker::Model;
 use std::{mem, str};
 
@@ -53,18 +52,6 @@ impl Model for State {
     } };
 
     ghost invariant = { λ s. s.ran_out ≡ None → is_spent s.pp ≡ false };
-}
-
-// An item that was read and isn't given yet.
-#[derive(Drop)]
-struct Waiting {
-    item: PreprocessorItem,
-    // If it is an error, its true place.
-    place: Location,
-    // The rest of its line, if it asks for a text.
-    asked: Option<Location>,
-    // The number of the text in which it is.
-    text: u32,
 }
 
 impl State {
@@ -98,6 +85,7 @@ impl State {
     /// it takes. Returns the number of a `Status`. Once memory or the budget has run out, no item comes any more.
     pub(crate) fn next(
         &mut self,
+        alloc: Global,
         most: u64,
         items: &mut [Item],
         texts: &mut [u8],
@@ -118,7 +106,7 @@ impl State {
     {
         let room = room_of(items, texts);
         let mut output = Output::new(items, texts);
-        let end = self.give(most, numbers, &mut output);
+        let end = self.give(alloc, most, numbers, &mut output);
         let wanted = output.sizes();
         *sizes = wanted;
         status_after(end, wanted, room) as u32
@@ -127,6 +115,7 @@ impl State {
     // Gives the next items, as `next` does. Returns where they end.
     fn give(
         &mut self,
+        alloc: Global,
         most: u64,
         numbers: &mut [u32],
         output: &mut Output<'_>,
@@ -139,15 +128,24 @@ impl State {
         if let Some(shortage) = self.ran_out {
             return Err(Refusal::from(shortage));
         }
-        let mut given = 0;
-        if let Ok(end) = give_batch(
-            &mut self.pp,
-            &mut self.waiting,
-            most,
-            &mut given,
+        let mut batch = Batch {
+            alloc,
+            output: mem::replace(output, Output::new(&mut [], &mut [])),
             numbers,
-            output,
-        ) {
+            most,
+            given: 0,
+            waiting: self.waiting.take(),
+        };
+        let end = batch.fill(&mut self.pp);
+        let Batch {
+            output: filled,
+            given,
+            waiting,
+            ..
+        } = batch;
+        drop(mem::replace(output, filled));
+        drop(mem::replace(&mut self.waiting, waiting));
+        if let Ok(end) = end {
             return Ok(end);
         }
         let shortage = if self.is_bounded && self.pp.is_over_budget() {
@@ -237,117 +235,5 @@ fn text_of(bytes: &[u8], is_text: bool) -> Result<&str, Refusal>
     match str::from_utf8(bytes) {
         Ok(text) => Ok(text),
         Err(_) => Err(Refusal::NotUtf8),
-    }
-}
-
-// Gives the next items, as `give` does, and counts them. Returns where they end. The error is that memory ran out.
-fn give_batch(
-    pp: &mut Preprocessor<'static>,
-    waiting: &mut Option<Waiting>,
-    most: u64,
-    given: &mut u64,
-    numbers: &mut [u32],
-    output: &mut Output<'_>,
-) -> Result<End, AllocError>
-    requires unspent { is_spent pp.old ≡ false }
-    requires none { given.old ≡ 0 }
-    requires some { 0 < most }
-    requires room { HaveRoom output.old [] }
-    ensures given { IfOk result (λ end. GivesBatch most end pp.old (option_map item_in waiting.old) output.old
-        pp.new (option_map item_in waiting.new) output.new) }
-    ensures short { OnErr result (RunsOut most given.new pp.old (option_map item_in waiting.old) output.old
-        (option_map item_in waiting.new) output.new) }
-{
-    'items: while *given < most && (*given == 0 || !output.is_full()) {
-        if !read_next(pp, waiting)? {
-            return Ok(End::All);
-        }
-        match give_waiting(waiting, *given == 0, numbers, output) {
-            None => return Ok(End::Front),
-            Some(true) => return Ok(End::Include),
-            Some(false) => *given += 1,
-        }
-    }
-    Ok(End::Front)
-}
-
-// Reads the next item, unless one waits. Returns whether there is one, which then waits. The error is that memory ran
-// out for it.
-fn read_next(
-    pp: &mut Preprocessor<'static>,
-    waiting: &mut Option<Waiting>,
-) -> Result<bool, AllocError>
-    requires { is_spent pp.old ≡ false }
-    ensures reads { IfOk result (λ more. ReadsNext more pp.old (option_map item_in waiting.old)
-        pp.new (option_map item_in waiting.new)) }
-    ensures short { OnErr result ((waiting.old ≡ None) × (waiting.new ≡ None)) }
-{
-    if waiting.is_some() {
-        return Ok(true);
-    }
-    let Some(item) = pp.next() else {
-        return Ok(false);
-    };
-    unless_refused(&item)?;
-    let next = Waiting {
-        item,
-        place: pp.place(),
-        asked: pp.include_line(),
-        text: pp.origin().text,
-    };
-    drop(mem::replace(waiting, Some(next)));
-    Ok(true)
-}
-
-// Gives the item that waits, if there is room for it. Returns whether it asks for a text. If it is the first of a batch
-// and doesn't fit, it is only counted.
-fn give_waiting(
-    waiting: &mut Option<Waiting>,
-    is_first: bool,
-    numbers: &mut [u32],
-    output: &mut Output<'_>,
-) -> Option<bool>
-    ensures { IfSome (option_map item_in waiting.old) (λ item.
-        GivesWaiting item is_first output.old result (option_map item_in waiting.new) output.new) }
-{
-    let Some(next) = &*waiting else {
-        return None;
-    };
-    if !output.has_room(next.room()) {
-        if is_first {
-            next.give(output);
-        }
-        return None;
-    }
-    let first = output.sizes().items;
-    next.give(output);
-    number(numbers, first, output.sizes().items, next.text);
-    let asks = next.asks();
-    drop(waiting.take());
-    Some(asks)
-}
-
-impl Waiting {
-    // Gives the item.
-    fn give(&self, output: &mut Output<'_>)
-        ensures { Takes output.old (given_entries (item_in self.now)) output.new }
-    {
-        give_item(&self.item, self.place, self.asked, output);
-    }
-
-    // How much room it takes.
-    fn room(&self) -> Sizes
-        ensures { result ≡ room_of (given_entries (item_in self.now)) }
-    {
-        let mut counted = Output::new(&mut [], &mut []);
-        self.give(&mut counted);
-        counted.sizes()
-    }
-
-    // Whether it is a line that asks for its text.
-    fn asks(&self) -> bool
-        ensures { result ≡ asks (item_in self.now) }
-    {
-        self.item.is_err() && self.asked.is_some()
     }
 }
