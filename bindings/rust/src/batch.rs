@@ -142,15 +142,8 @@ impl Batch {
         count
     }
 
-    /// Passes so many items.
-    pub fn skip(&mut self, count: u64) {
-        for _ in 0..count {
-            self.at += 1 + self.items[self.at].children as usize;
-        }
-    }
-
-    /// Gets room for as much at least.
-    pub fn make_room(&mut self, sizes: raw::Sizes) {
+    // Gets room for as much at least.
+    fn make_room(&mut self, sizes: raw::Sizes) {
         self.items.reserve(sizes.items as usize);
         self.texts.reserve(sizes.texts as usize);
         if self.is_numbered {

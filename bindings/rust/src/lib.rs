@@ -12,4 +12,3 @@ mod raw;
 pub mod reader;
 mod stream;
 pub mod token;
-mod whole;

@@ -96,34 +96,7 @@ pub const NON_DIRECTIVE_BEFORE: u32 = 8;
 
 pub const UNEXPECTED_TOKEN: u16 = 4;
 
-/// A macro without parameters, by where its name and its content are in the words.
-#[repr(C)]
-#[derive(Clone, Copy)]
-pub struct Definition {
-    pub name_start: u64,
-    pub name_length: u64,
-    pub content_start: u64,
-    pub content_length: u64,
-    pub after: u64,
-    pub fault: Fault,
-}
-
 extern "C" {
-    pub fn pp_preprocess_with(
-        options: *const Options,
-        source: *const u8,
-        source_length: usize,
-        words: *const u8,
-        words_length: usize,
-        definitions: *mut Definition,
-        definitions_length: usize,
-        items: *mut Item,
-        items_length: usize,
-        texts: *mut u8,
-        texts_length: usize,
-        sizes: *mut Sizes,
-    ) -> u32;
-
     pub fn pp_stream_open(
         options: *const Options,
         flags: u32,

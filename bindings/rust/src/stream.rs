@@ -1,23 +1,14 @@
 //! A source as a stream of items, with the definitions and texts that come between them.
 //!
 //! Items are read ahead of those that were taken. So if a definition comes that was to come before them, the source is read
-//! anew up to the last item that was taken, and from then on item by item. A short source of which a part was read is read
-//! to its end by one call, which takes half of the time, unless that needs many steps.
+//! anew up to the last item that was taken, and from then on item by item.
 use crate::batch::{Batch, Fault};
 use crate::handle::{End, Handle, OverBudget, TooDeep};
 use crate::raw;
 use crate::token::{Location, PreprocessorError, Token};
-use crate::whole::{read_whole, Definitions};
-use std::ops::RangeInclusive;
 
 // How many items are read at a time, at most.
 const MOST: u64 = 256;
-
-// A source of so many bytes is read to its end by one call once it has at most so many bytes for each item that was taken, which
-// is after a sixteenth of it or so. The call may take so many steps for each byte.
-const WHOLE: RangeInclusive<usize> = 1 << 14..=1 << 18;
-const BYTES_FOR_EACH: u64 = 80;
-const STEPS_FOR_EACH: u64 = 16;
 
 pub struct Stream<'a> {
     // It reads the source and the texts, so it is dropped first.
@@ -35,9 +26,6 @@ pub struct Stream<'a> {
     // How many to ask for next, and whether that is always one.
     most: u64,
     is_single: bool,
-    // Whether the rest may be read by one call, and whether the batch is all of it.
-    may_be_whole: bool,
-    is_whole: bool,
     // Whether no item comes any more, and why.
     is_over: bool,
     is_over_budget: bool,
@@ -62,8 +50,6 @@ impl<'a> Stream<'a> {
             asked: 0,
             most: 1,
             is_single: false,
-            may_be_whole: flags & raw::ASKS == 0 && WHOLE.contains(&input.len()),
-            is_whole: false,
             is_over: false,
             is_over_budget: false,
         }
@@ -105,7 +91,6 @@ impl<'a> Stream<'a> {
             self.close();
             self.most = 1;
             self.is_single = true;
-            self.may_be_whole = false;
         }
         self.call(|handle, _| handle.define(name, content))?;
         let definition = Added::Definition(name.to_owned(), content.to_owned());
@@ -135,21 +120,14 @@ impl<'a> Stream<'a> {
 
     // Whether the library has read more than was taken: items, the end, or an item that found no room.
     fn is_ahead(&self) -> bool {
-        !self.is_over && (self.is_whole || !self.batch.is_empty() || self.taken < self.asked)
+        !self.is_over && (!self.batch.is_empty() || self.taken < self.asked)
     }
 
     // Reads the next items, if there are any.
     #[cold]
     fn fill(&mut self) -> bool {
-        self.is_over |= self.is_whole;
         if self.is_over {
             return false;
-        }
-        if self.may_be_whole && self.input.len() as u64 <= BYTES_FOR_EACH * self.taken {
-            self.may_be_whole = false;
-            if self.fill_whole() {
-                return true;
-            }
         }
         let most = self.most;
         match self.call(|handle, batch| batch.fill(handle, most)) {
@@ -163,36 +141,6 @@ impl<'a> Stream<'a> {
         }
         self.is_over |= self.batch.is_empty();
         !self.is_over
-    }
-
-    // Reads all items that are left, if there are any and that takes few steps.
-    fn fill_whole(&mut self) -> bool {
-        let steps = STEPS_FOR_EACH * self.input.len() as u64;
-        let budget = match self.options.budget {
-            0 => steps,
-            budget => steps.min(budget),
-        };
-        let options = raw::Options {
-            budget,
-            ..self.options
-        };
-        let mut definitions = Definitions::default();
-        for (after, added) in &self.added {
-            if let Added::Definition(name, content) = added {
-                definitions.add(name, content, *after);
-            }
-        }
-        if !read_whole(self.input, &options, &mut definitions, &mut self.batch) {
-            self.batch.clear();
-            return false;
-        }
-        self.batch.skip(self.taken);
-        if self.batch.is_empty() {
-            return false;
-        }
-        self.handle = None;
-        self.is_whole = true;
-        true
     }
 
     // Calls the library, behind the items that were read.
@@ -227,7 +175,6 @@ impl<'a> Stream<'a> {
     // Forgets what was read ahead, so that the next call opens a stream.
     fn close(&mut self) {
         self.handle = None;
-        self.is_whole = false;
         self.batch.clear();
         self.asked = self.taken;
     }
