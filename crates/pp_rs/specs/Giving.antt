@@ -29,10 +29,11 @@ ComesUnlessFull true old answer new = (answer ≡ None) × (new ≡ old)
 ComesUnlessFull false old answer new = IsNextItem old answer new
 
 -- All ordinary tokens that came were given to the sink, up to where it was full, and then the answer came. The sink is
--- as it was after the last of them, but if memory ran out as it took one more. The bound of what is left falls with each
--- item.
-pub record GivesTokens {S : Type 0} (takes : S → TokenRef → S → Type 0) (refuses : S → S → Type 0) (is_full : S → Bool)
-    (old : Preprocessing) (before : S) (answer : Option Item) (new : Preprocessing) (after : S) : Type 0 where
+-- as it was after the last of them, but if memory ran out as it took one more. The bound of what is left falls with
+-- each item.
+pub record GivesTokens {S : Type 0} (takes : S → TokenRef → S → Type 0) (refuses : S → S → Type 0)
+    (is_full : S → Bool) (old : Preprocessing) (before : S) (answer : Option Item) (new : Preprocessing) (after : S)
+    : Type 0 where
   pub last : Preprocessing
   pub taken : S
   pub given : AreGiven takes old before last taken
