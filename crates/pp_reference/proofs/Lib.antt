@@ -4,3 +4,7 @@ pub mod EmittedWordLemmas
 pub mod SourceTextLemmas
 pub mod SourceStepLemmas
 pub mod RunProgramLemmas
+pub mod FaultLemmas
+pub mod ShownLemmas
+pub mod FirstNumberLemmas
+pub mod LeftLemmas

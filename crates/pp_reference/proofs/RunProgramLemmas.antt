@@ -7,68 +7,52 @@ use Rattle.pp_lexer.specs.declared.rules.Rules.{Rules}
 use Rattle.pp_model.specs.Reading.{Expander}
 use Rattle.pp_model.specs.Calls.{Answers}
 use Rattle.pp_reference.specs.inner.Halting.{Meets}
-use Rattle.pp_model.specs.SourceReader.{SourceReader, is_full}
-use Rattle.pp_model.specs.Run as run
-use Rattle.pp_model.specs.Run.{by_rules, Call, add_define, include, next, items_by, content_tokens, Runs, call_of, HasRoom, ends_run}
+use Rattle.pp_model.specs.SourceReader.{is_full}
+use Rattle.pp_model.specs.Run.{Call, add_define, include, next, items_by, content_tokens, call_of, HasRoom, with_added, with_included}
+use Rattle.pp_model.specs.Onward.{Onward}
+use Rattle.pp_model.specs.RunToEnd as run
+use Rattle.pp_model.specs.RunToEnd.{RunsToEnd, changed_by}
 use Rattle.pp_reference.specs.inner.SeenSource as by
 use Rattle.pp_reference.specs.inner.SeenSource.{Replying, RefusedBy}
 use Rattle.pp_model.specs.declared.call.Call.{Call as Called}
 use Rattle.pp_model.specs.declared.call.Reply.{Reply}
 use Rattle.pp_model.specs.declared.call.Reply.TheVariants as reply
-use Rattle.pp_model.specs.declared.outcome.Outcome.TheVariants as outcome
 use Rattle.pp_reference.specs.declared.stop.Halt.{Halt}
 use Rattle.pp_reference.specs.declared.stop.Halt.TheVariants as halt
 
-pub refused_reply : (A : Answers) (rules : Rules) (name content : List ℕ) (body : Result (List Token) Halt) (h : Halt) (e : Expander SourceReader) (r : Reply)
+pub refused_reply : (A : Answers) (rules : Rules) (name content : List ℕ) (body : Result (List Token) Halt) (h : Halt) (e : Expander Onward) (r : Reply)
     → Meets body (content_tokens (items_by rules content)) → body ≡ Err h → RefusedBy h r → Replying A rules e (add_define name content) r e
 refused_reply A rules name content body (halt.Fault fault) e r meets is reported =
     by.refused name content fault e e r (subst (λ b. Meets b (content_tokens (items_by rules content))) is meets) reported refl
 refused_reply A rules name content body (halt.Stop stop) e r meets is reported = absurd reported
 
-pub added_reply : (A : Answers) (rules : Rules) (name content : List ℕ) (body : Result (List Token) Halt) (tokens : List Token) (e f : Expander SourceReader)
-    → Meets body (content_tokens (items_by rules content)) → body ≡ Ok tokens → f ≡ run.with_added (chars name) tokens e
+pub added_reply : (A : Answers) (rules : Rules) (name content : List ℕ) (body : Result (List Token) Halt) (tokens : List Token) (e f : Expander Onward)
+    → Meets body (content_tokens (items_by rules content)) → body ≡ Ok tokens → f ≡ changed_by (with_added (chars name) tokens) e
     → Replying A rules e (add_define name content) reply.Added f
 added_reply A rules name content body tokens e f meets is after =
     by.added name content tokens e f reply.Added (subst (λ b. Meets b (content_tokens (items_by rules content))) is meets) refl after
 
-pub included_reply : (A : Answers) (rules : Rules) (text : List ℕ) (items : List Seen) (e f : Expander SourceReader)
-    → is_full e.reader ≡ false → items ≡ items_by rules text → f ≡ run.with_included items e → Replying A rules e (include text) reply.Included f
+pub included_reply : (A : Answers) (rules : Rules) (text : List ℕ) (items : List Seen) (e f : Expander Onward)
+    → is_full e.reader.reader ≡ false → items ≡ items_by rules text → f ≡ changed_by (with_included items) e → Replying A rules e (include text) reply.Included f
 included_reply A rules text items e f room is after = by.included text e f reply.Included room refl (rw is at after)
 
-pub runs_none : (A : Answers) (rules : Rules) (e : Expander SourceReader) (calls : List Called) (replies : List Reply) → calls ≡ [] → replies ≡ []
-    → Runs (by_rules A) rules e (map call_of calls) replies
+pub runs_none : (A : Answers) (rules : Rules) (e : Expander Onward) (calls : List Called) (replies : List Reply) → calls ≡ [] → replies ≡ []
+    → RunsToEnd A rules e (map call_of calls) replies
 runs_none A rules e calls replies none is = rw none (run.done e replies is)
 
--- the run goes on after a reply that is no error item
-pub runs_more : (A : Answers) (rules : Rules) (e f : Expander SourceReader) (call : Call) (calls : List Call) (r : Reply) (rest : List Reply) → Replying A rules e call r f
-    → ends_run r ≡ false → Runs (by_rules A) rules f calls rest → Runs (by_rules A) rules e (call ∷ calls) (r ∷ rest)
-runs_more A rules e f call calls r rest (by.added name content tokens e1 f1 r1 c p q) more later =
+-- the run goes on after a reply
+pub runs_more : (A : Answers) (rules : Rules) (e f : Expander Onward) (call : Call) (calls : List Call) (r : Reply) (rest : List Reply) → Replying A rules e call r f
+    → RunsToEnd A rules f calls rest → RunsToEnd A rules e (call ∷ calls) (r ∷ rest)
+runs_more A rules e f call calls r rest (by.added name content tokens e1 f1 r1 c p q) later =
     run.added name content tokens e calls rest (r ∷ rest) c (rw q at later) (ap (λ (x : Reply). x ∷ rest) p)
-runs_more A rules e f call calls r rest (by.refused name content fault e1 f1 r1 c p q) more later =
+runs_more A rules e f call calls r rest (by.refused name content fault e1 f1 r1 c p q) later =
     run.refused name content fault e calls rest (r ∷ rest) c (rw q at later) (ap (λ (x : Reply). x ∷ rest) p)
-runs_more A rules e f call calls r rest (by.included text e1 f1 r1 c p q) more later =
+runs_more A rules e f call calls r rest (by.included text e1 f1 r1 c p q) later =
     run.included text e calls rest (r ∷ rest) c (rw q at later) (ap (λ (x : Reply). x ∷ rest) p)
-runs_more A rules e f call calls r rest (by.too_deep text e1 f1 r1 c p q) more later =
+runs_more A rules e f call calls r rest (by.too_deep text e1 f1 r1 c p q) later =
     run.too_deep text e calls rest (r ∷ rest) c (rw q at later) (ap (λ (x : Reply). x ∷ rest) p)
-runs_more A rules e f call calls r rest (by.given (outcome.Fault fault) e1 f1 r1 emits p) more later = let bad : true ≡ false = sym (ap ends_run p) ∙ more in cc
-runs_more A rules e f call calls r rest (by.given (outcome.Token token) e1 f1 r1 emits p) more later =
-    run.given (outcome.Token token) e f calls rest (r ∷ rest) emits refl later (ap (λ (x : Reply). x ∷ rest) p)
-runs_more A rules e f call calls r rest (by.given (outcome.Include line) e1 f1 r1 emits p) more later =
-    run.given (outcome.Include line) e f calls rest (r ∷ rest) emits refl later (ap (λ (x : Reply). x ∷ rest) p)
-runs_more A rules e f call calls r rest (by.given outcome.End e1 f1 r1 emits p) more later =
-    run.given outcome.End e f calls rest (r ∷ rest) emits refl later (ap (λ (x : Reply). x ∷ rest) p)
-
--- an error item is the last reply
-pub runs_over : (A : Answers) (rules : Rules) (e f : Expander SourceReader) (call : Call) (calls : List Call) (r : Reply) → Replying A rules e call r f → ends_run r ≡ true
-    → Runs (by_rules A) rules e (call ∷ calls) (r ∷ [])
-runs_over A rules e f call calls r (by.added name content tokens e1 f1 r1 c p q) over = let bad : false ≡ true = sym (ap ends_run p) ∙ over in cc
-runs_over A rules e f call calls r (by.refused name content fault e1 f1 r1 c p q) over = let bad : false ≡ true = sym (ap ends_run p) ∙ over in cc
-runs_over A rules e f call calls r (by.included text e1 f1 r1 c p q) over = let bad : false ≡ true = sym (ap ends_run p) ∙ over in cc
-runs_over A rules e f call calls r (by.too_deep text e1 f1 r1 c p q) over = let bad : false ≡ true = sym (ap ends_run p) ∙ over in cc
-runs_over A rules e f call calls r (by.given (outcome.Fault fault) e1 f1 r1 emits p) over = run.failed fault e f calls (r ∷ []) emits (ap (λ (x : Reply). x ∷ []) p)
-runs_over A rules e f call calls r (by.given (outcome.Token token) e1 f1 r1 emits p) over = let bad : false ≡ true = sym (ap ends_run p) ∙ over in cc
-runs_over A rules e f call calls r (by.given (outcome.Include line) e1 f1 r1 emits p) over = let bad : false ≡ true = sym (ap ends_run p) ∙ over in cc
-runs_over A rules e f call calls r (by.given outcome.End e1 f1 r1 emits p) over = let bad : false ≡ true = sym (ap ends_run p) ∙ over in cc
+runs_more A rules e f call calls r rest (by.given x e1 f1 r1 emits p) later =
+    run.given x e f calls rest (r ∷ rest) emits later (ap (λ (y : Reply). y ∷ rest) p)
 
 pub all_after : (calls : List Called) (call : Called) (others : List Called) → calls ≡ call ∷ others → All HasRoom calls → All HasRoom others
 all_after calls call others is all =
@@ -79,13 +63,8 @@ pub no_calls : (calls : List Called) → length calls ≡ 0 → calls ≡ []
 no_calls [] h = refl
 no_calls (call ∷ calls) h = absurd (omega (arith, h))
 
-pub runs_last : (A : Answers) (rules : Rules) (e f : Expander SourceReader) (calls : List Called) (call : Called) (others : List Called)
-    (r : Reply) (replies : List Reply) → calls ≡ call ∷ others → Replying A rules e (call_of call) r f → ends_run r ≡ true → replies ≡ r ∷ []
-    → Runs (by_rules A) rules e (map call_of calls) replies
-runs_last A rules e f calls call others r replies cut replying over is = rw (cut, is) (runs_over A rules e f (call_of call) (map call_of others) r replying over)
-
-pub runs_on : (A : Answers) (rules : Rules) (e f : Expander SourceReader) (calls : List Called) (call : Called) (others : List Called)
-    (r : Reply) (rest replies : List Reply) → calls ≡ call ∷ others → Replying A rules e (call_of call) r f → ends_run r ≡ false
-    → Runs (by_rules A) rules f (map call_of others) rest → replies ≡ r ∷ rest → Runs (by_rules A) rules e (map call_of calls) replies
-runs_on A rules e f calls call others r rest replies cut replying more later is =
-    rw (cut, is) (runs_more A rules e f (call_of call) (map call_of others) r rest replying more later)
+pub runs_on : (A : Answers) (rules : Rules) (e f : Expander Onward) (calls : List Called) (call : Called) (others : List Called)
+    (r : Reply) (rest replies : List Reply) → calls ≡ call ∷ others → Replying A rules e (call_of call) r f
+    → RunsToEnd A rules f (map call_of others) rest → replies ≡ r ∷ rest → RunsToEnd A rules e (map call_of calls) replies
+runs_on A rules e f calls call others r rest replies cut replying later is =
+    rw (cut, is) (runs_more A rules e f (call_of call) (map call_of others) r rest replying later)

@@ -6,3 +6,4 @@ pub mod Halting
 pub mod ReaderState
 pub mod Acting
 pub mod SeenSource
+pub mod Faulting

@@ -1,6 +1,7 @@
 //! The blocks that are open at a position of a source, and which of their branches are live.
 
-ghost use Rattle.std.specs.Prelude.{◌≡◌, ◌+◌, ◌^◌, ◌<◌, ◌∷◌, length, take, option_map, vec_items, IfOk};
+ghost use Rattle.std.specs.Prelude.{◌≡◌, ◌+◌, ◌^◌, ◌<◌, ◌∷◌, length, take, drop, option_map, vec_items, IfOk};
+ghost use Rattle.std.specs.Option.{option_copied};
 ghost use Rattle.std.specs.List.{list_all, list_any};
 ghost use Rattle.pp_model.specs.Blocks as spec;
 ghost use Rattle.pp_model.specs.inner.Blocks as parts;
@@ -174,6 +175,16 @@ pub fn blocks_at(alloc: Global, source: &[SourceItem], position: usize) -> Resul
 {
     let lines = block_lines(alloc, 0, front_of(source, position))?;
     open_blocks(alloc, &lines)
+}
+
+/// The innermost of these blocks that isn't among this many outermost ones.
+pub fn innermost_past(blocks: &[Block], outside: usize) -> Option<&Block>
+    ensures { option_copied result ≡ spec.innermost (drop outside blocks.now) }
+{
+    if blocks.len() <= outside {
+        return None;
+    }
+    blocks[outside..].last()
 }
 
 // Whether the condition at a position holds, if it was read.

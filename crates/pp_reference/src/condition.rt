@@ -4,6 +4,7 @@ ghost use Rattle.std.specs.Prelude.{◌≡◌, ◌≤◌, slice_get, IfOk};
 ghost use Rattle.pp_reference.specs.inner.Changes.{meaning_of};
 ghost use Rattle.pp_model.specs.Emitting.{answers_at};
 ghost use Rattle.pp_model.specs.LineValues.{IsAlone, IsCondition, IsLineNumber};
+ghost use Rattle.pp_model.specs.Onward.{IsFirstNumber};
 
 use crate::definitions::Definitions;
 use crate::line_words::line_words;
@@ -64,7 +65,16 @@ pub fn condition(
     }
 }
 
-/// The line number of a `#line`, or its first fault.
+/// The number of a `#line`.
+#[derive(Drop)]
+pub struct LineNumber {
+    /// The number of its first expression, if it has one.
+    pub first: Option<u32>,
+    /// Its number, or its first fault.
+    pub number: Result<u32, PlacedFault>,
+}
+
+/// The line number of a `#line`, or its first fault, and the number of its first expression.
 pub fn line_number(
     alloc: Global,
     directive: Place,
@@ -73,9 +83,11 @@ pub fn line_number(
     definitions: &Definitions,
     levels: u32,
     budget: &mut Budget,
-) -> Result<Result<u32, PlacedFault>, Stop>
+) -> Result<LineNumber, Stop>
     ensures reads { IfOk result (λ answer. IsLineNumber (answers_at levels) directive tokens
-        numbering (meaning_of definitions.now) answer) }
+        numbering (meaning_of definitions.now) answer.number) }
+    ensures first { IfOk result (λ answer. IsFirstNumber (answers_at levels) directive tokens
+        numbering (meaning_of definitions.now) answer.first) }
     ensures budget { budget.new.steps ≤ budget.old.steps }
 {
     let kind = LineKind::LineNumber;
@@ -91,16 +103,33 @@ pub fn line_number(
     )?;
     let value = match words.take_expression(alloc, directive)? {
         Ok(value) => value,
-        Err(fault) => return Ok(Err(fault)),
+        Err(fault) => return Ok(LineNumber {
+            first: None,
+            number: Err(fault),
+        }),
     };
-    let Some(number) = as_line_number(value) else {
-        return Ok(Err((PreprocessorError::LineOverflow, directive)));
+    let first = as_line_number(value);
+    let Some(number) = first else {
+        let fault = (PreprocessorError::LineOverflow, directive);
+        return Ok(LineNumber {
+            first,
+            number: Err(fault),
+        });
     };
     if words.peek().is_none() {
-        return Ok(Ok(number));
+        return Ok(LineNumber {
+            first,
+            number: Ok(number),
+        });
     }
     match value_alone(alloc, directive, &mut words)? {
-        Ok(_) => Ok(Ok(number)),
-        Err(fault) => Ok(Err(fault)),
+        Ok(_) => Ok(LineNumber {
+            first,
+            number: Ok(number),
+        }),
+        Err(fault) => Ok(LineNumber {
+            first,
+            number: Err(fault),
+        }),
     }
 }

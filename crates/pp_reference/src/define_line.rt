@@ -179,8 +179,8 @@ fn free_name(rules: Rules, first: Placed) -> Result<Placed, Halt>
     Ok(first)
 }
 
-// The name that comes first and is defined, or whose definition is taken away.
-fn changed_name(
+/// The name that comes first and is defined, or whose definition is taken away.
+pub fn changed_name(
     alloc: Global,
     rules: Rules,
     word: Location,

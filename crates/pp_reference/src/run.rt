@@ -1,10 +1,12 @@
 //! Runs of a source, by the definitions.
 
-ghost use Rattle.std.specs.Prelude.{◌≡◌, ◌<◌, ◌^◌, ◌-◌, [], ◌∷◌, ◌++◌, false, length, map, All, IfOk, OnOk, IfSome};
+ghost use Rattle.std.specs.Prelude.{◌≡◌, ◌<◌, ◌≤◌, ◌^◌, ◌-◌, [], ◌∷◌, ◌++◌, false, length, map, take, All};
+ghost use Rattle.std.specs.Prelude.{IfOk, OnOk, IfSome};
 ghost use Rattle.pp_model.specs.Emitting.{answers_at, expansion_limit};
 ghost use Rattle.pp_reference.specs.inner.Halting.{Meets};
 ghost use Rattle.pp_model.specs.Run as spec;
 ghost use Rattle.pp_model.specs.Run.{call_of, ends_run, HasRoom};
+ghost use Rattle.pp_model.specs.RunToEnd.{RunsToEnd, IsRunToEndBy, going_on, to_first_error};
 ghost use Rattle.pp_reference.specs.inner.Seen.{seen};
 ghost use Rattle.pp_reference.specs.inner.SeenSource.{source_state, RefusedBy, Replying, is_refused};
 ghost use Rattle.std.specs.Str.{chars};
@@ -99,7 +101,7 @@ fn content_tokens(alloc: Global, items: &[SourceItem]) -> Result<TokenList, Halt
 
 // An expander at the start of a source that is read by these rules.
 fn start(alloc: Global, rules: Rules, items: Vec<SourceItem>) -> Result<Expander<Source>, Stop>
-    ensures { IfOk result (λ expander. seen source_state expander ≡ spec.start_by rules items.items) }
+    ensures { IfOk result (λ expander. seen source_state expander ≡ going_on [] (spec.start_by rules items.items)) }
 {
     let unfinished = blocks_at(alloc, &items, items.len())?.len();
     let reader = SourceReader {
@@ -118,7 +120,12 @@ fn start(alloc: Global, rules: Rules, items: Vec<SourceItem>) -> Result<Expander
             directive: false,
         },
     };
-    let source = Source { alloc, reader };
+    let dead = Vec::new(alloc);
+    let source = Source {
+        alloc,
+        reader,
+        dead,
+    };
     Ok(Expander::new(alloc, source, Vec::new(alloc)))
 }
 
@@ -231,15 +238,6 @@ fn ends_run(reply: &Reply) -> bool
     matches!(reply, Reply::Given(Outcome::Fault(_)))
 }
 
-// A list of one reply.
-fn only(alloc: Global, reply: Reply) -> Result<Vec<Reply>, Stop>
-    ensures { IfOk result (λ replies. replies.items ≡ reply ∷ []) }
-{
-    let mut replies = Vec::new(alloc);
-    replies.push(reply)?;
-    Ok(replies)
-}
-
 // These replies with one before them.
 fn with_reply(reply: Reply, others: Vec<Reply>) -> Result<Vec<Reply>, Stop>
     ensures { IfOk result (λ replies. replies.items ≡ reply ∷ others.items) }
@@ -249,7 +247,7 @@ fn with_reply(reply: Reply, others: Vec<Reply>) -> Result<Vec<Reply>, Stop>
     Ok(replies)
 }
 
-// The replies to the calls, up to and with the first error item, if contents are read by these rules.
+// The replies to the calls, to the end, if contents are read by these rules.
 #[tactic(auto, using(crate::proofs::RunProgramLemmas::all_after))]
 fn replies(
     alloc: Global,
@@ -259,16 +257,13 @@ fn replies(
     budget: &mut Budget,
 ) -> Result<Vec<Reply>, Stop>
     requires { All HasRoom calls.now }
-    ensures { IfOk result (λ replies. spec.Runs (spec.by_rules (answers_at expansion_limit)) rules
+    ensures { IfOk result (λ replies. RunsToEnd (answers_at expansion_limit) rules
         (seen source_state expander.old) (map call_of calls.now) replies.items) }
 {
     let Some((call, others)) = calls.split_first() else {
         return Ok(Vec::new(alloc));
     };
     let reply = reply_to(alloc, rules, expander, call, budget)?;
-    if ends_run(&reply) {
-        return only(alloc, reply);
-    }
     match replies(alloc, rules, expander, others, budget) {
         Ok(rest) => with_reply(reply, rest),
         Err(stop) => {
@@ -287,8 +282,8 @@ fn replies_over(
     budget: &mut Budget,
 ) -> Result<Vec<Reply>, Stop>
     requires { All HasRoom calls.now }
-    ensures { IfOk result (λ replies. spec.Runs (spec.by_rules (answers_at expansion_limit)) rules
-        (spec.start_by rules items.items) (map call_of calls.now) replies.items) }
+    ensures { IfOk result (λ replies. RunsToEnd (answers_at expansion_limit) rules
+        (going_on [] (spec.start_by rules items.items)) (map call_of calls.now) replies.items) }
 {
     let mut expander = start(alloc, rules, items)?;
     let replies = replies(alloc, rules, &mut expander, calls, budget);
@@ -306,7 +301,7 @@ fn run_within(
 ) -> Result<Vec<Reply>, Stop>
     requires size { length source.now < 2 ^ 32 - 1 }
     requires contents { All HasRoom calls.now }
-    ensures { IfOk result (λ replies. spec.IsRunBy rules source.now (map call_of calls.now)
+    ensures { IfOk result (λ replies. IsRunToEndBy rules source.now (map call_of calls.now)
         replies.items) }
 {
     stays_short(calls.len())?;
@@ -314,13 +309,45 @@ fn run_within(
     replies_over(alloc, rules, items, calls, budget)
 }
 
-/// Returns the replies of a source, read by these rules, to the calls, up to and with the first
-/// error item. Returns `None` if that takes more than this many steps, if the source, a content or an
-/// included text has more than 3,000 items or a condition more than 3,000 words, or if there are more
-/// than 3,000 calls.
+// How many replies there are up to and with the first error item.
+fn length_to_error(replies: &[Reply]) -> usize
+    ensures is { take result replies.now ≡ to_first_error replies.now }
+    ensures most { result ≤ length replies.now }
+{
+    match replies.split_first() {
+        None => 0,
+        Some((first, _)) if ends_run(first) => 1,
+        Some((_, rest)) => 1 + length_to_error(rest),
+    }
+}
+
+/// Returns the replies of a source, read by these rules, to the calls, to the end: those after errors too. Returns
+/// `None` if that takes more than this many steps, if the source, a content or an included text has more than 3,000
+/// items or a condition more than 3,000 words, or if there are more than 3,000 calls.
 ///
 /// The source, each added content and each included text must have fewer than 2^32 - 1 bytes. The only error is that an
 /// allocation failed.
+pub fn run_to_end_by(
+    alloc: Global,
+    source: &str,
+    rules: Rules,
+    calls: &[Call<'_>],
+    steps: u64,
+) -> Result<Option<Vec<Reply>>, AllocError>
+    requires size { length source.now < 2 ^ 32 - 1 }
+    requires contents { All HasRoom calls.now }
+    ensures { IfOk result (λ answer. IfSome answer
+        (λ replies. IsRunToEndBy rules source.now (map call_of calls.now) replies.items)) }
+{
+    let mut budget = Budget { steps };
+    match run_within(alloc, source, rules, calls, &mut budget) {
+        Ok(replies) => Ok(Some(replies)),
+        Err(Stop::OutOfBudget) => Ok(None),
+        Err(Stop::OutOfMemory) => Err(AllocError),
+    }
+}
+
+/// Returns the replies up to and with the first error item, of those that [`run_to_end_by`] returns.
 pub fn run_by(
     alloc: Global,
     source: &str,
@@ -333,12 +360,11 @@ pub fn run_by(
     ensures { IfOk result (λ answer. IfSome answer
         (λ replies. spec.IsRunBy rules source.now (map call_of calls.now) replies.items)) }
 {
-    let mut budget = Budget { steps };
-    match run_within(alloc, source, rules, calls, &mut budget) {
-        Ok(replies) => Ok(Some(replies)),
-        Err(Stop::OutOfBudget) => Ok(None),
-        Err(Stop::OutOfMemory) => Err(AllocError),
-    }
+    let Some(mut replies) = run_to_end_by(alloc, source, rules, calls, steps)? else {
+        return Ok(None);
+    };
+    replies.truncate(length_to_error(&replies));
+    Ok(Some(replies))
 }
 
 /// Does the same as [`run_by`] at [`Rules::PP_RS`].

@@ -1,26 +1,21 @@
-//! A source as a reader after an expander.
+//! A source as a reader after an expander, which goes on after faults.
 
-ghost use Rattle.std.specs.Prelude.{◌≡◌, ◌≤◌, ◌+◌, Some, length, IfOk};
-ghost use Rattle.pp_reference.specs.inner.Acting.{Deciding, Renumbering};
-ghost use Rattle.pp_reference.specs.inner.Changes.{meaning_of};
+ghost use Rattle.std.specs.Prelude.{◌≡◌, ◌≤◌, length, IfOk, OnOk};
+ghost use Rattle.pp_reference.specs.inner.Faulting.{is_fault_among, dead_after, went_on};
 ghost use Rattle.pp_model.specs.Emitting.{answers_at, expansion_limit};
 ghost use Rattle.pp_reference.specs.inner.ReaderState.{reader_of};
-ghost use Rattle.pp_model.specs.Reads.{Defines, Steps};
-ghost use Rattle.pp_model.specs.declared.read.Taken.TheVariants as taken;
+ghost use Rattle.pp_reference.specs.inner.SeenSource.{source_state};
+ghost use Rattle.pp_model.specs.Onward.{StepsOn};
+ghost use Rattle.pp_model.specs.Onward as spec;
 
-use crate::condition::{condition, line_number};
 use crate::definitions::Definitions;
-use crate::expand::expansion_limit;
 use crate::reader::Reader;
-use crate::redefinition::is_same_definition;
 use crate::source_reader::SourceReader;
+use crate::source_reader::stepping::Stepped;
 use crate::stop::{Budget, Stop};
 use pp_lexer::token::{Integer, Location, PreprocessorError, Text};
-use pp_model::definition::{Named, TokenList};
 use pp_model::numbering::Numbering;
-use pp_model::place::{Place, PlacedFault, placed, unasked};
 use pp_model::read::Taken;
-use pp_model::step::Step;
 use std::alloc::Global;
 
 /// A source, read from its start.
@@ -30,115 +25,77 @@ pub struct Source {
     pub alloc: Global,
     /// The position up to which it was read, and the state there.
     pub reader: SourceReader,
+    /// The texts of which an `#elif` outside of all blocks made the rest dead, the latest first.
+    pub dead: Vec<u32>,
 }
 
-// A fault as what a step gives.
-fn given_fault(fault: PlacedFault) -> Option<Taken>
-    ensures { result ≡ Some (taken.Fault fault) }
+// Whether it is a fault that asks for nothing, if items are left.
+fn is_fault_among(left: bool, taken: &Option<Taken>) -> bool
+    ensures { result ≡ is_fault_among left taken.now }
 {
-    Some(Taken::Fault(fault))
+    match taken {
+        Some(Taken::Fault(fault)) => left && fault.1.asks.is_none(),
+        _ => false,
+    }
+}
+
+// Notes the text of an `#elif` outside of all blocks.
+fn note_dead(dead: &mut Vec<u32>, taken: &Option<Taken>) -> Result<(), Stop>
+    ensures { OnOk result (dead.new.items ≡ dead_after taken.now dead.old.items) }
+{
+    if let Some(Taken::Fault((PreprocessorError::ElifOutsideOfBlock, place))) = taken {
+        dead.insert(0, place.text)?;
+    }
+    Ok(())
 }
 
 impl Source {
-    // Defines the name as a line of this text says, unless it has another definition already.
-    fn define(&mut self, text: u32, named: Named) -> Result<Option<Taken>, Stop>
-        ensures { IfOk result (λ o. Defines text named
-            (meaning_of self.old.reader.changes named.name) (reader_of self.old.reader) o
-            (reader_of self.new.reader)) }
-    {
-        match self.reader.definitions.find(&named.name) {
-            None => {
-                self.reader
-                    .definitions
-                    .change(named.name, Some(named.definition))?;
-                Ok(None)
-            }
-            Some(old) if is_same_definition(old, &named.definition) => Ok(None),
-            Some(_) => Ok(given_fault(placed(
-                text,
-                (PreprocessorError::DefineRedefined, named.location),
-            ))),
-        }
-    }
-
-    // Reads the condition of a line, and moves past the line.
-    fn decide(
-        &mut self,
-        word: Location,
-        tokens: TokenList,
-        budget: &mut Budget,
-    ) -> Result<Option<Taken>, Stop>
-        requires { self.old.reader.position + 2 ≤ length self.old.reader.items }
-        ensures decides { IfOk result (λ o. Deciding (answers_at expansion_limit) word tokens
-            (reader_of self.old.reader) o (reader_of self.new.reader)) }
-        ensures budget { budget.new.steps ≤ budget.old.steps }
-    {
-        let place = Place::in_text(self.reader.text(), word);
-        let numbering = self.reader.list_numbering();
-        let definitions = &self.reader.definitions;
-        match condition(
-            self.alloc,
-            place,
-            tokens,
-            numbering,
-            definitions,
-            expansion_limit(),
-            budget,
-        )? {
-            Ok(holds) => {
-                self.reader.decide(holds)?;
-                Ok(None)
-            }
-            Err(fault) => Ok(given_fault(unasked(fault))),
-        }
-    }
-
-    // Reads a line number, and moves past the line.
-    fn renumber(
-        &mut self,
-        word: Location,
-        tokens: TokenList,
-        budget: &mut Budget,
-    ) -> Result<Option<Taken>, Stop>
-        requires { self.old.reader.position + 2 ≤ length self.old.reader.items }
-        ensures renumbers { IfOk result
-            (λ o. Renumbering (answers_at expansion_limit) word tokens
-            (reader_of self.old.reader) o (reader_of self.new.reader)) }
-        ensures budget { budget.new.steps ≤ budget.old.steps }
-    {
-        let place = Place::in_text(self.reader.text(), word);
-        let numbering = self.reader.list_numbering();
-        let definitions = &self.reader.definitions;
-        match line_number(
-            self.alloc,
-            place,
-            tokens,
-            numbering,
-            definitions,
-            expansion_limit(),
-            budget,
-        )? {
-            Ok(number) => {
-                self.reader.renumber(word, number);
-                Ok(None)
-            }
-            Err(fault) => Ok(given_fault(unasked(fault))),
-        }
-    }
-
-    // One token or line of the source.
-    fn step(&mut self, budget: &mut Budget) -> Result<Option<Taken>, Stop>
-        ensures steps { IfOk result (λ o. Steps (answers_at expansion_limit)
-            (reader_of self.old.reader) o (reader_of self.new.reader)) }
-        ensures budget { budget.new.steps ≤ budget.old.steps }
+    // How many of the outermost blocks of the text part no more and are not reported.
+    fn dead_blocks(&self) -> usize
+        ensures { result ≡ spec.dead_blocks (source_state self.now) }
     {
         let text = self.reader.text();
-        match self.reader.act(self.alloc)? {
-            Step::Passed => Ok(None),
-            Step::Given(outcome) => Ok(Some(Taken::of_text(text, outcome))),
-            Step::Defines(named) => self.define(text, named),
-            Step::Condition(word, tokens) => self.decide(word, tokens, budget),
-            Step::LineNumber(word, tokens) => self.renumber(word, tokens, budget),
+        if self.dead.contains(&text) { 1 } else { 0 }
+    }
+
+    // Goes on after a fault of the items at an earlier position, if this many outermost blocks don't count. A `#line`
+    // counts from the number that is given.
+    fn go_on(
+        &mut self,
+        position: usize,
+        outside: usize,
+        counted: Option<(Location, u32)>,
+        taken: &Option<Taken>,
+    ) -> Result<(), Stop>
+        requires { position ≤ length self.old.reader.items }
+        ensures { OnOk result (source_state self.new
+            ≡ went_on position outside counted taken.now (source_state self.old)) }
+    {
+        self.reader.go_back(position);
+        self.reader.pass_fault(self.alloc, outside)?;
+        self.reader.count_from(counted);
+        note_dead(&mut self.dead, taken)
+    }
+
+    // One token or line of the source. A fault of it is passed.
+    fn step(&mut self, budget: &mut Budget) -> Result<Option<Taken>, Stop>
+        ensures steps { IfOk result (λ taken. StepsOn (answers_at expansion_limit)
+            (source_state self.old) taken (source_state self.new)) }
+        ensures budget { budget.new.steps ≤ budget.old.steps }
+    {
+        let outside = self.dead_blocks();
+        let position = self.reader.position();
+        let left = self.reader.has_items();
+        let Stepped { taken, counted } = self.reader.step(self.alloc, outside, budget)?;
+        if !is_fault_among(left, &taken) {
+            return Ok(taken);
+        }
+        match self.go_on(position, outside, counted, &taken) {
+            Ok(()) => Ok(taken),
+            Err(stop) => {
+                drop(taken);
+                Err(stop)
+            }
         }
     }
 }
@@ -146,14 +103,14 @@ impl Source {
 impl Reader for Source {
     ghost use Rattle.pp_model.specs.Emitting.{answers_at, expansion_limit};
     ghost use Rattle.pp_reference.specs.inner.ReaderState.{reader_of};
-    ghost use Rattle.pp_model.specs.Reads.{source_reading};
-    ghost use Rattle.pp_model.specs.SourceReader as spec;
+    ghost use Rattle.pp_model.specs.Onward.{onward_reading};
+    ghost use Rattle.pp_model.specs.Onward as spec;
 
-    ghost State = { spec.SourceReader };
+    ghost State = { spec.Onward };
 
-    ghost state = { λ source. reader_of source.reader };
+    ghost state = { λ source. record { reader = reader_of source.reader; dead = source.dead.items } };
 
-    ghost reading = { source_reading (answers_at expansion_limit) };
+    ghost reading = { onward_reading (answers_at expansion_limit) };
 
     fn read(&mut self, budget: &mut Budget) -> Result<Taken, Stop> {
         'lines: loop {

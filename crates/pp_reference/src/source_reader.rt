@@ -1,22 +1,27 @@
 //! A reader of a source: what each token or line does.
 
-ghost use Rattle.std.specs.Prelude.{◌≡◌, ◌≤◌, ◌+◌, length, true, false, IfOk, OnOk};
+ghost use Rattle.std.specs.Prelude.{◌≡◌, ◌≤◌, ◌+◌, [], length, nat_lt, true, false, IfOk, OnOk};
 ghost use Rattle.pp_reference.specs.inner.Acting.{ActsAs, HasLine, HasLineIfOk, arrived};
 ghost use Rattle.pp_model.specs.Acts as spec;
+ghost use Rattle.pp_model.specs.Faults.{facts_past};
+ghost use Rattle.pp_model.specs.Onward.{act_on};
 ghost use Rattle.pp_model.specs.inner.Acts as parts;
 ghost use Rattle.pp_model.specs.Moves as moves;
 ghost use Rattle.pp_reference.specs.inner.ReaderState.{reader_of};
 ghost use Rattle.pp_model.specs.Numbering.{list_numbering, text_number};
 ghost use Rattle.pp_model.specs.inner.Run.{after_addition};
+ghost use Rattle.pp_model.specs.Blocks.{is_live};
 ghost use Rattle.pp_model.specs.Sights.{least_items};
 ghost use Rattle.pp_model.specs.SourceReader as readers;
 ghost use Rattle.pp_reference.specs.declared.stop.Halt.TheVariants as halt;
 
 mod acting;
 mod blocks;
+pub mod faults;
 pub mod including;
+pub mod stepping;
 
-use crate::block::{blocks_at, is_live};
+use crate::block::{blocks_at, innermost_past, is_live};
 use crate::definitions::Definitions;
 use crate::item::SourceItem;
 use crate::line::{line_fault, line_length};
@@ -145,6 +150,27 @@ impl SourceReader {
         self.text
     }
 
+    /// The position of the item that comes next.
+    pub fn position(&self) -> usize
+        ensures { result ≡ self.now.position }
+    {
+        self.position
+    }
+
+    /// Whether items are left.
+    pub fn has_items(&self) -> bool
+        ensures { result ≡ nat_lt self.now.position (length self.now.items) }
+    {
+        self.position < self.items.len()
+    }
+
+    // Whether the text at the position is live.
+    fn is_live_here(&self, alloc: Global) -> Result<bool, Stop>
+        ensures { IfOk result (λ live. live ≡ is_live self.now.items self.now.truths self.now.position) }
+    {
+        is_live(alloc, &self.items, &self.truths, self.position)
+    }
+
     /// The number that `__LINE__` shows for a line.
     pub fn shown_line(&self, line: u32) -> Option<Integer>
         ensures { result ≡ text_number self.now.rules self.now.line_offset line }
@@ -216,14 +242,15 @@ impl SourceReader {
         Ok(self.contents + 1)
     }
 
-    // Reports the next of the blocks that stay open at the end of the text, or leaves the text.
-    fn tell_end(&mut self, alloc: Global) -> Result<Step, Halt>
-        ensures acts { ActsAs result (spec.end_at (reader_of self.old)) (reader_of self.new) }
+    // Reports the next of the blocks that stay open at the end of the text, but for this many outermost ones, or leaves
+    // the text.
+    fn tell_end(&mut self, alloc: Global, outside: usize) -> Result<Step, Halt>
+        ensures acts { ActsAs result (act_on outside [] (reader_of self.old)) (reader_of self.new) }
         ensures line { HasLineIfOk result self.old self.new }
     {
         let mut blocks = blocks_at(alloc, &self.items, self.items.len())?;
         blocks.truncate(self.unfinished);
-        let Some(block) = blocks.last() else {
+        let Some(block) = innermost_past(&blocks, outside) else {
             return self.leave(alloc);
         };
         let word = block.first.word;
@@ -244,17 +271,17 @@ impl SourceReader {
         Step::Passed
     }
 
-    // Acts on a sight at the position, in live text.
-    fn act_live(&mut self, alloc: Global, sight: Sight) -> Result<Step, Halt>
+    // Acts on a sight at the position, in live text, if this many outermost blocks don't count.
+    fn act_live(&mut self, alloc: Global, outside: usize, sight: Sight) -> Result<Step, Halt>
         requires { self.old.position + least_items sight ≤ length self.old.items }
         ensures acts { ActsAs result (spec.perform
-            (moves.move_at self.old.rules true (spec.facts_here (reader_of self.old)) sight
+            (moves.move_at self.old.rules true (facts_past outside (reader_of self.old)) sight
             (parts.items_left (reader_of self.old))) (reader_of self.old))
             (reader_of self.new) }
         ensures line { HasLineIfOk result self.old self.new }
     {
         match sight {
-            Sight::End => self.tell_end(alloc),
+            Sight::End => self.tell_end(alloc, 0),
             Sight::NewLine => Ok(self.pass(1)),
             Sight::Lone => Ok(self.pass(2)),
             Sight::Fault(fault) | Sight::NoWord(fault) => Err(Halt::Fault(fault)),
@@ -263,54 +290,65 @@ impl SourceReader {
                 Ok(Step::Given(Outcome::Token(token)))
             }
             Sight::Hash(location) => Err(refuse(PreprocessorError::UnexpectedHash, location)),
-            Sight::Directive(directive, word) => self.act_live_directive(alloc, directive, word),
+            Sight::Directive(directive, word) => self.act_live_directive(
+                alloc, outside, directive, word,
+            ),
         }
     }
 
-    // Acts on a sight at the position, in dead text.
-    fn act_dead(&mut self, alloc: Global, sight: Sight) -> Result<Step, Halt>
+    // Acts on a sight at the position, in dead text, if this many outermost blocks don't count.
+    fn act_dead(&mut self, alloc: Global, outside: usize, sight: Sight) -> Result<Step, Halt>
         requires { self.old.position + least_items sight ≤ length self.old.items }
         ensures acts { ActsAs result (spec.perform
-            (moves.move_at self.old.rules false (spec.facts_here (reader_of self.old)) sight
+            (moves.move_at self.old.rules false (facts_past outside (reader_of self.old)) sight
             (parts.items_left (reader_of self.old))) (reader_of self.old))
             (reader_of self.new) }
         ensures line { HasLineIfOk result self.old self.new }
     {
         match sight {
-            Sight::End => self.tell_end(alloc),
+            Sight::End => self.tell_end(alloc, 0),
             Sight::Fault(_) if self.rules.passes_dead_errors => {
                 Ok(self.pass(error_length(self.items_left())))
             }
             Sight::Fault(fault) => Err(Halt::Fault(fault)),
             Sight::NewLine | Sight::Token(_) | Sight::Hash(_) => Ok(self.pass(1)),
             Sight::Lone | Sight::NoWord(_) => Ok(self.pass(2)),
-            Sight::Directive(directive, word) => self.act_dead_directive(alloc, directive, word),
+            Sight::Directive(directive, word) => self.act_dead_directive(
+                alloc, outside, directive, word,
+            ),
         }
     }
 
-    // Acts on the sight at the position.
-    fn act_here(&mut self, alloc: Global) -> Result<Step, Halt>
-        ensures acts { ActsAs result (spec.act (reader_of self.old)) (reader_of self.new) }
+    // Acts on the sight at the position, if this many outermost blocks don't count.
+    fn act_here(&mut self, alloc: Global, outside: usize) -> Result<Step, Halt>
+        ensures acts { ActsAs result
+            (act_on outside (parts.items_left (reader_of self.old)) (reader_of self.old))
+            (reader_of self.new) }
         ensures line { HasLineIfOk result self.old self.new }
     {
+        if self.position == self.items.len() {
+            return self.tell_end(alloc, outside);
+        }
         let live = is_live(alloc, &self.items, &self.truths, self.position)?;
         let sight = sight_of(alloc, self.items_left())?;
         if live {
-            self.act_live(alloc, sight)
+            self.act_live(alloc, outside, sight)
         } else {
-            self.act_dead(alloc, sight)
+            self.act_dead(alloc, outside, sight)
         }
     }
 
-    /// Acts on the sight at the position, and returns its step. After a fault the reader stays where it is.
-    pub fn act(&mut self, alloc: Global) -> Result<Step, Stop>
-        ensures acts { IfOk result (λ step. spec.act (reader_of self.old) ≡ record {
-          step = step;
-          after = arrived step (reader_of self.new);
-        }) }
+    /// Acts on the sight at the position, if this many outermost blocks don't count, and returns its step. After a
+    /// fault the reader stays where it is.
+    pub fn act(&mut self, alloc: Global, outside: usize) -> Result<Step, Stop>
+        ensures acts { IfOk result (λ step. act_on outside
+            (parts.items_left (reader_of self.old)) (reader_of self.old) ≡ record {
+              step = step;
+              after = arrived step (reader_of self.new);
+            }) }
         ensures line { IfOk result (λ step. HasLine step self.old self.new) }
     {
-        match self.act_here(alloc) {
+        match self.act_here(alloc, outside) {
             Ok(step) => Ok(step),
             Err(Halt::Fault(fault)) => Ok(Step::Given(Outcome::Fault(fault))),
             Err(Halt::Stop(stop)) => Err(stop),

@@ -57,8 +57,8 @@ pub fn has_directive(alloc: Global, items: &[SourceItem]) -> Result<bool, Stop>
     has_directive(alloc, rest)
 }
 
-// Whether the item is the `#` of a directive.
-fn is_directive_hash(item: &LexerItem) -> bool
+/// Whether the item is the `#` of a directive.
+pub fn is_directive_hash(item: &LexerItem) -> bool
     ensures { result ≡ sights.is_directive_hash item.now }
 {
     match item {

@@ -1,10 +1,11 @@
 //! What the lines of directives do, in live and in dead text.
 
-ghost use Rattle.std.specs.Prelude.{◌≡◌, ◌≤◌, ◌+◌, pos, length, true, false};
+ghost use Rattle.std.specs.Prelude.{◌≡◌, ◌≤◌, ◌+◌, pos, length, true, false, Some};
 ghost use Rattle.pp_model.specs.Lines.{line_tokens, comments_before_end};
 ghost use Rattle.pp_model.specs.DefineLines.{defined_on, undefined_on};
 ghost use Rattle.pp_reference.specs.inner.Acting.{ActsAs, HasLineIfOk};
-ghost use Rattle.pp_model.specs.Acts as spec;
+ghost use Rattle.pp_model.specs.Faults.{facts_past};
+ghost use Rattle.pp_model.specs.Onward.{numbered_by as onward_numbered_by};
 ghost use Rattle.pp_model.specs.inner.Acts as parts;
 ghost use Rattle.pp_model.specs.Moves as moves;
 ghost use Rattle.pp_reference.specs.inner.ReaderState.{reader_of};
@@ -43,6 +44,13 @@ impl SourceReader {
     {
         self.line_offset = i64::from(number) - numbered_line(self.rules, word.line);
         self.pass_line();
+    }
+
+    /// Numbers the lines after a `#line` of this number with this place of its word.
+    pub fn number_from(&mut self, word: Location, number: u32)
+        ensures { reader_of self.new ≡ onward_numbered_by (reader_of self.old) word (Some number) }
+    {
+        self.line_offset = i64::from(number) - numbered_line(self.rules, word.line);
     }
 
     // Gathers a `#line`.
@@ -158,12 +166,13 @@ impl SourceReader {
     pub(crate) fn act_live_directive(
         &mut self,
         alloc: Global,
+        outside: usize,
         directive: Directive,
         word: Location,
     ) -> Result<Step, Halt>
         requires { self.old.position + 2 ≤ length self.old.items }
         ensures acts { ActsAs result (parts.perform_line
-            (moves.directive_move self.old.rules true (spec.facts_here (reader_of self.old)) directive word
+            (moves.directive_move self.old.rules true (facts_past outside (reader_of self.old)) directive word
             (parts.after_word (reader_of self.old))) (reader_of self.old))
             (reader_of self.new) }
         ensures line { HasLineIfOk result self.old self.new }
@@ -174,9 +183,9 @@ impl SourceReader {
             Directive::If => self.condition(alloc, word),
             Directive::Ifdef => self.ifdef(alloc, word),
             Directive::Ifndef => self.ifndef(alloc, word),
-            Directive::Elif => self.elif_line(alloc, word),
-            Directive::Else => self.else_line(alloc, word),
-            Directive::Endif => self.endif_line(alloc, word),
+            Directive::Elif => self.elif_line(alloc, outside, word),
+            Directive::Else => self.else_line(alloc, outside, word),
+            Directive::Endif => self.endif_line(alloc, outside, word),
             Directive::Error => Err(refuse(PreprocessorError::ErrorDirective, word)),
             Directive::Include => self.ask(alloc, word),
             Directive::Line => self.line_number(alloc, word),
@@ -191,20 +200,21 @@ impl SourceReader {
     pub(crate) fn act_dead_directive(
         &mut self,
         alloc: Global,
+        outside: usize,
         directive: Directive,
         word: Location,
     ) -> Result<Step, Halt>
         requires { self.old.position + 2 ≤ length self.old.items }
         ensures acts { ActsAs result (parts.perform_line
-            (moves.directive_move self.old.rules false (spec.facts_here (reader_of self.old)) directive word
+            (moves.directive_move self.old.rules false (facts_past outside (reader_of self.old)) directive word
             (parts.after_word (reader_of self.old))) (reader_of self.old))
             (reader_of self.new) }
         ensures line { HasLineIfOk result self.old self.new }
     {
         match directive {
-            Directive::Elif => self.elif_line(alloc, word),
-            Directive::Else => self.else_line(alloc, word),
-            Directive::Endif => self.endif_line(alloc, word),
+            Directive::Elif => self.elif_line(alloc, outside, word),
+            Directive::Else => self.else_line(alloc, outside, word),
+            Directive::Endif => self.endif_line(alloc, outside, word),
             Directive::Include => self.skip_include(alloc),
             Directive::Unknown => {
                 self.position += 2;

@@ -8,9 +8,10 @@ ghost use Rattle.pp_model.specs.Acts as spec;
 ghost use Rattle.pp_model.specs.inner.Acts as parts;
 ghost use Rattle.pp_model.specs.Moves as moves;
 ghost use Rattle.pp_model.specs.Blocks.{are_surroundings_live};
+ghost use Rattle.pp_model.specs.Faults.{facts_past};
 ghost use Rattle.pp_reference.specs.inner.ReaderState.{reader_of};
 
-use crate::block::{Block, blocks_at, has_else, has_taken_branch, is_live};
+use crate::block::{Block, blocks_at, has_else, has_taken_branch, innermost_past, is_live};
 use crate::line::{ended_line, line_tokens, only_name};
 use crate::source_reader::{SourceReader, refuse};
 use crate::stop::{Halt, Stop};
@@ -74,7 +75,7 @@ impl SourceReader {
     }
 
     // Whether the line on which the block begins is live.
-    fn are_surroundings_live(&self, alloc: Global, block: &Block) -> Result<bool, Stop>
+    pub(crate) fn are_surroundings_live(&self, alloc: Global, block: &Block) -> Result<bool, Stop>
         ensures { IfOk result (λ live. live
             ≡ are_surroundings_live self.now.items self.now.truths block.now) }
     {
@@ -160,40 +161,55 @@ impl SourceReader {
         Ok(Step::Passed)
     }
 
-    // Reads a line that parts or closes the innermost block.
-    pub(crate) fn elif_line(&mut self, alloc: Global, word: Location) -> Result<Step, Halt>
+    // Reads a line that parts or closes the innermost block, if it isn't among this many outermost ones.
+    pub(crate) fn elif_line(
+        &mut self,
+        alloc: Global,
+        outside: usize,
+        word: Location,
+    ) -> Result<Step, Halt>
         requires { self.old.position + 2 ≤ length self.old.items }
         ensures acts { ActsAs result (parts.perform_line
-            (moves.elif_move self.old.rules (spec.facts_here (reader_of self.old)) word
+            (moves.elif_move self.old.rules (facts_past outside (reader_of self.old)) word
             (parts.after_word (reader_of self.old))) (reader_of self.old))
             (reader_of self.new) }
         ensures line { HasLineIfOk result self.old self.new }
     {
         let blocks = blocks_at(alloc, &self.items, self.position)?;
-        self.elif_in(alloc, blocks.last(), word)
+        self.elif_in(alloc, innermost_past(&blocks, outside), word)
     }
 
-    pub(crate) fn else_line(&mut self, alloc: Global, word: Location) -> Result<Step, Halt>
+    pub(crate) fn else_line(
+        &mut self,
+        alloc: Global,
+        outside: usize,
+        word: Location,
+    ) -> Result<Step, Halt>
         requires { self.old.position + 2 ≤ length self.old.items }
         ensures acts { ActsAs result (parts.perform_line
-            (moves.else_move (spec.facts_here (reader_of self.old)) word
+            (moves.else_move (facts_past outside (reader_of self.old)) word
             (parts.after_word (reader_of self.old))) (reader_of self.old))
             (reader_of self.new) }
         ensures line { HasLineIfOk result self.old self.new }
     {
         let blocks = blocks_at(alloc, &self.items, self.position)?;
-        self.else_in(alloc, blocks.last(), word)
+        self.else_in(alloc, innermost_past(&blocks, outside), word)
     }
 
-    pub(crate) fn endif_line(&mut self, alloc: Global, word: Location) -> Result<Step, Halt>
+    pub(crate) fn endif_line(
+        &mut self,
+        alloc: Global,
+        outside: usize,
+        word: Location,
+    ) -> Result<Step, Halt>
         requires { self.old.position + 2 ≤ length self.old.items }
         ensures acts { ActsAs result (parts.perform_line
-            (moves.endif_move self.old.rules (spec.facts_here (reader_of self.old)) word
+            (moves.endif_move self.old.rules (facts_past outside (reader_of self.old)) word
             (parts.after_word (reader_of self.old))) (reader_of self.old))
             (reader_of self.new) }
         ensures line { HasLineIfOk result self.old self.new }
     {
         let blocks = blocks_at(alloc, &self.items, self.position)?;
-        self.endif_in(alloc, blocks.last(), word)
+        self.endif_in(alloc, innermost_past(&blocks, outside), word)
     }
 }

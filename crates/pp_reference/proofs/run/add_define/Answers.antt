@@ -20,5 +20,5 @@ pub returns-in_ok-add-in-Ok : goal.returns-in_ok-add-in-Ok
 returns-in_ok-add-in-Ok c =
     let old = seen source_state c.args.expander.now in
     added_reply (answers_at expansion_limit) c.args.rules c.args.name.now c.args.content.now c.added_body.result c.in-Ok.body old _ c.added_body.ensures c.in-Ok.is
-    (ap (λ (r : SourceReader). record old { reader = r }) ((c.in_ok-add-in-Ok.ensures {u = tt})
-    ∙ ap (λ (n : Name). after_addition n c.in-Ok.body old.reader) (c.in_ok-name-in-Ok.ensures {u = tt})))
+    (ap (λ (r : SourceReader). record old { reader = record old.reader { reader = r } }) ((c.in_ok-add-in-Ok.ensures {u = tt})
+    ∙ ap (λ (n : Name). after_addition n c.in-Ok.body old.reader.reader) (c.in_ok-name-in-Ok.ensures {u = tt})))

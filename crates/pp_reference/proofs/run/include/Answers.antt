@@ -18,5 +18,5 @@ returns c =
     let old = seen source_state c.args.expander.now in
     included_reply (answers_at expansion_limit) c.args.rules c.args.text.now c.in_ok-items.items.items old _
     (sym c.is_full.ensures ∙ c.if-is_full.false) (c.in_ok-items.ensures {u = tt})
-    (ap (λ (held : Option Taken). record old { held = held; reader = reader_of c.include.new.self }) c.drop_end.ensures
-    ∙ ap (λ (r : SourceReader). record old { held = without_end old.held; reader = r }) (c.in_ok-include.ensures {u = tt}))
+    (ap (λ (held : Option Taken). record old { held = held; reader = record old.reader { reader = reader_of c.include.new.self } }) c.drop_end.ensures
+    ∙ ap (λ (r : SourceReader). record old { held = without_end old.held; reader = record old.reader { reader = r } }) (c.in_ok-include.ensures {u = tt}))

@@ -1,18 +1,18 @@
 use Rattle.std.proofs.Common.{arith}
-use Rattle.pp_reference.specs.inner.ReaderState.{reader_of}
-use Rattle.pp_model.specs.Reads.{here, later}
+use Rattle.pp_model.specs.Onward.{here, later}
+use Rattle.pp_reference.specs.inner.SeenSource.{source_state}
 use Rattle.pp_reference.proofs.source.SourceReaderImpl.read.Goals as goal
 
 pub returns-in-Some-clause-reads : goal.returns-in-Some-clause-reads
 returns-in-Some-clause-reads c =
-    c.lines.invariant.goes_on c.in-Some.taken (reader_of c.step.new.self.reader)
-    (here c.in-Some.taken (reader_of c.lines.self.reader) (reader_of c.step.new.self.reader)
+    c.lines.invariant.goes_on c.in-Some.taken (source_state c.step.new.self)
+    (here c.in-Some.taken (source_state c.lines.self) (source_state c.step.new.self)
     (rw c.in-Some.is at (c.in_ok-taken.ensures {u = tt}).steps))
 
 pub lines-preserved : goal.lines-preserved
 lines-preserved c = record {
   goes_on = λ x t h.
       c.lines.invariant.goes_on x t
-      (later x (reader_of c.lines.self.reader) (reader_of c.step.new.self.reader) t (rw c.in_default.is at (c.in_ok-taken.ensures {u = tt}).steps) h);
+      (later x (source_state c.lines.self) (source_state c.step.new.self) t (rw c.in_default.is at (c.in_ok-taken.ensures {u = tt}).steps) h);
   spent = omega arith;
 }
