@@ -4,9 +4,12 @@ use Rattle.std.specs.Prelude.{Result, Ok, Err, OnOk, IfOk, is_ok, nat_lt}
 use Rattle.std.specs.Char.{IsScalar, encode_utf8}
 use Rattle.std.specs.List.{list_all, flat_map}
 use Rattle.std.specs.Str.{chars, IsUtf8, IsAscii}
+use Rattle.std.proofs.Common.{inl, inr}
+use Rattle.std.proofs.lemmas.Bool.Decides.{eqb_tells}
 use Rattle.std.proofs.lemmas.Grind.{flat_map-append}
 use Rattle.std.proofs.lemmas.Str.{chars-append, chars-nil, chars-IsAscii, chars_past_char, IsUtf8-encode}
 use Rattle.std.proofs.lemmas.Str.Ascii.{IsAscii-nil, IsAscii-cons}
+use Rattle.glslpp_html.specs.Shown.{link_character}
 
 and_parts : (a b : Bool) → (a && b) ≡ true → (a ≡ true) × (b ≡ true)
 and_parts true b e = (refl, e)
@@ -48,3 +51,16 @@ on_ok (Err x) P Q f h = tt
 pub if_ok : {T E : Type 0} (r : Result T E) (P Q : T → Type 0) → ((x : T) → P x → Q x) → IfOk r P → IfOk r Q
 if_ok (Ok x) P Q f h = f x h
 if_ok (Err x) P Q f h = tt
+
+-- a character that stands for itself in a link
+pub linked_itself : (c : ℕ) → (c ≡ 37 → ⊥) → (c ≡ 35 → ⊥) → (c ≡ 63 → ⊥) → (c ≡ 92 → ⊥) → link_character c ≡ c ∷ []
+linked_itself c a b d f = elim (eqb_tells c 37) [
+  | inl h ↦ absurd (a h.1)
+  | inr h ↦ elim (eqb_tells c 35) [
+    | inl k ↦ absurd (b k.1)
+    | inr k ↦ elim (eqb_tells c 63) [
+      | inl m ↦ absurd (d m.1)
+      | inr m ↦ elim (eqb_tells c 92) [ inl n ↦ absurd (f n.1) | inr n ↦ rw (h.0, k.0, m.0, n.0) refl ]
+    ]
+  ]
+]

@@ -7,7 +7,7 @@ use Rattle.std.proofs.lemmas.Grind.{flat_map-append}
 use Rattle.std.proofs.lemmas.List.{take_more}
 use Rattle.std.proofs.lemmas.List.Concat.{flat_map-cons}
 use Rattle.std.proofs.lemmas.List.Folds.{list_all-append}
-use Rattle.glslpp_html.specs.Shown.{Attributes, none, more, IsTag, is_name_character, is_value_character, Shows, nothing, tag, less_than, ampersand, carriage_return, nul, other, escaped_character, value_character}
+use Rattle.glslpp_html.specs.Shown.{Attributes, none, more, IsTag, is_beginning, is_value_character, Shows, nothing, tag, less_than, ampersand, carriage_return, nul, other, escaped_character, value_character}
 use Rattle.std.specs.Prelude.{Result, OnOk}
 use Rattle.std.proofs.lemmas.Str.{chars-nil}
 use Rattle.glslpp_html.proofs.Characters.{chars_same, on_ok}
@@ -86,14 +86,14 @@ tag_more old new inside is e = (codes "<" ++ inside ++ codes ">", e, (let one : 
 -- attributes after attributes
 pub both_attributes : (first second : List ℕ) → Attributes first → Attributes second → Attributes (first ++ second)
 both_attributes first second none h = h
-both_attributes first second (more name value rest is_name is_value others) h =
-    subst Attributes (sym (append_assoc (codes " " ++ name ++ codes "=\"" ++ value ++ codes "\"") rest second))
-    (more name value (rest ++ second) is_name is_value (both_attributes rest second others h))
+both_attributes first second (more beginning value rest is_one is_value others) h =
+    subst Attributes (sym (append_assoc (beginning ++ value ++ codes "\"") rest second))
+    (more beginning value (rest ++ second) is_one is_value (both_attributes rest second others h))
 
-pub one_attribute : (name value : List ℕ) → list_all is_name_character name ≡ true → list_all is_value_character value ≡ true
-    → Attributes (codes " " ++ name ++ codes "=\"" ++ value ++ codes "\"")
-one_attribute name value is_name is_value =
-    let one : Attributes (codes " " ++ name ++ codes "=\"" ++ value ++ codes "\"" ++ []) = more name value [] is_name is_value none in rw append-nil at one
+pub one_attribute : (beginning value : List ℕ) → is_beginning beginning ≡ true → list_all is_value_character value ≡ true
+    → Attributes (beginning ++ value ++ codes "\"")
+one_attribute beginning value is_one is_value =
+    let one : Attributes (beginning ++ value ++ codes "\"" ++ []) = more beginning value [] is_one is_value none in rw append-nil at one
 
 pub has_both : (old now new : List ℕ) → HasAttributes old now → HasAttributes now new → HasAttributes old new
 has_both old now new h k =
@@ -143,10 +143,9 @@ pub opened : (old first second third new name attributes : List ℕ) → first �
 opened old first second third new name attributes f s t n =
     n ∙ ap (λ x. x ++ codes ">") (t ∙ ap (λ x. x ++ attributes) (s ∙ ap (λ x. x ++ name) f)) ∙ simp append_assoc
 
-pub named : (old first second third fourth new name value : List ℕ) → first ≡ old ++ codes " " → second ≡ first ++ name → third ≡ second ++ codes "=\""
-    → fourth ≡ third ++ value → new ≡ fourth ++ codes "\"" → new ≡ old ++ (codes " " ++ name ++ codes "=\"" ++ value ++ codes "\"")
-named old first second third fourth new name value a b d e f =
-    f ∙ ap (λ x. x ++ codes "\"") (e ∙ ap (λ x. x ++ value) (d ∙ ap (λ x. x ++ codes "=\"") (b ∙ ap (λ x. x ++ name) a))) ∙ simp append_assoc
+pub begun : (old first second new beginning value : List ℕ) → first ≡ old ++ beginning → second ≡ first ++ value → new ≡ second ++ codes "\""
+    → new ≡ old ++ (beginning ++ value ++ codes "\"")
+begun old first second new beginning value a b d = d ∙ ap (λ x. x ++ codes "\"") (b ∙ ap (λ x. x ++ value) a) ∙ simp append_assoc
 
 -- a text between two tags
 pub shows_between : {T E : Type 0} (r : Result T E) (p0 p1 p2 p3 text : List ℕ) → ShowsMore p0 p1 []
@@ -164,6 +163,21 @@ file_shown r p0 p1 p2 p3 p4 p5 name text a b d e =
     let to_text = shows_both p0 p3 p4 ((chars name ++ chars (codes "\n")) ++ []) (chars text) to_code e in
     on_ok r _ _ (λ (h : ShowsMore p4 p5 []). subst (ShowsMore p0 p5) (simp (append-nil, chars_same (codes "\n") refl))
     (shows_both p0 p4 p5 (((chars name ++ chars (codes "\n")) ++ []) ++ chars text) [] to_text h))
+
+-- a page in an overview: its name, `: `, what is said of it, and a line end
+pub entry_shown : {T E : Type 0} (r : Result T E) (p0 p1 p2 p3 p4 p5 p6 name note : List ℕ) → ShowsMore p0 p1 [] → ShowsMore p1 p2 (chars name)
+    → chars p3 ≡ chars p2 ++ flat_map escaped_character (chars (codes ": ")) → chars p4 ≡ chars p3 ++ flat_map escaped_character (chars note)
+    → chars p5 ≡ chars p4 ++ flat_map escaped_character (chars (codes "\n")) → OnOk r (ShowsMore p5 p6 [])
+    → OnOk r (ShowsMore p0 p6 (chars name ++ codes ": " ++ chars note ++ codes "\n"))
+entry_shown r p0 p1 p2 p3 p4 p5 p6 name note a b d e f =
+    let to_name = shows_both p0 p1 p2 [] (chars name) a b in
+    let to_colon = shows_both p0 p2 p3 ([] ++ chars name) (chars (codes ": ")) to_name (shows_text p2 p3 (codes ": ") d) in
+    let to_note = shows_both p0 p3 p4 (([] ++ chars name) ++ chars (codes ": ")) (chars note) to_colon (shows_text p3 p4 note e) in
+    let to_end = shows_both p0 p4 p5 ((([] ++ chars name) ++ chars (codes ": ")) ++ chars note) (chars (codes "\n")) to_note
+    (shows_text p4 p5 (codes "\n") f) in
+    on_ok r _ _ (λ (h : ShowsMore p5 p6 []). subst (ShowsMore p0 p6)
+    (simp (append-nil, append_assoc, chars_same (codes ": ") refl, chars_same (codes "\n") refl))
+    (shows_both p0 p5 p6 (((([] ++ chars name) ++ chars (codes ": ")) ++ chars note) ++ chars (codes "\n")) [] to_end h))
 
 -- what was written to an empty text
 pub from_nothing : (new empty written : List ℕ) → empty ≡ [] → chars new ≡ chars empty ++ written → chars new ≡ written

@@ -3,6 +3,7 @@ use Rattle.std.specs.Prelude.{◌≡◌, ℕ, List, ◌++◌, codes}
 use Rattle.std.specs.List.{flat_map}
 use Rattle.std.specs.Str.{chars}
 use Rattle.glslpp_html.specs.Shown.{Shows, escaped_character}
+use Rattle.glslpp_html.specs.declared.overview.Entry.{Entry}
 use Rattle.glslpp_html.specs.declared.page.File.{File}
 use Rattle.glslpp_html.specs.declared.style.TheConstants.{START, STYLE}
 
@@ -18,3 +19,15 @@ pub record IsPage (title command : List ℕ) (files : List File) (page : List �
   pub is : page ≡ START.now ++ named ++ STYLE.now ++ body
   pub shows_title : chars named ≡ flat_map escaped_character (chars title)
   pub shows : Shows (chars body) (chars command ++ flat_map text_of_file files)
+
+-- what is shown of a page to which an overview leads, on a line
+abbrev pub text_of_entry : Entry → List ℕ
+text_of_entry entry = chars entry.name.now ++ codes ": " ++ chars entry.note.now ++ codes "\n"
+
+-- the same of a page that leads to others
+pub record IsOverview (title command : List ℕ) (entries : List Entry) (page : List ℕ) : Type 0 where
+  pub named : List ℕ
+  pub body : List ℕ
+  pub is : page ≡ START.now ++ named ++ STYLE.now ++ body
+  pub shows_title : chars named ≡ flat_map escaped_character (chars title)
+  pub shows : Shows (chars body) (chars command ++ flat_map text_of_entry entries)

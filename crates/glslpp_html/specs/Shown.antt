@@ -1,16 +1,22 @@
 -- What a browser shows of a page of text, tags and character references: HTML, sections 13.1.2 and 13.1.4.
-use Rattle.std.specs.Prelude.{◌≡◌, ◌≢◌, ℕ, Bool, true, not, ◌&&◌, ◌||◌, ◌==◌, if◌then◌else◌, List, [], ◌∷◌, ◌++◌, codes}
-use Rattle.std.specs.Prelude.{nat_eq, nat_le}
+use Rattle.std.specs.Prelude.{◌≡◌, ◌≢◌, ℕ, Bool, true, not, ◌&&◌, ◌==◌, if◌then◌else◌, List, [], ◌∷◌, ◌++◌, codes}
+use Rattle.std.specs.Prelude.{nat_eq}
 use Rattle.std.specs.Cmp.Lexicographic.{pointwise}
 use Rattle.std.specs.List.{list_all, list_any}
 
 -- the elements of a page, whose tags show nothing
 abbrev pub is_element : List ℕ → Bool
-is_element name = list_any (pointwise nat_eq name) (codes "span" ∷ codes "code" ∷ codes "h2" ∷ [])
+is_element name =
+    list_any (pointwise nat_eq name)
+    (codes "span" ∷ codes "a" ∷ codes "details" ∷ codes "summary" ∷ codes "code" ∷ codes "h2" ∷ [])
 
--- `a` to `z` and `-`
-abbrev pub is_name_character : ℕ → Bool
-is_name_character c = (nat_le 97 c && nat_le c 122) || c == 45
+-- The attributes of a page, up to their values. None runs or loads anything: a link leads to a place in the page or to
+-- a file beside it.
+abbrev pub is_beginning : List ℕ → Bool
+is_beginning beginning =
+    list_any (pointwise nat_eq beginning)
+    (codes " class=\"" ∷ codes " id=\"" ∷ codes " title=\"" ∷ codes " tabindex=\"" ∷ codes " data-note=\""
+    ∷ codes " href=\"#" ∷ codes " href=\"./" ∷ [])
 
 -- what the value of an attribute has between its quotation marks
 abbrev pub is_value_character : ℕ → Bool
@@ -19,11 +25,11 @@ is_value_character c = not (c == 34) && not (c == 62)
 -- attributes, each as ` name="value"`
 pub data Attributes : List ℕ → Type 0 where
   none : Attributes []
-  more : (name value rest : List ℕ)
-      → list_all is_name_character name ≡ true
+  more : (beginning value rest : List ℕ)
+      → is_beginning beginning ≡ true
       → list_all is_value_character value ≡ true
       → Attributes rest
-      → Attributes (codes " " ++ name ++ codes "=\"" ++ value ++ codes "\"" ++ rest)
+      → Attributes (beginning ++ value ++ codes "\"" ++ rest)
 
 -- what a tag has between `<` and `>`
 pub data IsTag : List ℕ → Type 0 where
@@ -52,3 +58,9 @@ escaped_character c =
 -- a character as it is written into the value of an attribute
 abbrev pub value_character : ℕ → List ℕ
 value_character c = if c == 34 then codes "&quot;" else if c == 62 then codes "&gt;" else escaped_character c
+
+-- a character of a file's name as it is written into a link: those that mean something there by their numbers
+abbrev pub link_character : ℕ → List ℕ
+link_character c =
+    if c == 37 then codes "%25" else if c == 35 then codes "%23" else if c == 63 then codes "%3F"
+    else if c == 92 then codes "%5C" else c ∷ []

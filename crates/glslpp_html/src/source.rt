@@ -17,10 +17,18 @@ pub enum Class {
     Number,
     /// A directive.
     Directive,
-    /// The use of a macro.
+    /// A macro's name.
     Macro,
+    /// A name that is tested and not defined.
+    Undefined,
+    /// What became of a directive: what follows it is compiled.
+    Taken,
+    /// What follows the directive isn't compiled.
+    Passed,
     /// A character that could change the order in which others are shown.
     Direction,
+    /// A part that only leads elsewhere.
+    Plain,
 }
 
 impl Class {
@@ -30,9 +38,22 @@ impl Class {
             Class::Number => "number",
             Class::Directive => "directive",
             Class::Macro => "macro",
+            Class::Undefined => "undefined",
+            Class::Taken => "taken",
+            Class::Passed => "passed",
             Class::Direction => "direction",
+            Class::Plain => "",
         }
     }
+}
+
+/// A text that is shown beside a source, and the id to which a click on it leads, or the empty text.
+#[derive(Drop)]
+pub struct Note {
+    /// The text.
+    pub text: String,
+    /// The id.
+    pub target: String,
 }
 
 /// A part of a line that is marked.
@@ -44,8 +65,12 @@ pub struct Mark {
     pub end: usize,
     /// What it is.
     pub class: Class,
-    /// What is shown if it is chosen, or the empty text.
+    /// What is shown if it is pointed at, or the empty text, and the id to which a click leads, unless it is opened.
+    pub title: Note,
+    /// What is always shown behind it, or the empty text.
     pub note: String,
+    /// What is shown if it is opened.
+    pub steps: Vec<Note>,
 }
 
 /// A line of a source.
@@ -55,8 +80,10 @@ pub struct Line {
     pub end: usize,
     /// Whether it is compiled.
     pub is_live: bool,
-    /// Why it isn't, or the empty text.
-    pub reason: String,
+    /// Why it isn't, or the empty text, and the id of the line that decides it.
+    pub reason: Note,
+    /// Whether the line before isn't compiled for the same reason.
+    pub is_continued: bool,
     /// What is shown below it, or the empty text.
     pub note: String,
     /// Its marks, in their order.
@@ -77,14 +104,14 @@ struct Writer<'a> {
     done: usize,
 }
 
-/// Appends a source to a page. Each line has an id: the prefix and its number, from 1.
+/// Appends a source to a page. Each line has an id: that of the source, `-` and its number, from 1.
 ///
 /// What is marked twice is marked once, and what is marked or lined outside of the source isn't.
 pub fn push_source(
     alloc: Global,
     page: &mut String,
     source: &str,
-    prefix: &str,
+    id: &str,
     lines: &[Line],
 ) -> Result<(), AllocError>
     ensures { OnOk result (ShowsMore (string_bytes page.old) (string_bytes page.new) (chars source.now)) }
@@ -94,19 +121,19 @@ pub fn push_source(
         source,
         done: 0,
     };
-    writer.push_lines(alloc, prefix, lines)?;
+    writer.push_lines(alloc, id, lines)?;
     writer.push_up_to(source.len())?;
     page.push_str(writer.text.as_str())
 }
 
 impl<'a> Writer<'a> {
-    fn push_lines(&mut self, alloc: Global, prefix: &str, lines: &[Line]) -> Result<(), AllocError>
+    fn push_lines(&mut self, alloc: Global, source: &str, lines: &[Line]) -> Result<(), AllocError>
         requires { IsWritten self.old }
         ensures written { OnOk result (IsWritten self.new) }
         ensures source { OnOk result (self.new.source.now ≡ self.old.source.now) }
     {
         for (index, line) in lines.iter().enumerate() {
-            let id = format!(in alloc; "{prefix}{}", index.saturating_add(1))?;
+            let id = format!(in alloc; "{source}-{}", index.saturating_add(1))?;
             self.push_line(id.as_str(), line)?;
         }
         Ok(())
@@ -117,15 +144,40 @@ impl<'a> Writer<'a> {
         ensures written { OnOk result (IsWritten self.new) }
         ensures source { OnOk result (self.new.source.now ≡ self.old.source.now) }
     {
-        self.open(&[
-            (Attribute::Class, line.class()),
-            (Attribute::Id, id),
-            (Attribute::Title, line.reason.as_str()),
-            (Attribute::Note, line.note.as_str()),
-        ])?;
+        self.open(
+            Element::Span,
+            &[
+                (Attribute::Class, line.class()),
+                (Attribute::Id, id),
+                (Attribute::Note, line.note.as_str()),
+            ],
+        )?;
+        self.push_reason(line)?;
         self.push_marks(line.marks.as_slice())?;
         self.push_up_to(line.end)?;
-        self.close()
+        self.close(Element::Span)
+    }
+
+    // Writes a link to what decides that a line isn't compiled. The first of several such lines is reached by keys.
+    fn push_reason(&mut self, line: &Line) -> Result<(), AllocError>
+        requires { IsWritten self.old }
+        ensures written { OnOk result (IsWritten self.new) }
+        ensures source { OnOk result (self.new.source.now ≡ self.old.source.now) }
+    {
+        if line.reason.text.is_empty() {
+            return Ok(());
+        }
+        let index = if line.is_continued { "-1" } else { "" };
+        self.open(
+            Element::Link,
+            &[
+                (Attribute::Class, "why"),
+                (Attribute::TabIndex, index),
+                (Attribute::Target, line.reason.target.as_str()),
+                (Attribute::Title, line.reason.text.as_str()),
+            ],
+        )?;
+        self.close(Element::Link)
     }
 
     fn push_marks(&mut self, marks: &[Mark]) -> Result<(), AllocError>
@@ -145,30 +197,86 @@ impl<'a> Writer<'a> {
         ensures source { OnOk result (self.new.source.now ≡ self.old.source.now) }
     {
         self.push_up_to(mark.start)?;
-        let index = if mark.note.is_empty() { "" } else { "0" };
-        self.open(&[
-            (Attribute::Class, mark.class.name()),
-            (Attribute::TabIndex, index),
-            (Attribute::Note, mark.note.as_str()),
-        ])?;
+        if mark.steps.is_empty() {
+            return self.push_plain(mark);
+        }
+        self.open(Element::Details, &[])?;
+        self.open(
+            Element::Summary,
+            &[
+                (Attribute::Class, mark.class.name()),
+                (Attribute::Title, mark.title.text.as_str()),
+            ],
+        )?;
         self.push_up_to(mark.end)?;
-        self.close()
+        self.close(Element::Summary)?;
+        self.open(Element::Span, &[(Attribute::Class, "steps")])?;
+        self.push_notes(mark.steps.as_slice())?;
+        self.close(Element::Span)?;
+        self.close(Element::Details)
     }
 
-    fn open(&mut self, attributes: &[(Attribute, &str)]) -> Result<(), AllocError>
+    // Writes a part that isn't opened.
+    fn push_plain(&mut self, mark: &Mark) -> Result<(), AllocError>
         requires { IsWritten self.old }
         ensures written { OnOk result (IsWritten self.new) }
         ensures source { OnOk result (self.new.source.now ≡ self.old.source.now) }
     {
-        open(&mut self.text, Element::Span, attributes)
+        let element = element_of(&mark.title);
+        self.open(
+            element,
+            &[
+                (Attribute::Class, mark.class.name()),
+                (Attribute::Target, mark.title.target.as_str()),
+                (Attribute::Title, mark.title.text.as_str()),
+                (Attribute::Note, mark.note.as_str()),
+            ],
+        )?;
+        self.push_up_to(mark.end)?;
+        self.close(element)
     }
 
-    fn close(&mut self) -> Result<(), AllocError>
+    fn push_notes(&mut self, notes: &[Note]) -> Result<(), AllocError>
         requires { IsWritten self.old }
         ensures written { OnOk result (IsWritten self.new) }
         ensures source { OnOk result (self.new.source.now ≡ self.old.source.now) }
     {
-        close(&mut self.text, Element::Span)
+        for note in notes {
+            self.push_note(note)?;
+        }
+        Ok(())
+    }
+
+    fn push_note(&mut self, note: &Note) -> Result<(), AllocError>
+        requires { IsWritten self.old }
+        ensures written { OnOk result (IsWritten self.new) }
+        ensures source { OnOk result (self.new.source.now ≡ self.old.source.now) }
+    {
+        let element = element_of(note);
+        self.open(
+            element,
+            &[
+                (Attribute::Target, note.target.as_str()),
+                (Attribute::Note, note.text.as_str()),
+            ],
+        )?;
+        self.close(element)
+    }
+
+    fn open(&mut self, element: Element, attributes: &[(Attribute, &str)]) -> Result<(), AllocError>
+        requires { IsWritten self.old }
+        ensures written { OnOk result (IsWritten self.new) }
+        ensures source { OnOk result (self.new.source.now ≡ self.old.source.now) }
+    {
+        open(&mut self.text, element, attributes)
+    }
+
+    fn close(&mut self, element: Element) -> Result<(), AllocError>
+        requires { IsWritten self.old }
+        ensures written { OnOk result (IsWritten self.new) }
+        ensures source { OnOk result (self.new.source.now ≡ self.old.source.now) }
+    {
+        close(&mut self.text, element)
     }
 
     // Writes the source up to a byte, unless more of it is written.
@@ -182,5 +290,14 @@ impl<'a> Writer<'a> {
         push_text(&mut self.text, piece)?;
         self.done += piece.len();
         Ok(())
+    }
+}
+
+// The element of a part with this note.
+fn element_of(note: &Note) -> Element {
+    if note.target.is_empty() {
+        Element::Span
+    } else {
+        Element::Link
     }
 }

@@ -2,8 +2,7 @@
 
 ghost use Rattle.std.specs.Prelude.{◌≡◌, [], true, OnOk, string_bytes};
 ghost use Rattle.std.specs.Str.{chars};
-ghost use Rattle.std.specs.List.{list_all};
-ghost use Rattle.glslpp_html.specs.Shown.{is_element, is_name_character};
+ghost use Rattle.glslpp_html.specs.Shown.{is_beginning, is_element};
 ghost use Rattle.glslpp_html.specs.Written.{HasAttributes, ShowsMore};
 
 use crate::text::push_value;
@@ -13,6 +12,10 @@ use std::alloc::AllocError;
 #[derive(Clone, Copy)]
 pub(crate) enum Element {
     Span,
+    Link,
+    // What can be opened, and what of it is always shown.
+    Details,
+    Summary,
     Code,
     Heading,
 }
@@ -23,6 +26,9 @@ impl Element {
     {
         match self {
             Element::Span => "span",
+            Element::Link => "a",
+            Element::Details => "details",
+            Element::Summary => "summary",
             Element::Code => "code",
             Element::Heading => "h2",
         }
@@ -38,18 +44,25 @@ pub(crate) enum Attribute {
     TabIndex,
     // What is shown beside the element.
     Note,
+    // The id in the page to which a link leads.
+    Target,
+    // The page beside this one to which a link leads.
+    Page,
 }
 
 impl Attribute {
-    fn name(self) -> &'static str
-        ensures { list_all is_name_character (chars result.now) ≡ true }
+    // What is before its value.
+    fn beginning(self) -> &'static str
+        ensures { is_beginning (chars result.now) ≡ true }
     {
         match self {
-            Attribute::Class => "class",
-            Attribute::Id => "id",
-            Attribute::Title => "title",
-            Attribute::TabIndex => "tabindex",
-            Attribute::Note => "data-note",
+            Attribute::Class => " class=\"",
+            Attribute::Id => " id=\"",
+            Attribute::Title => " title=\"",
+            Attribute::TabIndex => " tabindex=\"",
+            Attribute::Note => " data-note=\"",
+            Attribute::Target => " href=\"#",
+            Attribute::Page => " href=\"./",
         }
     }
 }
@@ -93,9 +106,7 @@ fn push_attribute(page: &mut String, attribute: Attribute, value: &str) -> Resul
     if value.is_empty() {
         return Ok(());
     }
-    page.push_str(" ")?;
-    page.push_str(attribute.name())?;
-    page.push_str("=\"")?;
+    page.push_str(attribute.beginning())?;
     push_value(page, value)?;
     page.push_str("\"")
 }

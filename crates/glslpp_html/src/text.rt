@@ -3,7 +3,7 @@
 ghost use Rattle.std.specs.Prelude.{◌≡◌, ◌++◌, OnOk, string_bytes};
 ghost use Rattle.std.specs.Str.{chars};
 ghost use Rattle.std.specs.List.{flat_map};
-ghost use Rattle.glslpp_html.specs.Shown.{escaped_character, value_character};
+ghost use Rattle.glslpp_html.specs.Shown.{escaped_character, link_character, value_character};
 
 use std::alloc::AllocError;
 
@@ -52,5 +52,30 @@ fn push_escaped(page: &mut String, c: char) -> Result<(), AllocError>
         '\r' => page.push_str("&#13;"),
         '\0' => page.push('\u{fffd}'),
         _ => page.push(c),
+    }
+}
+
+/// Appends the name of a file as a link has it.
+pub(crate) fn push_link(link: &mut String, name: &str) -> Result<(), AllocError>
+    ensures { OnOk result (chars (string_bytes link.new)
+        ≡ chars (string_bytes link.old) ++ flat_map link_character (chars name.now)) }
+{
+    'characters: for c in name.chars() {
+        push_link_character(link, c)?;
+    }
+    Ok(())
+}
+
+// Appends a character of a file's name.
+fn push_link_character(link: &mut String, c: char) -> Result<(), AllocError>
+    ensures { OnOk result (chars (string_bytes link.new)
+        ≡ chars (string_bytes link.old) ++ link_character c) }
+{
+    match c {
+        '%' => link.push_str("%25"),
+        '#' => link.push_str("%23"),
+        '?' => link.push_str("%3F"),
+        '\\' => link.push_str("%5C"),
+        _ => link.push(c),
     }
 }

@@ -10,3 +10,12 @@ returns-in-Code c = rw (chars_same (codes "code") refl) refl
 
 pub returns-in-Heading : goal.returns-in-Heading
 returns-in-Heading c = rw (chars_same (codes "h2") refl) refl
+
+pub returns-in-Link : goal.returns-in-Link
+returns-in-Link c = rw (chars_same (codes "a") refl) refl
+
+pub returns-in-Details : goal.returns-in-Details
+returns-in-Details c = rw (chars_same (codes "details") refl) refl
+
+pub returns-in-Summary : goal.returns-in-Summary
+returns-in-Summary c = rw (chars_same (codes "summary") refl) refl
