@@ -1,6 +1,6 @@
 //! What the uses of macros became: a sink of tokens that keeps those of calls alone.
 
-ghost use Rattle.std.specs.Prelude.{⊤};
+ghost use Rattle.std.specs.Prelude.{⊤, false};
 
 use pp_rs::pp::{CallPlace, TokenRef, TokenSink, ValueRef};
 use pp_rs::token::Location;
@@ -55,12 +55,20 @@ impl MacroUses {
 }
 
 impl TokenSink for MacroUses {
-    ghost takes = { λ old token new. ⊤ };
+    ghost takes = { λ _ _ _. ⊤ };
+
+    ghost refuses = { λ _ _. ⊤ };
+
+    ghost is_full = { λ _. false };
 
     fn take(&mut self, token: TokenRef<'_>) -> Result<(), AllocError> {
         match token.origin.call {
             Some(call) => self.add(call, token.value),
             None => Ok(()),
         }
+    }
+
+    fn is_full(&self) -> bool {
+        false
     }
 }

@@ -1,6 +1,6 @@
 //! The output of a source, in each form.
 
-ghost use Rattle.std.specs.Prelude.{◌≡◌, ◌≢◌, ◌⊎◌, [], true, false, None, Some, IsTrue, OnOk, IfOk, string_bytes};
+ghost use Rattle.std.specs.Prelude.{◌≡◌, ◌≢◌, ◌⊎◌, ⊤, [], true, false, None, Some, IsTrue, OnOk, IfOk, string_bytes};
 ghost use Rattle.std.specs.Str.{IsUtf8};
 ghost use Rattle.pp_lexer.specs.declared.token.TokenValue.TheVariants as value;
 ghost use Rattle.pp_rs.specs.TokenRefs.{token_of};
@@ -79,6 +79,10 @@ impl<'a> Model for Output<'a> {
 impl<'a> TokenSink for Output<'a> {
     ghost takes = { Takes };
 
+    ghost refuses = { λ _ _. ⊤ };
+
+    ghost is_full = { λ _. false };
+
     #[inline(always)]
     fn take(&mut self, token: TokenRef<'_>) -> Result<(), AllocError> {
         if token.origin.call.is_none() && token.origin.text == SOURCE_TEXT {
@@ -94,6 +98,11 @@ impl<'a> TokenSink for Output<'a> {
             Form::Tokens => self.push_item(token),
             Form::Directives | Form::Definitions => Ok(()),
         }
+    }
+
+    #[inline(always)]
+    fn is_full(&self) -> bool {
+        false
     }
 }
 
