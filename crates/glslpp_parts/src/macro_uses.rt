@@ -15,7 +15,12 @@ pub struct MacroUsed {
     pub name: Location,
     /// The tokens, with a space between each two.
     pub tokens: String,
+    /// Whether they are only the first of many, with a `…` behind them.
+    pub is_cut: bool,
 }
+
+// How many bytes of tokens are kept before more of them are left out.
+const MOST_BYTES: usize = 2_000;
 
 /// The uses of macros that gave tokens, in their order.
 #[derive(Drop)]
@@ -40,8 +45,7 @@ impl MacroUses {
             && last.text == call.text
             && last.name == call.name
         {
-            last.tokens.push(' ')?;
-            return value.push_to(&mut last.tokens);
+            return last.add(value);
         }
         let mut tokens = String::new(self.alloc);
         value.push_to(&mut tokens)?;
@@ -49,8 +53,24 @@ impl MacroUses {
             text: call.text,
             name: call.name,
             tokens,
+            is_cut: false,
         })?;
         Ok(())
+    }
+}
+
+impl MacroUsed {
+    // Takes one token more.
+    fn add(&mut self, value: ValueRef<'_>) -> Result<(), AllocError> {
+        if self.is_cut {
+            return Ok(());
+        }
+        self.tokens.push(' ')?;
+        if self.tokens.len() > MOST_BYTES {
+            self.is_cut = true;
+            return self.tokens.push('…');
+        }
+        value.push_to(&mut self.tokens)
     }
 }
 

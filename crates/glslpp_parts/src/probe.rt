@@ -1,10 +1,12 @@
 //! A text of a source's directives by which the preprocessor says which names of its conditions are not defined.
 //!
 //! Each directive is on a line, with an `#else` and an `#if` for each `#elif`. Before a condition the text has lines
-//! that ask: the preprocessor gives them only if the condition is computed.
+//! that ask: the preprocessor gives them only if the condition is computed. If conditions are explained, more lines
+//! ask: which names are defined, what the condition becomes, and which definitions are read.
 
 ghost use Rattle.std.specs.Prelude.{◌-◌, ◌^◌, ◌<◌, length};
 
+use crate::condition::{Branch, BranchWord, DefinitionLine, Tested};
 use crate::directive_line::{is_punct, name_of};
 use pp_rs::lexer::{Lexer, Token as Word, TokenValue as WordValue};
 use pp_rs::rules::Rules;
@@ -31,21 +33,6 @@ struct Inclusion {
     rest: Location,
 }
 
-/// A directive that begins or ends a part of a block.
-#[derive(Clone, Copy)]
-pub struct Branch {
-    /// The byte offset in the source of its word.
-    pub start: u32,
-    /// The byte offset of the end of its line.
-    pub end: u32,
-    /// The number of the last directive before its block that is a branch, from 0, if there is one.
-    pub around: Option<usize>,
-    /// Whether what follows it is read.
-    pub is_read: bool,
-    // The number of the line of the text that is given only then.
-    line: u32,
-}
-
 // A block that is open.
 #[derive(Clone, Copy)]
 struct Block {
@@ -53,6 +40,28 @@ struct Block {
     elifs: usize,
     // As in a branch.
     around: Option<usize>,
+    // The number of the branch that begins it.
+    first: usize,
+}
+
+// The lines of the text that ask about a condition.
+#[derive(Drop)]
+struct Asked {
+    // The line that is given if it is computed.
+    reached_line: u32,
+    // The line that gives what it becomes.
+    value_line: u32,
+    tested: Vec<Tested>,
+}
+
+impl Asked {
+    fn none(alloc: Global) -> Asked {
+        Asked {
+            reached_line: 0,
+            value_line: 0,
+            tested: Vec::new(alloc),
+        }
+    }
 }
 
 /// Where an operand of `&&` and one of `||` begin among the words of a condition, and what is open since.
@@ -93,14 +102,20 @@ pub(crate) struct Probe {
     inclusions: Vec<Inclusion>,
     /// In the same order, and that of the source.
     pub branches: Vec<Branch>,
-    /// Whether a directive of the source has the word `__LINE__`, whose value is another in the text.
-    pub has_line_numbers: bool,
+    /// In the same order, if conditions are explained.
+    pub definitions: Vec<DefinitionLine>,
+    is_explaining: bool,
     blocks: Vec<Block>,
 }
 
 impl Probe {
-    /// The text for the conditions of a source that is read by these rules.
-    pub(crate) fn of(alloc: Global, rules: Rules, source: &str) -> Result<Probe, AllocError>
+    /// The text for the conditions of a source that is read by these rules, and whether it explains them.
+    pub(crate) fn of(
+        alloc: Global,
+        rules: Rules,
+        source: &str,
+        is_explaining: bool,
+    ) -> Result<Probe, AllocError>
         requires { length source.now < 2 ^ 32 - 1 }
     {
         let mut probe = Probe {
@@ -110,7 +125,8 @@ impl Probe {
             questions: Vec::new(alloc),
             inclusions: Vec::new(alloc),
             branches: Vec::new(alloc),
-            has_line_numbers: false,
+            definitions: Vec::new(alloc),
+            is_explaining,
             blocks: Vec::new(alloc),
         };
         let mut lexer = Lexer::with_rules(alloc, source, rules);
@@ -145,14 +161,60 @@ impl Probe {
         }
     }
 
-    /// Notes that a line of the text is given, if it asks for a branch.
-    pub(crate) fn note_line(&mut self, line: u32) {
+    // The branch of whose lines this is one, if it is of one.
+    fn branch_at(&mut self, line: u32) -> Option<&mut Branch> {
         let branches = self.branches.as_mut_slice();
         let before = branches.partition_point(|branch| branch.line < line);
-        if let Some(branch) = branches.get_mut(before)
-            && branch.line == line
-        {
-            branch.is_read = true;
+        branches.get_mut(before)
+    }
+
+    /// Notes that a line of the text is given, if it asks about a branch.
+    pub(crate) fn note_line(&mut self, line: u32) {
+        if let Some(branch) = self.branch_at(line) {
+            branch.note_line(line);
+        }
+    }
+
+    /// Notes that nothing is known of the branches from a line of the text on.
+    pub(crate) fn forget_after(&mut self, line: u32) {
+        for branch in self.branches.iter_mut() {
+            if branch.line >= line {
+                branch.is_known = false;
+            }
+        }
+    }
+
+    /// The branch that is explained by what is given on a line of the text.
+    pub(crate) fn explained_by(&mut self, line: u32) -> Option<&mut Branch> {
+        let branch = self.branch_at(line)?;
+        if branch.value_line == line {
+            Some(branch)
+        } else {
+            None
+        }
+    }
+
+    /// The definition that was read if a line of the text is given.
+    pub(crate) fn definition_read(&self, line: u32) -> Option<&DefinitionLine> {
+        let definitions = self.definitions.as_slice();
+        let before = definitions.partition_point(|definition| definition.line < line);
+        match definitions.get(before) {
+            Some(definition) if definition.line == line && !definition.is_refused => {
+                Some(definition)
+            }
+            _ => None,
+        }
+    }
+
+    /// The definition of which a line of the text is the first, or that whose reading it asks for.
+    pub(crate) fn definition_at(&mut self, line: u32) -> Option<&mut DefinitionLine> {
+        let definitions = self.definitions.as_mut_slice();
+        let before = definitions.partition_point(|definition| definition.line < line);
+        let definition = definitions.get_mut(before)?;
+        if definition.first_line <= line {
+            Some(definition)
+        } else {
+            None
         }
     }
 
@@ -171,11 +233,11 @@ impl Probe {
         let Some((first, rest)) = words.split_first() else {
             return Ok(());
         };
-        if words.iter().any(|word| name_of(word) == Some("__LINE__")) {
-            self.has_line_numbers = true;
-        }
         match name_of(first).unwrap_or("") {
-            "define" | "undef" | "extension" | "pragma" => self.push_directive("", words),
+            "define" => self.push_definition(words, true, end),
+            "undef" => self.push_definition(words, false, end),
+            "extension" => self.push_extension(words, end),
+            "pragma" => self.push_directive("", words),
             "include" => {
                 let Location {
                     end: start,
@@ -188,16 +250,13 @@ impl Probe {
                 })?;
                 self.push_directive("include", &[])
             }
-            "ifdef" | "ifndef" => {
-                self.open_block()?;
-                self.push_directive("", words)?;
-                self.push_branch(first, end)
-            }
+            "ifdef" => self.open_by_name(BranchWord::Ifdef, words, end),
+            "ifndef" => self.open_by_name(BranchWord::Ifndef, words, end),
             "if" => {
                 self.open_block()?;
-                self.ask_for_names(rest)?;
+                let asked = self.ask(rest, true)?;
                 self.push_directive("if", rest)?;
-                self.push_branch(first, end)
+                self.push_branch(BranchWord::If, first, end, asked)
             }
             "elif" => {
                 let Some(block) = self.blocks.pop() else {
@@ -208,20 +267,22 @@ impl Probe {
                     ..block
                 })?;
                 self.push_directive("else", &[])?;
-                self.ask_for_names(rest)?;
+                let asked = self.ask(rest, true)?;
                 self.push_directive("if", rest)?;
-                self.push_branch(first, end)
+                self.push_branch(BranchWord::Elif, first, end, asked)
             }
             "else" => {
+                let asked = Asked::none(self.alloc);
                 self.push_directive("", words)?;
-                self.push_branch(first, end)
+                self.push_branch(BranchWord::Else, first, end, asked)
             }
             "endif" => {
                 let Some(block) = self.blocks.last().copied() else {
                     return Ok(());
                 };
+                let asked = Asked::none(self.alloc);
                 self.push_ends(block.elifs.saturating_add(1))?;
-                self.push_branch(first, end)?;
+                self.push_branch(BranchWord::Endif, first, end, asked)?;
                 self.blocks.pop();
                 Ok(())
             }
@@ -229,27 +290,181 @@ impl Probe {
         }
     }
 
+    // Takes a `#define` or an `#undef`.
+    fn push_definition(
+        &mut self,
+        words: &[Word],
+        is_definition: bool,
+        end: u32,
+    ) -> Result<(), AllocError> {
+        let first_line = self.line;
+        self.push_directive("", words)?;
+        if self.is_explaining {
+            let line = self.line;
+            self.push_answer()?;
+            self.note_definition(words, is_definition, end, first_line, line)?;
+        }
+        Ok(())
+    }
+
+    // Takes an `#extension`, whose line itself is given if it is read.
+    fn push_extension(&mut self, words: &[Word], end: u32) -> Result<(), AllocError> {
+        let line = self.line;
+        self.push_directive("", words)?;
+        if self.is_explaining {
+            self.note_definition(words, true, end, line, line)?;
+        }
+        Ok(())
+    }
+
+    fn note_definition(
+        &mut self,
+        words: &[Word],
+        is_definition: bool,
+        end: u32,
+        first_line: u32,
+        line: u32,
+    ) -> Result<(), AllocError> {
+        let [first, second, ..] = words else {
+            return Ok(());
+        };
+        let Some(name) = name_of(second) else {
+            return Ok(());
+        };
+        self.definitions.push(DefinitionLine {
+            name: String::from_str(self.alloc, name)?,
+            is_definition,
+            start: first.location.start,
+            end,
+            first_line,
+            line,
+            is_refused: false,
+        })?;
+        Ok(())
+    }
+
+    // Takes an `#ifdef` or an `#ifndef`.
+    fn open_by_name(
+        &mut self,
+        word: BranchWord,
+        words: &[Word],
+        end: u32,
+    ) -> Result<(), AllocError> {
+        let Some((first, rest)) = words.split_first() else {
+            return Ok(());
+        };
+        self.open_block()?;
+        let asked = self.ask(rest.get(..1).unwrap_or(&[]), false)?;
+        self.push_directive("", words)?;
+        self.push_branch(word, first, end, asked)
+    }
+
     // Opens a block after the last branch.
     fn open_block(&mut self) -> Result<(), AllocError> {
-        let around = self.branches.len().checked_sub(1);
-        self.blocks.push(Block { elifs: 0, around })?;
+        let first = self.branches.len();
+        self.blocks.push(Block {
+            elifs: 0,
+            around: first.checked_sub(1),
+            first,
+        })?;
         Ok(())
     }
 
     // Asks whether what follows the directive with this word is read, of which the line ends at this byte offset.
-    fn push_branch(&mut self, word: &Word, end: u32) -> Result<(), AllocError> {
-        let around = match self.blocks.last() {
-            Some(block) => block.around,
-            None => None,
+    fn push_branch(
+        &mut self,
+        word: BranchWord,
+        first: &Word,
+        end: u32,
+        asked: Asked,
+    ) -> Result<(), AllocError> {
+        let (around, first_branch) = match self.blocks.last() {
+            Some(block) => (block.around, block.first),
+            None => (None, self.branches.len()),
         };
+        let Asked {
+            reached_line,
+            value_line,
+            tested,
+        } = asked;
         self.branches.push(Branch {
-            start: word.location.start,
+            word,
+            start: first.location.start,
             end,
             around,
+            first: first_branch,
+            is_reached: false,
             is_read: false,
+            is_known: true,
+            taken: None,
+            tested,
+            value: String::new(self.alloc),
+            reached_line,
+            value_line,
             line: self.line,
         })?;
-        self.text.push('1')?;
+        self.push_answer()
+    }
+
+    // Asks about the condition with these words, which is an expression or a name.
+    fn ask(&mut self, words: &[Word], is_expression: bool) -> Result<Asked, AllocError> {
+        let mut asked = Asked::none(self.alloc);
+        if self.is_explaining {
+            asked.reached_line = self.line;
+            self.push_answer()?;
+            self.ask_for_definitions(words, &mut asked)?;
+            if is_expression {
+                self.ask_for_value(words, &mut asked)?;
+            }
+        }
+        if is_expression {
+            self.ask_for_names(words)?;
+        }
+        Ok(asked)
+    }
+
+    // Asks which names of a condition are defined.
+    fn ask_for_definitions(&mut self, words: &[Word], asked: &mut Asked) -> Result<(), AllocError> {
+        for (index, word) in words.iter().enumerate() {
+            let after = index.saturating_add(1);
+            match name_of(word) {
+                Some(name) if name != "defined" => {
+                    self.push_directive("ifdef", words.get(index..after).unwrap_or(&[]))?;
+                    asked.tested.push(Tested {
+                        name: String::from_str(self.alloc, name)?,
+                        location: word.location,
+                        is_defined: false,
+                        line: self.line,
+                        stand_in: None,
+                    })?;
+                    self.push_answer()?;
+                    self.push_directive("endif", &[])?;
+                }
+                _ => {}
+            }
+        }
+        Ok(())
+    }
+
+    // Asks what a condition becomes, with a 0 in place of each `defined` and what belongs to it.
+    fn ask_for_value(&mut self, words: &[Word], asked: &mut Asked) -> Result<(), AllocError> {
+        asked.value_line = self.line;
+        let mut next = 0;
+        for (index, word) in words.iter().enumerate() {
+            if index < next {
+                continue;
+            }
+            next = index.saturating_add(1);
+            if name_of(word) == Some("defined") {
+                next = end_of_name(words, index);
+                self.text.push(' ')?;
+                let offset = u32::try_from(self.text.len()).unwrap_or(u32::MAX);
+                stand_in(asked, words.get(index..next).unwrap_or(&[]), offset);
+                self.text.push('0')?;
+            } else {
+                self.push_words(words.get(index..next).unwrap_or(&[]))?;
+            }
+        }
         self.push_line_end()
     }
 
@@ -366,9 +581,26 @@ impl Probe {
         Ok(())
     }
 
+    // A line that is given if it is read.
+    fn push_answer(&mut self) -> Result<(), AllocError> {
+        self.text.push('1')?;
+        self.push_line_end()
+    }
+
     fn push_line_end(&mut self) -> Result<(), AllocError> {
         self.line = self.line.saturating_add(1);
         self.text.push('\n')
+    }
+}
+
+// Notes that a `defined` with the words that belong to it stands as a number at this byte offset.
+fn stand_in(asked: &mut Asked, words: &[Word], offset: u32) {
+    for word in words {
+        for tested in asked.tested.iter_mut() {
+            if tested.location == word.location {
+                tested.stand_in = Some(offset);
+            }
+        }
     }
 }
 
