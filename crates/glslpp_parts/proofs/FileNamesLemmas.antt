@@ -1,5 +1,5 @@
 -- Names of files: folders, and how names stand in rules.
-use Rattle.std.proofs.Common.{◌≡◌, ◌∙◌, ℕ, Bool, true, false, List, [], ◌∷◌, ◌++◌, ap, append_assoc, append-nil, map, refl, sym}
+use Rattle.std.proofs.Common.{◌≡◌, ◌∙◌, ℕ, Bool, true, false, if◌then◌else◌, List, [], ◌∷◌, ◌++◌, ap, append_assoc, append-nil, map, refl, sym}
 use Rattle.std.specs.Prelude.{nat_eq, ◌||◌}
 use Rattle.std.specs.Borrow.{Bor}
 use Rattle.std.specs.Cmp.Lexicographic.{pointwise}
@@ -31,3 +31,10 @@ one_more_name old new rest name is = by (is_among name old) refl
     by : (b : Bool) → is_among name old ≡ b → new ++ new_among new rest ≡ old ++ new_among old (name ∷ rest)
     by true e = let same : new ≡ old = is ∙ rw e refl in rw (same, e) refl
     by false e = let same : new ≡ old ++ name ∷ [] = is ∙ rw e refl in rw (same, e) (append_assoc old (name ∷ []) (new_among (old ++ name ∷ []) rest))
+
+-- what is said of a file whose name begins with `/`, and of another
+pub nowhere_else : (text front looked : List ℕ) (b : Bool) → text ≡ front → b ≡ true → text ≡ front ++ (if b then [] else looked)
+nowhere_else text front looked b e is = rw is (e ∙ sym (append-nil front))
+
+pub elsewhere : (new text front looked : List ℕ) (b : Bool) → text ≡ front → new ≡ text ++ looked → b ≡ false → new ≡ front ++ (if b then [] else looked)
+elsewhere new text front looked b e n is = rw is (n ∙ ap (λ t. t ++ looked) e)

@@ -4,13 +4,14 @@ pub mod DecimalLemmas
 pub mod DefinitionsLemmas
 pub mod ExtensionsLemmas
 pub mod FileNamesLemmas
+pub mod ItemsLemmas
 pub mod LineNamesLemmas
+pub mod LongOptionsLemmas
 pub mod OptionsLemmas
+pub mod PiecesLemmas
 pub mod PredefinedLemmas
 pub mod ReportsLemmas
 pub mod SpelledLemmas
-pub mod StandardsLemmas
 pub mod TextsLemmas
 pub mod VersionLemmas
 pub mod WordFilesLemmas
-pub mod ItemsLemmas

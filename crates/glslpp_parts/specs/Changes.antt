@@ -1,7 +1,7 @@
--- The definitions before a source that `-D` and `-U` leave.
-use Rattle.std.specs.Prelude.{ℕ, Bool, false, List, [], ◌∷◌, ◌++◌, if◌then◌else◌, nat_eq}
+-- The definitions before a source that `-D` and `-U` leave, and the lines before it.
+use Rattle.std.specs.Prelude.{ℕ, Bool, false, List, [], ◌∷◌, ◌++◌, if◌then◌else◌, nat_eq, codes}
 use Rattle.std.specs.Cmp.Lexicographic.{pointwise}
-use Rattle.std.specs.List.{list_any}
+use Rattle.std.specs.List.{flat_map, list_any}
 use Rattle.glslpp_parts.specs.declared.changes.Change.{Change}
 use Rattle.glslpp_parts.specs.declared.changes.Change.TheVariants.{Define, DefineCall, Undefine}
 use Rattle.std.specs.Borrow.{Bor}
@@ -26,3 +26,24 @@ kept_of (Undefine name) later = []
 abbrev pub kept : List Change → List Definition
 kept [] = []
 kept (change ∷ later) = kept_of change later ++ kept later
+
+-- the line that a `-D` with parameters is, unless a later `-U` has its name
+abbrev pub define_line : Change → List Change → List ℕ
+define_line (Define name content) later = []
+define_line (DefineCall name parameters content) later =
+    if list_any (takes_back name.now) later then []
+    else codes "#define " ++ name.now ++ parameters.now ++ codes " " ++ content.now ++ codes "\n"
+define_line (Undefine name) later = []
+
+-- the lines of each `-D` with parameters whose name no later `-U` has, in order
+abbrev pub define_lines : List Change → List ℕ
+define_lines [] = []
+define_lines (change ∷ later) = define_line change later ++ define_lines later
+
+-- the line that includes a file
+abbrev pub inclusion_line : List ℕ → List ℕ
+inclusion_line file = codes "#include \"" ++ file ++ codes "\"\n"
+
+-- the lines of the `-D`s with parameters, and then one for each file
+abbrev pub lines_before : List Change → List (List ℕ) → List ℕ
+lines_before changes files = define_lines changes ++ flat_map inclusion_line files

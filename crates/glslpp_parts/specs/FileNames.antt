@@ -1,7 +1,8 @@
 -- Names of files: their folders, other suffixes, and how they stand in rules for Make.
-use Rattle.std.specs.Prelude.{◌≡◌, ℕ, Bool, ◌||◌, if◌then◌else◌, List, [], ◌∷◌, ◌++◌, nat_eq, slice_index, unwrap_or}
+use Rattle.std.specs.Prelude.{◌≡◌, ℕ, Bool, ◌||◌, if◌then◌else◌, List, [], ◌∷◌, ◌++◌, codes, nat_eq, slice_index}
+use Rattle.std.specs.Prelude.{unwrap_or}
 use Rattle.std.specs.Cmp.Lexicographic.{pointwise}
-use Rattle.std.specs.List.{list_any}
+use Rattle.std.specs.List.{flat_map, list_any}
 use Rattle.std.specs.Path.{path_file_stem, path_parent}
 use Rattle.glslpp_parts.specs.declared.include_line.Header.{Header}
 
@@ -33,6 +34,25 @@ abbrev pub folders_for : Header → List ℕ → List (List ℕ) → List (List 
 folders_for header includer folders =
     if nat_eq (slice_index header.name.now 0) 47 then [] ∷ []
     else own_folder header includer ++ new_among (own_folder header includer) folders
+
+-- how a folder is named in messages
+abbrev pub shown_folder : List ℕ → List ℕ
+shown_folder [] = codes "."
+shown_folder (c ∷ cs) = c ∷ cs
+
+-- a folder after another one
+abbrev pub listed_folder : List ℕ → List ℕ
+listed_folder folder = codes ", `" ++ shown_folder folder ++ codes "`"
+
+-- in which folders a file was looked for
+abbrev pub looked_in : List (List ℕ) → List ℕ
+looked_in [] = codes ": no folder is given by `-I`"
+looked_in (first ∷ others) = codes " in `" ++ shown_folder first ++ codes "`" ++ flat_map listed_folder others
+
+-- what is said of a file that isn't found: by a name that begins with `/` it was looked for there alone
+abbrev pub not_found : List ℕ → List (List ℕ) → List ℕ
+not_found name folders =
+    codes "`" ++ name ++ codes "` isn't found" ++ (if nat_eq (slice_index name 0) 47 then [] else looked_in folders)
 
 -- the name of a source without its folder, and with this in place of its suffix
 abbrev pub with_suffix : List ℕ → List ℕ → List ℕ

@@ -9,6 +9,8 @@ pub mod Faults
 pub mod FileNames
 pub mod Layout
 pub mod LineNames
+pub mod LongOptions
+pub mod MakeRules
 pub mod Options
 pub mod Output
 pub mod Reading

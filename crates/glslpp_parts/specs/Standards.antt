@@ -1,7 +1,6 @@
 -- The words for versions of GLSL after `-std=`.
-use Rattle.std.specs.Prelude.{◌≡◌, ℕ, Bool, false, not, IsTrue, Option, Some, None, is_none, List, [], ◌∷◌, ◌++◌, codes}
+use Rattle.std.specs.Prelude.{◌≡◌, ℕ, Bool, false, not, IsTrue, Option, Some, None, is_none, List, [], ◌++◌, codes}
 use Rattle.std.specs.Prelude.{nat_eq, if◌then◌else◌}
-use Rattle.std.specs.Cmp.Lexicographic.{pointwise}
 use Rattle.std.specs.List.{starts_with}
 use Rattle.std.specs.Fmt.{decimal}
 use Rattle.pp_lexer.specs.declared.rules.Profile.{Profile}
@@ -15,12 +14,6 @@ use Rattle.glslpp_parts.specs.Version.{names_es}
 -- `-std=VERSION` as a long option
 abbrev pub lengthened : List ℕ → List ℕ
 lengthened word = if starts_with nat_eq word (codes "-std=") then codes "-" ++ word else word
-
--- the words of a command line, which from `--` on are no options
-abbrev pub all_lengthened : List (List ℕ) → List (List ℕ)
-all_lengthened [] = []
-all_lengthened (word ∷ words) =
-    if pointwise nat_eq word (codes "--") then word ∷ words else lengthened word ∷ all_lengthened words
 
 abbrev pub profile_word : Option Profile → List ℕ
 profile_word None = []

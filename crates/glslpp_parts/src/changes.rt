@@ -1,8 +1,8 @@
 //! The definitions that `-D` and `-U` leave.
 
-ghost use Rattle.std.specs.Prelude.{◌≡◌, ◌++◌, OnOk, IfOk};
+ghost use Rattle.std.specs.Prelude.{◌≡◌, ◌++◌, OnOk, IfOk, map, string_bytes};
 ghost use Rattle.std.specs.List.{list_any};
-ghost use Rattle.glslpp_parts.specs.Changes.{kept, kept_of, takes_back};
+ghost use Rattle.glslpp_parts.specs.Changes.{define_line, kept, kept_of, lines_before, takes_back};
 
 use std::alloc::{AllocError, Global};
 
@@ -58,19 +58,35 @@ pub fn lines_before(
     alloc: Global,
     changes: &[Change<'_>],
     files: &[&str],
-) -> Result<String, AllocError> {
+) -> Result<String, AllocError>
+    ensures { IfOk result (λ lines. string_bytes lines
+        ≡ lines_before changes.now (map (λ file. file.now) files.now)) }
+{
     let mut lines = String::new(alloc);
     for index in 0..changes.len() {
-        if let Change::DefineCall(name, parameters, content) = changes[index]
-            && !is_taken_back(name, &changes[index + 1..])
-        {
-            writeln!(lines, "#define {name}{parameters} {content}")?;
-        }
+        push_define_line(changes[index], &changes[index + 1..], &mut lines)?;
     }
     for file in files {
         writeln!(lines, "#include \"{file}\"")?;
     }
     Ok(lines)
+}
+
+// Appends the line that defines a macro with parameters, unless one of the later changes undoes it.
+fn push_define_line(
+    change: Change<'_>,
+    later: &[Change<'_>],
+    lines: &mut String,
+) -> Result<(), AllocError>
+    ensures { OnOk result (string_bytes lines.new
+        ≡ string_bytes lines.old ++ define_line change.entry later.now) }
+{
+    match change {
+        Change::DefineCall(name, parameters, content) if !is_taken_back(name, later) => {
+            writeln!(lines, "#define {name}{parameters} {content}")
+        }
+        _ => Ok(()),
+    }
 }
 
 // Whether one of the changes is a `-U` of the name.

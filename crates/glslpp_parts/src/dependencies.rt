@@ -1,8 +1,9 @@
 //! On which files an output depends, as Make and Ninja read it.
 
-ghost use Rattle.std.specs.Prelude.{◌≡◌, ◌++◌, ◌∷◌, [], IfOk, OnOk, string_bytes};
+ghost use Rattle.std.specs.Prelude.{◌≡◌, ◌++◌, ◌∷◌, [], IfOk, OnOk, map, string_bytes};
 ghost use Rattle.std.specs.Str.{chars};
 ghost use Rattle.glslpp_parts.specs.FileNames.{backslashes_after, escape_of, escaped, is_blank, with_suffix};
+ghost use Rattle.glslpp_parts.specs.MakeRules.{spaced_words, prerequisites, empty_rules, rule};
 
 use std::alloc::{AllocError, Global};
 use std::path::Path;
@@ -15,32 +16,65 @@ pub fn rule(
     targets: &[&str],
     files: &[String],
     has_phony_targets: bool,
-) -> Result<String, AllocError> {
+) -> Result<String, AllocError>
+    ensures { IfOk result (λ text. chars (string_bytes text) ≡ rule (map (λ target. chars target.now) targets.now)
+        (map (λ file. chars (string_bytes file)) files.now) has_phony_targets) }
+{
     let mut text = String::new(alloc);
-    push_joined(&mut text, targets)?;
+    push_targets(&mut text, targets)?;
     text.push(':')?;
-    let mut between = " ";
-    for file in files {
-        text.push_str(between)?;
-        push_name(alloc, &mut text, file.as_str())?;
-        between = " \\\n  ";
-    }
+    push_prerequisites(alloc, &mut text, files)?;
     text.push('\n')?;
     if has_phony_targets {
-        for file in files.iter().skip(1) {
-            push_name(alloc, &mut text, file.as_str())?;
-            text.push_str(":\n")?;
-        }
+        push_empty_rules(alloc, &mut text, files)?;
     }
     Ok(text)
 }
 
-fn push_joined(text: &mut String, words: &[&str]) -> Result<(), AllocError> {
-    let mut between = "";
-    for word in words {
-        text.push_str(between)?;
-        text.push_str(word)?;
-        between = " ";
+// Appends targets.
+fn push_targets(text: &mut String, targets: &[&str]) -> Result<(), AllocError>
+    ensures { OnOk result (chars (string_bytes text.new)
+        ≡ chars (string_bytes text.old) ++ spaced_words (map (λ target. chars target.now) targets.now)) }
+{
+    let Some((first, others)) = targets.split_first() else {
+        return Ok(());
+    };
+    text.push_str(first)?;
+    for other in others {
+        text.push(' ')?;
+        text.push_str(other)?;
+    }
+    Ok(())
+}
+
+// Appends the files on which targets depend.
+fn push_prerequisites(alloc: Global, text: &mut String, files: &[String]) -> Result<(), AllocError>
+    ensures { OnOk result (chars (string_bytes text.new)
+        ≡ chars (string_bytes text.old) ++ prerequisites (map (λ file. chars (string_bytes file)) files.now)) }
+{
+    let Some((first, others)) = files.split_first() else {
+        return Ok(());
+    };
+    text.push(' ')?;
+    push_name(alloc, text, first.as_str())?;
+    for other in others {
+        text.push_str(" \\\n  ")?;
+        push_name(alloc, text, other.as_str())?;
+    }
+    Ok(())
+}
+
+// Appends an empty rule for each file but the first.
+fn push_empty_rules(alloc: Global, text: &mut String, files: &[String]) -> Result<(), AllocError>
+    ensures { OnOk result (chars (string_bytes text.new)
+        ≡ chars (string_bytes text.old) ++ empty_rules (map (λ file. chars (string_bytes file)) files.now)) }
+{
+    let Some((first, others)) = files.split_first() else {
+        return Ok(());
+    };
+    for other in others {
+        push_name(alloc, text, other.as_str())?;
+        text.push_str(":\n")?;
     }
     Ok(())
 }

@@ -1,9 +1,9 @@
 //! The names of files that are included.
 
-ghost use Rattle.std.specs.Prelude.{◌≡◌, IfOk, OnOk, map, nat_eq};
+ghost use Rattle.std.specs.Prelude.{◌≡◌, ◌++◌, IfOk, OnOk, map, nat_eq, string_bytes};
 ghost use Rattle.std.specs.Cmp.Lexicographic.{pointwise};
 ghost use Rattle.std.specs.List.{list_any};
-ghost use Rattle.glslpp_parts.specs.FileNames.{IsWithName, folder_of, folders_for};
+ghost use Rattle.glslpp_parts.specs.FileNames.{IsWithName, folder_of, folders_for, looked_in, not_found, shown_folder};
 
 use crate::include_line::Header;
 use std::alloc::{AllocError, Global};
@@ -64,27 +64,36 @@ fn is_among(name: &str, names: &[&str]) -> bool
 }
 
 /// Returns what is said of a file that is in none of the folders.
-pub fn not_found(
-    alloc: Global,
-    header: Header<'_>,
-    folders: &[&str],
-) -> Result<String, AllocError> {
+pub fn not_found(alloc: Global, header: Header<'_>, folders: &[&str]) -> Result<String, AllocError>
+    ensures { IfOk result (λ message. string_bytes message
+        ≡ not_found header.entry.name.now (map (λ folder. folder.now) folders.now)) }
+{
     let mut message = format!(in alloc; "`{}` isn't found", header.name)?;
     if header.name.starts_with('/') {
         return Ok(message);
     }
+    push_folders(&mut message, folders)?;
+    Ok(message)
+}
+
+// Appends in which folders a file was looked for.
+fn push_folders(message: &mut String, folders: &[&str]) -> Result<(), AllocError>
+    ensures { OnOk result (string_bytes message.new
+        ≡ string_bytes message.old ++ looked_in (map (λ folder. folder.now) folders.now)) }
+{
     let Some((first, others)) = folders.split_first() else {
-        message.push_str(": no folder is given by `-I`")?;
-        return Ok(message);
+        return message.push_str(": no folder is given by `-I`");
     };
     write!(message, " in `{}`", shown(first))?;
     for other in others {
         write!(message, ", `{}`", shown(other))?;
     }
-    Ok(message)
+    Ok(())
 }
 
 // How a folder is named in messages.
-fn shown(folder: &str) -> &str {
+fn shown(folder: &str) -> &str
+    ensures { result.now ≡ shown_folder folder.now }
+{
     if folder.is_empty() { "." } else { folder }
 }

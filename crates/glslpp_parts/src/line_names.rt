@@ -3,9 +3,12 @@
 //! The library reads a `#line` with numbers alone. So it is given a text with blanks in place of the names, of the same
 //! length. Where the lines of the output come from is printed with the names.
 
-ghost use Rattle.std.specs.Prelude.{◌≡◌, ◌++◌, OnOk, IfOk, IfSome, length, string_bytes};
+ghost use Rattle.std.specs.Prelude.{◌≡◌, ◌<◌, ◌+◌, ◌^◌, ◌++◌, OnOk, IfOk, IfSome, false, length, option_map};
+ghost use Rattle.std.specs.Prelude.{string_bytes, unwrap_or};
 ghost use Rattle.std.proofs.Math.ListN.{replicate};
-ghost use Rattle.glslpp_parts.specs.LineNames.{IsBlanked};
+ghost use Rattle.std.specs.Str.{trim_start};
+ghost use Rattle.glslpp_parts.specs.LineNames.{IsBlanked, label_or, leading_digits, line_numbering, line_rest};
+ghost use Rattle.glslpp_parts.specs.LineNames.{name_length, numbering_of, past_digits, past_word, quoted_name};
 ghost use Rattle.glslpp_parts.specs.inner.Adding.{IsBlankedOnto};
 
 use crate::place::is_line_end;
@@ -46,14 +49,18 @@ pub fn without_names(alloc: Global, text: &str) -> Result<Option<String>, AllocE
 fn push_without_name(blanked: &mut String, line: &str) -> Result<bool, AllocError>
     ensures { OnOk result (IsBlankedOnto line.now (string_bytes blanked.old) (string_bytes blanked.new)) }
 {
-    let Some((before, name, behind)) = parts_of(line) else {
-        blanked.push_str(line)?;
-        return Ok(false);
-    };
-    blanked.push_str(before)?;
-    push_blanks(blanked, name.len())?;
-    blanked.push_str(behind)?;
-    Ok(true)
+    if let Some(rest) = after_word(line)
+        && let Some(front) = line.strip_suffix(rest)
+        && let Some((before, name, behind)) = split_name(rest)
+    {
+        blanked.push_str(front)?;
+        blanked.push_str(before)?;
+        push_blanks(blanked, name.len())?;
+        blanked.push_str(behind)?;
+        return Ok(true);
+    }
+    blanked.push_str(line)?;
+    Ok(false)
 }
 
 fn push_blanks(text: &mut String, count: usize) -> Result<(), AllocError>
@@ -110,42 +117,51 @@ fn may_have_names(text: &str) -> bool {
     text.contains('"') && text.contains("line")
 }
 
-// The text of a line from what follows the word of its `#line` on.
-fn after_word(line: &str) -> Option<&str> {
-    let rest = line.trim_start().strip_prefix('#')?;
-    let rest = rest.trim_start().strip_prefix("line")?;
-    if rest.starts_with(|c: char| c.is_ascii_whitespace()) {
+// What follows the word of a `#line` line.
+fn after_word(line: &str) -> Option<&str>
+    ensures { option_map (λ rest. rest.now) result ≡ line_rest line.now }
+{
+    let rest = past_word(past_word(line, "#")?, "line")?;
+    if rest.as_bytes().first()?.is_ascii_whitespace() {
         Some(rest)
     } else {
         None
     }
 }
 
-// The line up to the name of its `#line`, the name in its quotes, and what follows.
-fn parts_of(line: &str) -> Option<(&str, &str, &str)>
-    ensures { IfSome result (λ parts. line.now ≡ parts.0.now ++ parts.1.now ++ parts.2.now) }
+// What follows the white space with which a text begins, and a word.
+fn past_word<'a>(text: &'a str, word: &str) -> Option<&'a str>
+    ensures { option_map (λ rest. rest.now) result ≡ past_word text.now word.now }
 {
-    let rest = after_word(line)?;
-    let open = line
-        .len()
-        .saturating_sub(rest.len())
-        .saturating_add(rest.find('"')?);
-    let (before, named) = line.split_at_checked(open)?;
-    let end = end_of_name(named.get(1..)?)?.saturating_add(2);
-    let (name, behind) = named.split_at_checked(end)?;
+    text.trim_start().strip_prefix(word)
+}
+
+// The name in its quotes in what follows the word of a `#line` line, with what is before it and behind it.
+fn split_name(rest: &str) -> Option<(&str, &str, &str)>
+    ensures name { option_map (λ parts. parts.1.now) result ≡ quoted_name rest.now }
+    ensures whole { IfSome result (λ parts. rest.now ≡ parts.0.now ++ parts.1.now ++ parts.2.now) }
+{
+    let (front, inner) = rest.split_once('"')?;
+    let length = name_length(inner)?.saturating_add(2);
+    let (before, named) = rest.split_at_checked(front.len())?;
+    let (name, behind) = named.split_at_checked(length)?;
     Some((before, name, behind))
 }
 
-// The byte offset of the `"` that ends a name. One after a backslash doesn't.
-fn end_of_name(name: &str) -> Option<usize> {
+// How much of a name is before the `"` that ends it. One after a backslash doesn't.
+fn name_length(name: &str) -> Option<usize>
+    ensures value { result ≡ name_length false name.now }
+    ensures fits { IfSome result (λ length. length + 2 < 2 ^ 64) }
+{
+    let bytes = name.as_bytes();
     let mut is_escaped = false;
-    for (offset, c) in name.char_indices() {
+    for length in 0..bytes.len() {
         if is_escaped {
             is_escaped = false;
-        } else if c == '"' {
-            return Some(offset);
+        } else if bytes[length] == b'"' {
+            return Some(length);
         } else {
-            is_escaped = c == '\\';
+            is_escaped = bytes[length] == b'\\';
         }
     }
     None
@@ -153,27 +169,45 @@ fn end_of_name(name: &str) -> Option<usize> {
 
 // The `#line` that the line with this number is, if its own number is written in digits. Without a label it has that
 // before.
-fn mark_of<'a>(line: &'a str, at: u32, label: &'a str) -> Option<LineMark<'a>> {
-    let rest = after_word(line)?.trim_start();
-    let end = rest
-        .find(|c: char| !c.is_ascii_digit())
-        .unwrap_or(rest.len());
-    let number = rest.get(..end)?.parse::<u32>().ok()?;
-    let own = match parts_of(line) {
-        Some((_, name, _)) => name,
-        None => first_number(rest.get(end..)?.trim_start()),
-    };
+fn mark_of<'a>(line: &'a str, at: u32, label: &'a str) -> Option<LineMark<'a>>
+    ensures { option_map numbering_of result ≡ line_numbering line.now at label.now }
+{
+    let rest = after_word(line)?;
+    let (digits, behind) = split_digits(rest.trim_start());
+    let number = digits.parse::<u32>().ok()?;
     Some(LineMark {
         line: at,
         number,
-        label: if own.is_empty() { label } else { own },
+        label: label_or(label, own_label(rest, behind)),
     })
 }
 
-// The digits with which a text begins.
-fn first_number(text: &str) -> &str {
+// The label of a `#line`, or that of the one before if it has none.
+fn label_or<'a>(before: &'a str, own: &'a str) -> &'a str
+    ensures { result.now ≡ label_or before.now own.now }
+{
+    if own.is_empty() { before } else { own }
+}
+
+// What follows the number of a `#line`: a name, or the digits of another number.
+fn own_label<'a>(rest: &'a str, behind: &'a str) -> &'a str
+    ensures { result.now ≡ unwrap_or (quoted_name rest.now) (leading_digits (trim_start behind.now)) }
+{
+    match split_name(rest) {
+        Some((_, name, _)) => name,
+        None => split_digits(behind.trim_start()).0,
+    }
+}
+
+// The digits with which a text begins, and what follows them.
+fn split_digits(text: &str) -> (&str, &str)
+    ensures digits { result.0.now ≡ leading_digits text.now }
+    ensures rest { result.1.now ≡ past_digits text.now }
+{
     let end = text
-        .find(|c: char| !c.is_ascii_digit())
+        .as_bytes()
+        .iter()
+        .position(|byte| !byte.is_ascii_digit())
         .unwrap_or(text.len());
-    text.get(..end).unwrap_or("")
+    text.split_at_checked(end).unwrap_or((text, ""))
 }

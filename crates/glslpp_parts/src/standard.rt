@@ -1,8 +1,9 @@
 //! The version of a source without a `#version`, as `-std=` names it: `450`, `330core`, `310es`.
 
 ghost use Rattle.std.specs.Prelude.{◌≡◌, IfOk, IsTrue, MatchOption, OnOk, map, string_bytes};
+ghost use Rattle.glslpp_parts.specs.LongOptions.{each_option};
 ghost use Rattle.glslpp_parts.specs.Standards.{IsStandard, has_profile, profile_word, standard_word};
-ghost use Rattle.glslpp_parts.specs.Standards.{all_lengthened, lengthened};
+ghost use Rattle.glslpp_parts.specs.Standards.{lengthened};
 ghost use Rattle.glslpp_parts.specs.Version.{default_version};
 
 use crate::directive_check::{Edition, edition_of};
@@ -26,7 +27,7 @@ const PROFILES: [Option<Profile>; 4] = [
 /// Gives each word `-std=VERSION` that is an option the second dash of a long one, as `clap` asks for it. From a word
 /// `--` on there are no options. It takes memory for each such word, and fails only for want of it.
 pub fn lengthen_standards(alloc: Global, words: &mut [String]) -> Result<(), AllocError>
-    ensures { OnOk result (map string_bytes words.new ≡ all_lengthened (map string_bytes words.old)) }
+    ensures { OnOk result (map string_bytes words.new ≡ each_option lengthened (map string_bytes words.old)) }
 {
     for word in words.iter_mut() {
         if word.as_str() == "--" {

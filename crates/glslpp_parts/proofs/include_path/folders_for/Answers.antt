@@ -1,4 +1,4 @@
-use Rattle.std.proofs.Common.{◌≡◌, ◌∙◌, ◌++◌, ◌+◌, ap, drop, get_or, map, sym}
+use Rattle.std.proofs.Common.{◌∙◌, ◌++◌, ◌+◌, ap, drop, map, sym}
 use Rattle.std.proofs.lemmas.List.{drop_more}
 use Rattle.glslpp_parts.specs.FileNames.{new_among}
 use Rattle.glslpp_parts.proofs.FileNamesLemmas.{one_more_name}

@@ -2,13 +2,14 @@ use Rattle.std.proofs.Common.{◌∙◌, ap, sym, map, length, ◌<◌, arith, n
 use Rattle.std.specs.Prelude.{codes, string_bytes}
 use Rattle.std.specs.Cmp.Lexicographic.{pointwise}
 use Rattle.std.proofs.lemmas.List.{set-get_or}
-use Rattle.glslpp_parts.proofs.StandardsLemmas.{stays_from}
+use Rattle.glslpp_parts.proofs.LongOptionsLemmas.{stays_from}
+use Rattle.glslpp_parts.specs.Standards.{lengthened}
 use Rattle.glslpp_parts.proofs.standard.lengthen_standards.Goals as goal
 
 pub returns-then-eq : goal.returns-then-eq
 returns-then-eq c =
     let below : c.loop-word.word-index < length c.loop-word.words = omega arith in
     ap (map string_bytes) (set-get_or c.loop-word.words c.loop-word.word-index c.word-item.result)
-    ∙ stays_from string_bytes c.loop-word.words c.loop-word.word-index c.word-item.result below
+    ∙ stays_from lengthened string_bytes c.loop-word.words c.loop-word.word-index c.word-item.result below
     (ap (λ text. pointwise nat_eq text (codes "--")) (sym c.as_str.ensures.value) ∙ sym c.if-eq.ensures)
     ∙ sym c.loop-word.invariant
