@@ -5,6 +5,7 @@ mod depending;
 mod files;
 mod foreign;
 mod including;
+mod listing;
 mod page;
 mod preprocess;
 mod run;
@@ -29,6 +30,7 @@ use glslpp_parts::standard::{lengthen_standards, version_without_line};
 use glslpp_parts::version::Version;
 use glslpp_parts::warning::check_warnings;
 use including::{Identity, Library, identity_of, source_of};
+use listing::{Pages, index_in};
 use preprocess::{Found, preprocess};
 use std::io::IsTerminal;
 use std::process::ExitCode;
@@ -150,13 +152,22 @@ fn preprocess_into(
     let outputs = outputs_of(rt, arguments, folder)?;
     let mut is_faultless = true;
     let mut rules = String::new(rt.alloc());
+    let mut pages = Pages::new(rt.alloc());
     for (file, output) in arguments.files.as_slice().iter().zip(outputs.as_slice()) {
         let mut found = Found::new(rt.alloc());
         preprocess_file(rt, arguments, version, file, &mut found)?;
+        pages.push(
+            name_of(arguments, file),
+            output.as_str(),
+            found.summary.as_str(),
+        )?;
         let output = Some(output.as_str());
         if !write_found(rt, arguments, file, output, &found, &mut rules)? {
             is_faultless = false;
         }
+    }
+    if arguments.is_page {
+        pages.write(rt, folder)?;
     }
     write_rules(rt, arguments, rules.as_str())?;
     Ok(is_faultless)
@@ -181,11 +192,29 @@ fn outputs_of(
         for output in outputs.iter_mut() {
             output.push_str(".html")?;
         }
+        check_index(rt, arguments, outputs.as_slice(), folder)?;
     }
     for output in outputs.as_slice() {
         check_output(rt, arguments, output.as_str())?;
     }
     Ok(outputs)
+}
+
+// Fails if the index is one of the sources or their pages.
+fn check_index(
+    rt: &HostRuntime,
+    arguments: &Arguments<'_>,
+    outputs: &[String],
+    folder: &str,
+) -> Result<(), Failure> {
+    let index = index_in(rt.alloc(), folder)?;
+    check_output(rt, arguments, index.as_str())?;
+    for output in outputs {
+        if output.as_str() == index.as_str() {
+            return Err(failure_of(rt.alloc(), output.as_str(), "the page is also the index"));
+        }
+    }
+    Ok(())
 }
 
 // Writes what was found in sources, of which this is the first, if they have no error or the form shows these too.

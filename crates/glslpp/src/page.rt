@@ -1,26 +1,44 @@
 //! The page of `--html`: a source and the files that it includes, with what the preprocessor did.
 
+mod marks;
+mod sheet;
+mod steps;
+mod verdicts;
+
 use glslpp_html::page::{File, page};
-use glslpp_html::source::{Class, Line, Mark};
-use glslpp_parts::diagnostic::Diagnostic;
+use glslpp_html::source::{Class, Line, Mark, Note};
+use glslpp_parts::arguments::Arguments;
+use glslpp_parts::changes::{Change, Definition};
+use glslpp_parts::condition::Branch;
+use glslpp_parts::diagnostic::{Diagnostic, Severity};
 use glslpp_parts::macro_uses::MacroUses;
-use glslpp_parts::probe::Branch;
 use glslpp_parts::texts::Texts;
 use glslpp_parts::undefined_names::Conditions;
-use pp_rs::SOURCE_LIMIT;
-use pp_rs::lexer::{Comments, Lexer, TokenValue};
+use marks::{empty_note, marks_of, plain_mark};
 use pp_rs::pp::SOURCE_TEXT;
 use pp_rs::rules::Rules;
-use pp_rs::token::PreprocessorError;
+use sheet::{Sheet, Sheets};
 use std::alloc::{AllocError, Global};
 use std::env;
+use verdicts::{dead_branch, dead_branches};
+
+// The id of the command line in a page.
+const COMMAND: &str = "command";
 
 // A message on a line of a text.
 #[derive(Drop)]
 struct Said {
     text: u32,
     line: u32,
+    severity: Severity,
     message: String,
+}
+
+impl Said {
+    // Whether it is on a line before this one, of this text or of one before.
+    fn is_before(&self, text: u32, line: usize) -> bool {
+        self.text < text || (self.text == text && (self.line as usize) < line)
+    }
 }
 
 /// What a run over a source gives for its page.
@@ -30,16 +48,25 @@ pub(crate) struct View {
     /// What became of macros.
     pub(crate) uses: MacroUses,
     said: Vec<Said>,
+    // The macros of the command line.
+    given: Vec<String>,
 }
 
 impl View {
-    /// Nothing yet.
-    pub(crate) fn new(alloc: Global) -> View {
-        View {
+    /// Nothing yet, with these arguments.
+    pub(crate) fn new(alloc: Global, arguments: &Arguments<'_>) -> Result<View, AllocError> {
+        let mut given = Vec::new(alloc);
+        for change in arguments.changes.as_slice() {
+            if let Change::Define(name, _) = change {
+                given.push(String::from_str(alloc, name)?)?;
+            }
+        }
+        Ok(View {
             alloc,
             uses: MacroUses::new(alloc),
             said: Vec::new(alloc),
-        }
+            given,
+        })
     }
 
     /// Takes a message, if it is on a line of a file.
@@ -47,63 +74,144 @@ impl View {
         let (Some(text), Some(line)) = (diagnostic.site.text(), diagnostic.site.line()) else {
             return Ok(());
         };
-        let name = diagnostic.severity.name();
-        let message = format!(in self.alloc; "{name}: {}", diagnostic.message)?;
+        let severity = diagnostic.severity;
+        let message = format!(in self.alloc; "{}: {}", severity.name(), diagnostic.message)?;
         self.said.push(Said {
             text,
             line,
+            severity,
             message,
         })?;
         Ok(())
     }
 
+    /// Puts the messages in the order of their texts and lines.
+    pub(crate) fn sort(&mut self) -> Result<(), AllocError> {
+        self.said.sort_by_key(|said| said.line)?;
+        self.said.sort_by_key(|said| said.text)
+    }
+
     // What is said of a 1-based line of a text.
     fn note(&self, text: u32, line: usize) -> Result<String, AllocError> {
         let mut note = String::new(self.alloc);
-        for said in self.said.as_slice() {
-            if said.text == text && said.line as usize == line {
-                if !note.is_empty() {
-                    note.push('\n')?;
-                }
-                note.push_str(said.message.as_str())?;
+        let said = self.said.as_slice();
+        let before = said.partition_point(|said| said.is_before(text, line));
+        for said in said.get(before..).unwrap_or(&[]) {
+            if said.text != text || said.line as usize != line {
+                break;
             }
+            if !note.is_empty() {
+                note.push('\n')?;
+            }
+            note.push_str(said.message.as_str())?;
         }
         Ok(note)
     }
+
+    // How many messages of this severity there are on lines of a text.
+    fn count(&self, text: u32, severity: Severity) -> usize {
+        let mut count = 0usize;
+        for said in self.said.as_slice() {
+            if said.text == text && said.severity == severity {
+                count = count.saturating_add(1);
+            }
+        }
+        count
+    }
+}
+
+// What there is to count in files.
+#[derive(Clone, Copy)]
+struct Tally {
+    lines: usize,
+    live: usize,
+    errors: usize,
+    warnings: usize,
+}
+
+impl Tally {
+    fn add(&mut self, other: Tally) {
+        self.lines = self.lines.saturating_add(other.lines);
+        self.live = self.live.saturating_add(other.live);
+        self.errors = self.errors.saturating_add(other.errors);
+        self.warnings = self.warnings.saturating_add(other.warnings);
+    }
+}
+
+/// What a page is made of.
+#[derive(Clone, Copy)]
+pub(crate) struct Sight<'p, 'a> {
+    alloc: Global,
+    rules: Rules,
+    texts: &'p Texts<'a>,
+    sheets: &'p Sheets<'a>,
+    // The definitions before the source.
+    definitions: &'p [Definition<'a>],
+    conditions: &'p Conditions,
+    view: &'p View,
+}
+
+/// A page, and what is said of it in an index.
+#[derive(Drop)]
+pub(crate) struct Made {
+    /// The page.
+    pub(crate) page: String,
+    /// How much of it is compiled, and how many messages it has.
+    pub(crate) summary: String,
 }
 
 /// Returns the page of a source and the files that it includes.
-pub(crate) fn page_of(
+pub(crate) fn page_of<'p, 'a>(
     alloc: Global,
     rt: &HostRuntime,
-    texts: &Texts<'_>,
+    texts: &'p Texts<'a>,
     rules: Rules,
-    conditions: &Conditions,
-    view: &View,
-) -> Result<String, AllocError> {
-    let command = command_line(rt)?;
+    definitions: &'p [Definition<'a>],
+    conditions: &'p Conditions,
+    view: &'p View,
+) -> Result<Made, AllocError> {
+    let sheets = Sheets::of(alloc, texts)?;
+    let sight = Sight {
+        alloc,
+        rules,
+        texts,
+        sheets: &sheets,
+        definitions,
+        conditions,
+        view,
+    };
     let mut files = Vec::new(alloc);
-    for number in 0..texts.count() {
-        let Some(file) = texts.file(number) else {
-            continue;
-        };
-        let lines = lines_of(alloc, file.text, number, rules, conditions, view)?;
+    let mut total = Tally {
+        lines: 0,
+        live: 0,
+        errors: 0,
+        warnings: 0,
+    };
+    for sheet in sheets.sheets.as_slice() {
+        let lines = sight.lines(sheet)?;
+        let tally = sight.tally(sheet.number, lines.as_slice());
+        total.add(tally);
         files.push(File {
-            name: file.name,
-            text: file.text,
+            name: sheet.file.name,
+            text: sheet.file.text,
+            note: sight.note_of(sheet.number, tally)?,
             lines,
         })?;
     }
-    page(
+    let page = page(
         alloc,
         texts.name(SOURCE_TEXT),
-        command.as_str(),
+        command_line(rt)?.as_str(),
         files.as_slice(),
-    )
+    )?;
+    Ok(Made {
+        page,
+        summary: sight.summary(total)?,
+    })
 }
 
-// The words of the command line, with a space between each two.
-fn command_line(rt: &HostRuntime) -> Result<String, AllocError> {
+/// Returns the words of the command line, with a space between each two.
+pub(crate) fn command_line(rt: &HostRuntime) -> Result<String, AllocError> {
     let mut command = String::new(rt.alloc());
     let Ok(words) = env::args(rt) else {
         return Ok(command);
@@ -117,45 +225,192 @@ fn command_line(rt: &HostRuntime) -> Result<String, AllocError> {
     Ok(command)
 }
 
-// The lines of a text with this number.
-fn lines_of(
-    alloc: Global,
-    text: &str,
-    number: u32,
-    rules: Rules,
-    conditions: &Conditions,
-    view: &View,
-) -> Result<Vec<Line>, AllocError> {
-    let branches = branches_of(conditions, number);
-    let ends = line_ends(alloc, text)?;
-    let mut marks = marks_of(alloc, text, number, rules, view)?;
-    marks.reverse();
-    let mut lines = Vec::new(alloc);
-    let mut start = 0;
-    for end in ends.as_slice() {
-        let dead = dead_branch(branches, start, *end);
-        let reason = match dead {
-            Some(branch) => reason_of(alloc, text, ends.as_slice(), branch)?,
-            None => String::new(alloc),
-        };
-        lines.push(Line {
-            end: *end,
-            is_live: dead.is_none(),
-            reason,
-            note: view.note(number, lines.len().saturating_add(1))?,
-            marks: marks_before(alloc, &mut marks, *end)?,
-        })?;
-        start = *end;
+impl<'p, 'a> Sight<'p, 'a> {
+    // What there is to count in a file with these lines.
+    fn tally(&self, number: u32, lines: &[Line]) -> Tally {
+        Tally {
+            lines: lines.len(),
+            live: count_live(lines),
+            errors: self.view.count(number, Severity::Error),
+            warnings: self.view.count(number, Severity::Warning),
+        }
     }
-    Ok(lines)
+
+    // How much is compiled, and how many messages there are.
+    fn summary(&self, tally: Tally) -> Result<String, AllocError> {
+        let mut summary = if self.conditions.are_known {
+            format!(in self.alloc; "{} of {} lines compiled", tally.live, tally.lines)?
+        } else {
+            String::from_str(self.alloc, "which lines are compiled is not known")?
+        };
+        for (count, name) in [(tally.errors, "error"), (tally.warnings, "warning")] {
+            if count > 0 {
+                let plural = if count == 1 { "" } else { "s" };
+                write!(summary, ", {count} {name}{plural}")?;
+            }
+        }
+        Ok(summary)
+    }
+
+    // The same of a text, and where it is included.
+    fn note_of(&self, number: u32, tally: Tally) -> Result<String, AllocError> {
+        let mut note = self.summary(tally)?;
+        if let Some(inclusion) = self.texts.inclusion(number) {
+            let name = self.texts.name(inclusion.text);
+            write!(
+                note,
+                ", included by {name}, line {}",
+                inclusion.location.line
+            )?;
+        }
+        Ok(note)
+    }
+
+    fn lines(&self, sheet: &Sheet<'_>) -> Result<Vec<Line>, AllocError> {
+        let number = sheet.number;
+        let branches = if self.conditions.are_known {
+            self.conditions.branches(number)
+        } else {
+            &[]
+        };
+        let dead_branches = dead_branches(self.alloc, branches)?;
+        let mut marks = marks_of(self, sheet)?;
+        marks.reverse();
+        let mut lines = Vec::new(self.alloc);
+        let mut start = 0;
+        let mut last = None;
+        for end in sheet.ends.as_slice() {
+            let dead = dead_branch(branches, dead_branches.as_slice(), start, *end);
+            let is_last = *end == sheet.file.text.len();
+            lines.push(Line {
+                end: *end,
+                is_live: dead.is_none(),
+                reason: self.reason_of(number, branches, dead)?,
+                is_continued: last == dead,
+                note: self.view.note(number, lines.len().saturating_add(1))?,
+                marks: marks_before(self.alloc, &mut marks, *end, is_last)?,
+            })?;
+            start = *end;
+            last = dead;
+        }
+        Ok(lines)
+    }
+
+    // Why a line isn't compiled, of which this is the outermost branch for which it isn't.
+    fn reason_of(
+        &self,
+        number: u32,
+        branches: &[Branch],
+        dead: Option<usize>,
+    ) -> Result<Note, AllocError> {
+        let Some(index) = dead else {
+            return Ok(empty_note(self.alloc));
+        };
+        match branches.get(index) {
+            Some(branch) => self.reason(number, branches, branch),
+            None => Ok(empty_note(self.alloc)),
+        }
+    }
+
+    /// Appends links from `#include` lines of a text to what they include.
+    fn push_inclusions(&self, marks: &mut Vec<Mark>, number: u32) -> Result<(), AllocError> {
+        for sheet in self.sheets.sheets.as_slice() {
+            match self.texts.inclusion(sheet.number) {
+                Some(inclusion) if inclusion.text == number => {
+                    let (start, end) = (inclusion.location.start, inclusion.location.end);
+                    let mut mark = plain_mark(
+                        self.alloc,
+                        start as usize,
+                        end as usize,
+                        Class::Directive,
+                    );
+                    mark.title.text.push_str(sheet.file.name)?;
+                    mark.title.target = self.sheets.id(sheet.number)?;
+                    marks.push(mark)?;
+                }
+                _ => {}
+            }
+        }
+        Ok(())
+    }
+
+    // Where a name is defined as it is at a byte offset of a text, if it is.
+    fn definition(&self, name: &str, text: u32, offset: u32) -> Result<Option<Note>, AllocError> {
+        if let Some(line) = self.conditions.history.last_line(name, text, offset) {
+            if !line.is_definition {
+                return Ok(None);
+            }
+            return Ok(Some(
+                self.sheets
+                    .directive(line.text, line.start, line.end, text)?,
+            ));
+        }
+        let Some(content) = self.given(name) else {
+            return Ok(None);
+        };
+        let is_of_command = self.view.given.iter().any(|other| other.as_str() == name);
+        Ok(Some(if is_of_command {
+            Note {
+                text: format!(in self.alloc; "-D {name}={content}")?,
+                target: String::from_str(self.alloc, COMMAND)?,
+            }
+        } else {
+            Note {
+                text: format!(in self.alloc; "{name} is {content} before the source")?,
+                target: String::new(self.alloc),
+            }
+        }))
+    }
+
+    // The same, unless it is the line of the definition itself.
+    fn definition_for(
+        &self,
+        name: &str,
+        text: u32,
+        offset: u32,
+    ) -> Result<Option<Note>, AllocError> {
+        match self.conditions.history.last_line(name, text, offset) {
+            Some(line) if line.text == text && line.start <= offset && offset < line.end => Ok(
+                None,
+            ),
+            _ => self.definition(name, text, offset),
+        }
+    }
+
+    // The content of a macro that is defined before the source.
+    fn given(&self, name: &str) -> Option<&'a str> {
+        let mut found = None;
+        for (other, content) in self.definitions {
+            if *other == name {
+                found = Some(*content);
+            }
+        }
+        found
+    }
 }
 
-// Takes the marks before a byte offset from the end of these, which are in the order from the last to the first.
-fn marks_before(alloc: Global, marks: &mut Vec<Mark>, end: usize) -> Result<Vec<Mark>, AllocError> {
+fn count_live(lines: &[Line]) -> usize {
+    let mut count = 0usize;
+    for line in lines {
+        if line.is_live {
+            count = count.saturating_add(1);
+        }
+    }
+    count
+}
+
+// Takes the marks before a byte offset, or all, from the end of these, which are in the order from the last to the
+// first.
+fn marks_before(
+    alloc: Global,
+    marks: &mut Vec<Mark>,
+    end: usize,
+    are_all: bool,
+) -> Result<Vec<Mark>, AllocError> {
     let mut before = Vec::new(alloc);
     for _ in 0..marks.len() {
         match marks.last() {
-            Some(mark) if mark.start < end => {
+            Some(mark) if are_all || mark.start < end => {
                 if let Some(mark) = marks.pop() {
                     before.push(mark)?;
                 }
@@ -164,208 +419,4 @@ fn marks_before(alloc: Global, marks: &mut Vec<Mark>, end: usize) -> Result<Vec<
         }
     }
     Ok(before)
-}
-
-// The byte offsets in a text at which its lines end, each behind its line end.
-fn line_ends(alloc: Global, text: &str) -> Result<Vec<usize>, AllocError> {
-    let mut ends = Vec::new(alloc);
-    let mut last = None;
-    for (offset, byte) in text.bytes().enumerate() {
-        let behind = offset.saturating_add(1);
-        match (last, byte) {
-            // CR LF and LF CR are one line end each.
-            (Some(b'\r'), b'\n') | (Some(b'\n'), b'\r') => {
-                ends.pop();
-                ends.push(behind)?;
-                last = None;
-            }
-            (_, b'\n' | b'\r') => {
-                ends.push(behind)?;
-                last = Some(byte);
-            }
-            _ => last = None,
-        }
-    }
-    if ends.last() != Some(&text.len()) {
-        ends.push(text.len())?;
-    }
-    Ok(ends)
-}
-
-// The branches of a text, if it is known which of them are read.
-fn branches_of(conditions: &Conditions, number: u32) -> &[Branch] {
-    if !conditions.are_known {
-        return &[];
-    }
-    for (text, branches) in conditions.branches.as_slice() {
-        if *text == number {
-            return branches.as_slice();
-        }
-    }
-    &[]
-}
-
-// The outermost branch for which a line isn't read that begins and ends at these byte offsets. The line of a directive
-// that begins or ends a branch is read if what is around its block is.
-fn dead_branch(branches: &[Branch], start: usize, end: usize) -> Option<Branch> {
-    let behind = branches.partition_point(|branch| (branch.end as usize) <= start);
-    let mut next = match branches.get(behind) {
-        Some(branch) if (branch.start as usize) < end => branch.around,
-        _ => behind.checked_sub(1),
-    };
-    let mut dead = None;
-    for _ in 0..branches.len() {
-        let Some(index) = next else {
-            return dead;
-        };
-        let Some(branch) = branches.get(index) else {
-            return dead;
-        };
-        if !branch.is_read {
-            dead = Some(*branch);
-        }
-        next = branch.around;
-    }
-    dead
-}
-
-// Why the lines of a branch aren't read.
-fn reason_of(
-    alloc: Global,
-    text: &str,
-    ends: &[usize],
-    branch: Branch,
-) -> Result<String, AllocError> {
-    let line = ends.partition_point(|end| *end <= branch.start as usize);
-    let directive = text
-        .get(branch.start as usize..branch.end as usize)
-        .unwrap_or("");
-    let number = line.saturating_add(1);
-    format!(in alloc; "not compiled, by line {number}: #{}", directive.trim())
-}
-
-// The comments, the numbers, the words of directives and the uses of macros of a text, in their order.
-fn marks_of(
-    alloc: Global,
-    text: &str,
-    number: u32,
-    rules: Rules,
-    view: &View,
-) -> Result<Vec<Mark>, AllocError> {
-    let mut marks = Vec::new(alloc);
-    if text.len() >= SOURCE_LIMIT {
-        return Ok(marks);
-    }
-    push_comments(alloc, &mut marks, text)?;
-    push_words(alloc, &mut marks, text, rules)?;
-    for used in view.uses.uses.as_slice() {
-        if used.text == number {
-            marks.push(Mark {
-                start: used.name.start as usize,
-                end: used.name.end as usize,
-                class: Class::Macro,
-                note: String::from_str(alloc, used.tokens.as_str())?,
-            })?;
-        }
-    }
-    marks.sort_by_key(|mark| mark.start)?;
-    Ok(marks)
-}
-
-// Appends the comments of a text, each of its lines for itself.
-fn push_comments(alloc: Global, marks: &mut Vec<Mark>, text: &str) -> Result<(), AllocError> {
-    let Some(comments) = Comments::try_new(text) else {
-        return Ok(());
-    };
-    'comments: for place in comments {
-        let mut start = place.start as usize;
-        let comment = text.get(start..place.end as usize).unwrap_or("");
-        for line in comment.split_inclusive(is_cut) {
-            let end = start.saturating_add(line.len());
-            push_comment(alloc, marks, start, line)?;
-            start = end;
-        }
-    }
-    Ok(())
-}
-
-// Appends a part of a comment that ends with its line or with a character that changes the order of others.
-fn push_comment(
-    alloc: Global,
-    marks: &mut Vec<Mark>,
-    start: usize,
-    part: &str,
-) -> Result<(), AllocError> {
-    let plain = part.trim_end_matches(changes_order);
-    let end = start.saturating_add(plain.len());
-    marks.push(mark(alloc, start, end, Class::Comment))?;
-    if let Some(c) = part.chars().next_back()
-        && changes_order(c)
-    {
-        marks.push(Mark {
-            start: end,
-            end: start.saturating_add(part.len()),
-            class: Class::Direction,
-            note: format!(in alloc; "U+{:04X}", c as u32)?,
-        })?;
-    }
-    Ok(())
-}
-
-// Appends the numbers of a text and the words of its directives.
-fn push_words(
-    alloc: Global,
-    marks: &mut Vec<Mark>,
-    text: &str,
-    rules: Rules,
-) -> Result<(), AllocError> {
-    let Some(mut lexer) = Lexer::try_with_rules(alloc, text, rules) else {
-        return Ok(());
-    };
-    let mut hash = None;
-    'words: while let Some(item) = lexer.next() {
-        let token = match item {
-            Ok(token) => token,
-            Err((PreprocessorError::OutOfMemory, _)) => return Err(AllocError),
-            Err((_error, _)) => {
-                hash = None;
-                continue;
-            }
-        };
-        let (start, end) = (token.location.start as usize, token.location.end as usize);
-        match (&token.value, hash) {
-            (TokenValue::Hash, _) if token.start_of_line => {
-                hash = Some(start);
-                continue;
-            }
-            (TokenValue::Ident(_), Some(first)) => {
-                marks.push(mark(alloc, first, end, Class::Directive))?
-            }
-            (TokenValue::Integer(_) | TokenValue::Float(_), _) => {
-                marks.push(mark(alloc, start, end, Class::Number))?
-            }
-            _ => {}
-        }
-        hash = None;
-    }
-    Ok(())
-}
-
-fn mark(alloc: Global, start: usize, end: usize, class: Class) -> Mark {
-    Mark {
-        start,
-        end,
-        class,
-        note: String::new(alloc),
-    }
-}
-
-// Whether a part of a comment ends with a character.
-fn is_cut(c: char) -> bool {
-    c == '\n' || c == '\r' || changes_order(c)
-}
-
-// Whether a character changes the order in which others are shown (Unicode Standard Annex 9).
-fn changes_order(c: char) -> bool {
-    matches!(c, '\u{61c}' | '\u{200e}' | '\u{200f}' | '\u{202a}'..='\u{202e}' | '\u{2066}'..='\u{2069}')
 }

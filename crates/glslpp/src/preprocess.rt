@@ -28,6 +28,8 @@ pub struct Found {
     pub errors: usize,
     /// The names of the files that were read so far.
     pub files: Vec<String>,
+    /// What is said in an index of the page of the last source, if it has one.
+    pub summary: String,
 }
 
 impl Found {
@@ -40,6 +42,7 @@ impl Found {
             output: String::new(alloc),
             errors: 0,
             files: Vec::new(alloc),
+            summary: String::new(alloc),
         }
     }
 }
@@ -64,6 +67,7 @@ pub fn preprocess<'x>(
     let ended = run_over(alloc, reporter, arguments, version, source, library)?;
     found.output.push_str(ended.output.as_str())?;
     found.errors = found.errors.saturating_add(ended.errors);
+    found.summary = ended.summary;
     push_new(&mut found.files, ended.files)?;
     Ok(ended.reports)
 }
@@ -168,7 +172,7 @@ fn run_over_items<'x>(
     requires { length source.text.now < 2 ^ 32 - 1 }
 {
     let conditions = if arguments.warnings.undef || arguments.is_page {
-        search_conditions(alloc, &mut library, source, setting)?
+        search_conditions(alloc, &mut library, source, setting, arguments.is_page)?
     } else {
         Conditions::none(alloc)
     };

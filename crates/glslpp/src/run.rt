@@ -8,7 +8,7 @@ mod included;
 mod messages;
 
 use crate::including::Library;
-use crate::page::{View, page_of};
+use crate::page::{Made, View, page_of};
 use glslpp_parts::arguments::{Arguments, Form};
 use glslpp_parts::diagnostic::Diagnostic;
 use glslpp_parts::explainer::Explainer;
@@ -46,6 +46,8 @@ struct Reading<'a> {
 pub(crate) struct Ended {
     /// The output.
     pub(crate) output: String,
+    /// What is said of a page in an index, if the output is one.
+    pub(crate) summary: String,
     /// The messages.
     pub(crate) reports: String,
     /// The number of errors.
@@ -127,7 +129,7 @@ impl<'a> Run<'a> {
             unused: Vec::new(alloc),
             conditions,
             view: if arguments.is_page {
-                Some(View::new(alloc))
+                Some(View::new(alloc, arguments)?)
             } else {
                 None
             },
@@ -169,19 +171,28 @@ impl<'a> Run<'a> {
             ..
         } = self;
         let files = library.names()?;
-        let output = match view {
-            Some(view) => page_of(
-                alloc,
-                library.runtime(),
-                output.texts(),
-                setting.rules,
-                &conditions,
-                &view,
-            )?,
-            None => text_of_output(listed, output)?,
+        let made = match view {
+            Some(mut view) => {
+                view.sort()?;
+                page_of(
+                    alloc,
+                    library.runtime(),
+                    output.texts(),
+                    setting.rules,
+                    setting.definitions,
+                    &conditions,
+                    &view,
+                )?
+            }
+            None => Made {
+                page: text_of_output(listed, output)?,
+                summary: String::new(alloc),
+            },
         };
+        let Made { page, summary } = made;
         Ok(Ended {
-            output,
+            output: page,
+            summary,
             reports,
             errors,
             files,

@@ -15,14 +15,16 @@ use pp_rs::token::{PreprocessorError, Token};
 use std::alloc::{AllocError, Global};
 
 /// Finds the names that are not defined in conditions that are computed, and the branches that are read, up to the
-/// first condition with an error, and no further than the budget allows.
+/// first condition with an error, and no further than the budget allows. If they are explained, also what they became,
+/// and where macros are defined.
 pub(crate) fn search_conditions<'x>(
     alloc: Global,
     library: &mut Library<'x>,
     source: File<'x>,
     setting: Setting<'x>,
+    is_explaining: bool,
 ) -> Result<Conditions, Failure> {
-    let names = UndefinedNames::new(alloc, setting.rules, source)?;
+    let names = UndefinedNames::new(alloc, setting.rules, source, is_explaining)?;
     let text = library.keep(names.probe_text(SOURCE_TEXT))?;
     if text.len() >= SOURCE_LIMIT {
         return Ok(names.finish(false)?);
@@ -70,7 +72,12 @@ impl<'l, 'x> Search<'l, 'x> {
                 }
                 Err((PreprocessorError::OutOfMemory, _)) => return Err(Failure::OutOfMemory),
                 Err((_error, _)) => {
-                    if items.include_line().is_none() || !self.take_include(items)? {
+                    let is_told = if items.include_line().is_some() {
+                        self.take_include(items)?
+                    } else {
+                        self.names.take_error(items.place(), items.origin())
+                    };
+                    if !is_told {
                         return Ok(false);
                     }
                 }
@@ -82,7 +89,7 @@ impl<'l, 'x> Search<'l, 'x> {
     fn take(&mut self, items: &mut Preprocessor<'x>, token: &Token) -> Result<(), AllocError> {
         let origin = items.origin();
         if define_extension(items, &token.value, self.setting.extensions)? {
-            self.names.add_extension()?;
+            self.names.add_extension(origin.text, token.location.line)?;
         }
         if is_once(&token.value)
             && let Some(file) = self.names.texts().file(origin.text)
