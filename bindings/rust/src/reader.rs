@@ -181,9 +181,10 @@ impl<'a> Reader<'a> {
 
     /// Bounds the steps that the items may take, from the first item on, or not if it is 0, as without this call.
     ///
-    /// A step is a token that is read, put on a list, or passed in the body or an argument of a macro. If more are needed
-    /// for the items that are made next, `next` returns [`Error::OverBudget`]. So the time and the memory that a `next`
-    /// takes are bounded by the number, and by the length of the longest token.
+    /// A step is a token that is read, put on a list, or passed in the body or an argument of a macro. Some hundred bytes
+    /// of dead text may be one step. If more are needed for the items that are made next, `next` returns
+    /// [`Error::OverBudget`]. So the time and the memory that a `next` takes are bounded by the number, and by the length
+    /// of the longest token.
     pub fn set_budget(&mut self, steps: u64) {
         self.stream.set_budget(steps);
     }

@@ -162,8 +162,9 @@ uint32_t pp_preprocess(const uint8_t *source, size_t source_length, const uint8_
 
 /* The same by the rules of the options, within their budget, and up to their number of items.
  *
- * A step is a token that is read, put on a list, or passed in the body or an argument of a macro. So the budget bounds the
- * time and the memory of a call, with the length of the longest token and the definitions, which take no steps.
+ * A step is a token that is read, put on a list, or passed in the body or an argument of a macro; some hundred bytes of
+ * dead text may be one step. So the budget bounds the time and the memory of a call, with the length of the longest token
+ * and the definitions, which take no steps.
  *
  * With PP_PARTIAL `most_items` items are there, the first of those that a call for more gives; it takes the time of these
  * alone. A definition whose number they don't reach was added after them. With PP_DONE there are fewer, and the end was

@@ -156,9 +156,9 @@ pub extern "C" fn pp_preprocess(
 /// of items. With 0 for each of these it is the same.
 ///
 /// A step is a token that is read, put on a list, or passed in the body or an argument of a macro, wherever that
-/// happens. If the items need more steps than the budget has, the status is `PP_OVER_BUDGET`. So the time and the
-/// memory that a call takes are bounded by the budget, by the length of the longest token, and by the definitions,
-/// which take no steps.
+/// happens. Some hundred bytes of dead text may be one step. If the items need more steps than the budget has, the
+/// status is `PP_OVER_BUDGET`. So the time and the memory that a call takes are bounded by the budget, by the length
+/// of the longest token, and by the definitions, which take no steps.
 ///
 /// If `most_items` isn't 0, the call stops after so many items, and takes no more time than these and the definitions
 /// do. Items that belong to another item don't count. Then the status is `PP_PARTIAL`, also if no item follows, and a

@@ -12,6 +12,7 @@ pub mod SkippingLemmas
 pub mod NotedLemmas
 pub mod PlainWordLemmas
 pub mod SourceStepLemmas
+pub mod PassedWordsLemmas
 pub mod TextEndLemmas
 pub mod ConditionActsLemmas
 pub mod LineTurnLemmas

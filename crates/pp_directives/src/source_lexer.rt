@@ -5,7 +5,7 @@ ghost use Rattle.pp_lexer.specs.Lexed.{start_by};
 ghost use Rattle.pp_lexer.specs.Spots.{spots_of};
 ghost use Rattle.pp_lexer.specs.declared.lexer.plain.Form.TheVariants.{Hash};
 ghost use Rattle.pp_directives.specs.inner.PlainText.{IsPeeked, PassesBlanks, PassesWord, TakesWordToken};
-ghost use Rattle.pp_directives.specs.inner.PlainText.{PassesNewline};
+ghost use Rattle.pp_directives.specs.inner.PlainText.{PassesNewline, PassesWords};
 ghost use Rattle.pp_directives.specs.inner.Skipping.{IsOver};
 ghost use Rattle.pp_directives.specs.inner.Suspending.{IsReadable, IsTakenFrom, reading};
 ghost use Rattle.pp_directives.specs.inner.TokenTaking.{TakesToken};
@@ -182,6 +182,21 @@ impl<'a> SourceLexer<'a> {
         ensures { PassesNewline self.old result self.new }
     {
         self.lexer.pass_newline()
+    }
+
+    /// Passes words and newlines that come next, if they are known to be no errors, and returns whether it did.
+    /// Otherwise it changes nothing. They are one step: if none is left to pay for it, the next step of the source
+    /// fails.
+    #[inline(always)]
+    pub fn pass_words(&mut self) -> bool
+        requires { self.old.spent ≡ false }
+        ensures { PassesWords self.old result self.new }
+    {
+        if self.budget.is_over() || !self.lexer.pass_words() {
+            return false;
+        }
+        drop(self.budget.pay(1));
+        true
     }
 
     /// The next token, or nothing at the end. If no step is left to pay for it, the next step of the source fails.

@@ -12,3 +12,4 @@ pub mod TokenLinesLemmas
 pub mod CountLemmas
 pub mod NextWordLemmas
 pub mod LineStartLemmas
+pub mod TameItemsLemmas

@@ -10,3 +10,4 @@ pub mod PlainWordsLemmas
 pub mod PlainPunctuationLemmas
 pub mod SetsLemmas
 pub mod BoundedLemmas
+pub mod TameLemmas

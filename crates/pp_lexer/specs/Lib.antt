@@ -35,6 +35,7 @@ pub mod Items
 pub mod Kept
 pub mod Lexed
 pub mod PlainItems
+pub mod PassedWords
 pub mod ItemLaws
 pub mod Respelling
 pub mod inner

@@ -13,3 +13,4 @@ pub mod Passing
 pub mod PlainWords
 pub mod Positions
 pub mod Lanes
+pub mod Tame

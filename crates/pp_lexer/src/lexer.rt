@@ -17,6 +17,7 @@ ghost use Rattle.pp_lexer.specs.inner.Passing.{is_newline_result, newline_seen, 
 ghost use Rattle.pp_lexer.specs.inner.Passing.{SeesSame, IsRead};
 ghost use Rattle.pp_lexer.specs.inner.AfterSpaces.{IsAfterSpaces};
 ghost use Rattle.pp_lexer.specs.PlainItems.{is_newline_lexeme, IsNextWord, PassesBlanks, PassesNewline};
+ghost use Rattle.pp_lexer.specs.PassedWords.{PassesOthers};
 
 use crate::rules::Rules;
 use crate::token::{Location, NOWHERE, PreprocessorError, out_of_memory};
@@ -46,7 +47,9 @@ use chars_and_line::Left;
 pub use comments::Comments;
 pub use item::{LexerItem, Token, TokenValue};
 pub use plain::Form;
-use plain::{begins_comment, newline_length, plain_comment, plain_word, spaces_length};
+use plain::{
+    begins_comment, newline_length, plain_comment, plain_word, plain_words, spaces_length,
+};
 pub use plain_item::{PlainItem, plain_value, without_suffix};
 pub use position::line_column;
 pub use replace_comments::{COMMENT_SENTINEL_VALUE, ReplaceComments};
@@ -549,6 +552,48 @@ impl<'a> Lexer<'a> {
             return false;
         }
         self.state.next_newline().is_some()
+    }
+
+    /// Passes words and newlines of plain text that come next, if their bytes alone show that none of them is an error
+    /// or a `#`, and returns whether it did. Otherwise it changes nothing. It passes some hundred bytes at most, but
+    /// for the last word, and may stop before a word that could be passed.
+    #[inline(always)]
+    pub fn pass_words(&mut self) -> bool
+        ensures { PassesOthers self.old result self.new }
+    {
+        if self.spent {
+            return false;
+        }
+        let left = self.state.inner.left();
+        let Some(words) = plain_words(left.text) else {
+            return false;
+        };
+        let passed = words.before + words.taken;
+        let end = left.at + passed;
+        let line = left.line + words.newlines as u32;
+        let last = Spot {
+            c: left.text.as_bytes()[passed - 1] as char,
+            line,
+            begin: end as u32 - 1,
+            end: end as u32,
+        };
+        self.state.flags = Flags {
+            leading_whitespace: false,
+            start_of_line: false,
+            had_comments: self.state.flags.had_comments,
+        };
+        self.state.place = Location {
+            start: (left.at + words.before) as u32,
+            end: end as u32,
+            line,
+        };
+        let after = Left {
+            text: &left.text[passed..],
+            line,
+            at: end,
+        };
+        self.state.inner.go(after, last);
+        true
     }
 }
 

@@ -7,8 +7,8 @@ use std::rc::Rc;
 
 /// The steps that are left for a source, if they are bounded. All readers and expanders of the source share them.
 ///
-/// A step is a token that is read, put on a list, or passed in the body or an argument of a macro. To run out of steps
-/// is answered as a failed allocation is.
+/// A step is a token that is read, put on a list, or passed in the body or an argument of a macro. Some hundred bytes
+/// of dead text may be one step. To run out of steps is answered as a failed allocation is.
 #[derive(Drop)]
 pub struct Budget {
     // One more than are left, or 0 once more were needed.

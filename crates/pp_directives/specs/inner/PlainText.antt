@@ -1,5 +1,5 @@
 -- A word of plain text, before memory is taken for it.
-use Rattle.std.specs.Prelude.{◌≡◌, ◌≢◌, ℕ, Bool, true, false, not, List, Option, Some, None, Ok, Err, []}
+use Rattle.std.specs.Prelude.{◌≡◌, ◌≢◌, ℕ, zero, suc, Bool, true, false, not, List, Option, Some, None, Ok, Err, []}
 use Rattle.std.specs.Prelude.{MatchBool, MatchOption, position}
 use Rattle.std.specs.Str.{IsAscii}
 use Rattle.pp_lexer.specs.Kept.{CanPass}
@@ -22,6 +22,8 @@ use Rattle.pp_macros.specs.inner.Unreported.{StepReports}
 use Rattle.pp_macros.specs.Held.{HoldsOrdinary}
 use Rattle.pp_macros.specs.Item.{PlacedStep}
 use Rattle.pp_lexer.specs.Lexed.{Lexed, comments_before}
+use Rattle.pp_lexer.specs.PassedWords.{is_number_sign}
+use Rattle.pp_lexer.specs.declared.lexer.item.Token.{Token as LexerToken}
 use Rattle.pp_lexer.specs.declared.token.Token.{Token}
 
 -- the lexer, whatever place it noted last
@@ -71,6 +73,23 @@ pub record TakesNewline (old new : SourceLexed) : Type 0 where
 abbrev pub PassesNewline : SourceLexed → Bool → SourceLexed → Type 0
 PassesNewline old answer new = MatchBool answer (TakesNewline old new) (new ≡ old)
 
+-- the next token is no `#`, and it was taken
+pub record TakesOther (old new : SourceLexed) : Type 0 where
+  pub token : LexerToken
+  pub is : next_token old.rest ≡ Ok (Some token)
+  pub no_hash : is_number_sign token.value ≡ false
+  pub takes : HasTaken 1 old new
+  pub errors : unreported_at new ≡ unreported_at old
+
+-- so many such tokens, one after another
+abbrev pub TakesOthersEach : ℕ → SourceLexed → SourceLexed → Type 0
+TakesOthersEach zero old new = new ≡ old
+TakesOthersEach (suc n) old new = (between : SourceLexed) × TakesOther old between × TakesOthersEach n between new
+
+-- at least one was taken, or nothing changed
+abbrev pub PassesWords : SourceLexed → Bool → SourceLexed → Type 0
+PassesWords old answer new = MatchBool answer ((more : ℕ) × TakesOthersEach (suc more) old new) (new ≡ old)
+
 -- one step of a source that reports the errors of its lexer
 pub record IsStep (old : Source) (step : PlacedStep Token) (new : Source) : Type 0 where
   pub reads : StepsSource old step new
@@ -109,6 +128,15 @@ pub record TakesWord (old : Source) (word : PlainItem) (act : Option ℕ) (new :
 abbrev pub GivesWord : Source → Option (PlainItem × Option ℕ) → Source → Type 0
 GivesWord old answer new = MatchOption answer (new ≡ old) (λ given. TakesWord old given.0 given.1 new)
 
--- one pause was passed, or nothing changed
-abbrev pub PausesOnce : Source → Bool → Source → Type 0
-PausesOnce old answer new = MatchBool answer (IsStep old (Err Continue) new) (new ≡ old)
+-- so many pauses, one after another
+abbrev pub PausesTimes : ℕ → Source → Source → Type 0
+PausesTimes zero old new = new ≡ old
+PausesTimes (suc n) old new = (between : Source) × IsStep old (Err Continue) between × PausesTimes n between new
+
+-- at least one was passed, or nothing changed
+abbrev pub PassesPauses : Source → Bool → Source → Type 0
+PassesPauses old answer new = MatchBool answer ((more : ℕ) × PausesTimes (suc more) old new) (new ≡ old)
+
+-- a newline was a pause, or nothing changed
+abbrev pub PausesAtNewline : Source → Bool → Source → Type 0
+PausesAtNewline old answer new = MatchBool answer (IsStep old (Err Continue) new) (new ≡ old)

@@ -3,7 +3,7 @@
 ghost use Rattle.std.specs.Prelude.{◌≡◌, ◌++◌, ◌∷◌, [], List, is_some, IfOk, IfSome};
 ghost use Rattle.pp_model.specs.declared.read.Read.{Read};
 ghost use Rattle.pp_macros.specs.inner.Reader.{of_source, nests, ReadsOnto};
-ghost use Rattle.pp_directives.specs.inner.PlainText.{IsInText, GivesWord, PausesOnce};
+ghost use Rattle.pp_directives.specs.inner.PlainText.{IsInText, GivesWord, PassesPauses, PausesAtNewline};
 
 use crate::directives::DirectiveProcessor;
 use crate::words::{act_of, is_apart, is_parenthesis};
@@ -58,21 +58,24 @@ impl<'a> DirectiveProcessor<'a> {
     #[inline(never)]
     pub fn pass_newline(&mut self) -> bool
         requires { IsInText self.old }
-        ensures pauses { PausesOnce self.old result self.new }
+        ensures pauses { PausesAtNewline self.old result self.new }
         ensures text { self.new.text ≡ self.old.text }
         ensures stays { IsInText self.new }
     {
         self.lexer.pass_newline()
     }
 
-    /// Passes a word or a newline of plain text, if one comes first in dead text, and returns whether it did. Otherwise
+    /// Passes words and newlines of plain text, if some come first in dead text, and returns whether it did. Otherwise
     /// it changes nothing. A `#` isn't passed, since it may begin a directive.
     #[inline(always)]
     pub fn pass_dead(&mut self) -> bool
-        ensures { PausesOnce self.old result self.new }
+        ensures { PassesPauses self.old result self.new }
     {
         if self.is_live() || self.lexer.is_spent() {
             return false;
+        }
+        if self.lexer.pass_words() {
+            return true;
         }
         let Some(word) = self.lexer.peek_word() else {
             return self.lexer.pass_newline();

@@ -62,6 +62,9 @@ record First (c : ℕ) : Type 0 where
 first_of : (c : ℕ) (cs : List ℕ) (p : Punctuator) → punct_of (c ∷ cs) ≡ Some p → First c
 first_of c cs p h = grind (arith, spelling_fits, ltb-true, not-true)
 
+pub punct_small : (c : ℕ) (cs : List ℕ) (p : Punctuator) → punct_of (c ∷ cs) ≡ Some p → c < 128
+punct_small c cs p h = (first_of c cs p h).small
+
 passes_of : (c : ℕ) (cs : List ℕ) (p : Punctuator) → punct_of (c ∷ cs) ≡ Some p → passes c cs ≡ true
 passes_of c cs p h = (and_parts (first_fits c) (passes c cs) (spelling_fits (c ∷ cs) p h)).1
 
@@ -112,7 +115,7 @@ one_of c d q h = by (punct_of (c ∷ [])) refl (is_punctuator-closed (c ∷ d �
     by None e t = absurd (false≢true (sym (ap is_some e) ∙ t))
     by (Some p) e t = (p, e)
 
-second_no_decimal : (c d : ℕ) (ds : List ℕ) (q : Punctuator) → punct_of (c ∷ d ∷ ds) ≡ Some q → is_decimal d ≡ false
+pub second_no_decimal : (c d : ℕ) (ds : List ℕ) (q : Punctuator) → punct_of (c ∷ d ∷ ds) ≡ Some q → is_decimal d ≡ false
 second_no_decimal c d ds q h = grind (arith, and_parts, passes_of)
 
 pair_at : (rules : Rules) (c d : ℕ) (cs : List ℕ) (q : Punctuator) → punct_of (c ∷ d ∷ []) ≡ Some q → begins_with (continues_pair c d) cs ≡ false
@@ -217,14 +220,14 @@ single_word (c ∷ text) p u some h stops =
 
 -- one that begins no other, whatever follows
 
-record Lone (c : ℕ) : Type 0 where
-  plain : is_plain c ≡ true
-  alone : (d : ℕ) → continues_punct c d ≡ false
+pub record Lone (c : ℕ) : Type 0 where
+  pub plain : is_plain c ≡ true
+  pub alone : (d : ℕ) → continues_punct c d ≡ false
 
 or_this : (c k : ℕ) (more : Bool) → Lone k → (more ≡ true → Lone c) → (if c == k then true else more) ≡ true → Lone c
 or_this c k more this other h = grind arith
 
-lone_of : (c : ℕ) → is_lone c ≡ true → Lone c
+pub lone_of : (c : ℕ) → is_lone c ≡ true → Lone c
 unfolding punct_of
 lone_of c =
     or_this c 40 _ (record { plain = refl; alone = λ d. refl })

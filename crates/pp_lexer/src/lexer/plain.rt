@@ -15,8 +15,10 @@ mod comment;
 mod lanes;
 mod number;
 mod punctuation;
+mod words;
 
 pub use comment::{line_length, plain_comment, starless_length};
+pub use words::plain_words;
 
 /// What a word of ASCII text is.
 #[derive(Clone, Copy)]

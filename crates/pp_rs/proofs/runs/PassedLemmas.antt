@@ -1,5 +1,5 @@
 -- Words of plain text that are given before memory is taken for them, and the newlines that are passed before them.
-use Rattle.std.proofs.Common.{◌≡◌, ◌∙◌, ℕ, Bool, true, false, refl, sym, ap, subst, IsTrue, Option, Some, None, Ok, Err, arith}
+use Rattle.std.proofs.Common.{◌≡◌, ◌∙◌, ◌<◌, ℕ, zero, suc, Bool, true, false, refl, sym, ap, subst, IsTrue, Option, Some, None, Ok, Err, arith}
 use Rattle.pp_lexer.specs.declared.rules.Rules.{Rules}
 use Rattle.pp_lexer.specs.TokenValue.{is_ordinary}
 use Rattle.pp_lexer.specs.declared.token.Location.{Location}
@@ -12,12 +12,13 @@ use Rattle.std.specs.Prelude.{IsSome}
 use Rattle.pp_macros.specs.inner.Ahead.{painted_as, given_next, token_given}
 use Rattle.pp_macros.specs.inner.Giving.{GivesAhead, passed}
 use Rattle.pp_macros.specs.inner.Idle.{is_idle}
+use Rattle.pp_macros.specs.inner.Left.{work_of}
 use Rattle.pp_macros.specs.inner.Reader.{of_source}
 use Rattle.pp_macros.specs.inner.Plain.{gives_itself}
 use Rattle.pp_macros.specs.inner.Expander.{Expander, kept_call}
 use Rattle.pp_macros.specs.inner.Source.{Source}
 use Rattle.pp_macros.specs.declared.step.PlacedExit.TheVariants.{Continue}
-use Rattle.pp_directives.specs.inner.PlainText.{IsStep}
+use Rattle.pp_directives.specs.inner.PlainText.{IsStep, PausesTimes}
 use Rattle.pp_rs.specs.Kept.{LastItem, Preprocessing, Stands, IsAhead, is_spent, most_items, errors_left, error_place, from_text, rules_of}
 use Rattle.pp_rs.specs.inner.NextWord.{IsPassed}
 use Rattle.pp_macros.specs.LexerErrors.{PassesErrors}
@@ -31,12 +32,27 @@ use Rattle.pp_rs.proofs.runs.Leads.{LeadsFrom}
 use Rattle.pp_rs.proofs.runs.UnreportedTurnLemmas.{errors_of}
 use Rattle.pp_directives.proofs.PassedErrorsLemmas.{passes_none}
 use Rattle.pp_rs.proofs.runs.PausesLemmas.{given_over}
-use Rattle.pp_rs.proofs.runs.NextLemmas.{Reached, reached_first, token_fits, free_kept_call, next_token}
+use Rattle.pp_rs.proofs.runs.NextLemmas.{Reached, reached_first, reached_more, falls_more, token_fits, free_kept_call, next_token}
 
 -- a newline is a turn
 pub newline_over : (m : Expander) (r s : Source) → is_idle m ≡ true → IsStep r (Err Continue) s → StepsOver expansion_limit m r (Err Continue) m s
 newline_over m r s idle step = idle_exit expansion_limit r s m Continue (Err Continue) (is_idle-idle m idle)
     (reads_step r s (Err Continue) (step.reads, step.errors) (λ e. cc)) refl
+
+-- what was reached before some pauses is reached after them, and less is left to do
+pub record ReachedOver (rules : Rules) (expander : Expander) (source : Source) (m : Expander) (r s : Source) : Type 0 where
+  pub reached : Reached rules expander source m s
+  pub less : work_of expansion_limit m (of_source s) < work_of expansion_limit m (of_source r)
+
+pub pauses_over : {rules : Rules} (n : ℕ) (expander m : Expander) (source r s : Source) → is_idle m ≡ true → Reached rules expander source m r
+    → PausesTimes (suc n) r s → ReachedOver rules expander source m r s
+pauses_over {rules} zero expander m source r s idle h t =
+    let turn = newline_over m r t.0 idle t.1 in
+    rw t.2 (record { reached = reached_more expander m m source r t.0 h turn; less = falls_more expander m m source r t.0 h turn })
+pauses_over {rules} (suc n) expander m source r s idle h t =
+    let turn = newline_over m r t.0 idle t.1 in
+    let more = pauses_over n expander m source t.0 s idle (reached_more expander m m source r t.0 h turn) t.2 in
+    record { reached = more.reached; less = omega (arith, more.less, falls_more expander m m source r t.0 h turn) }
 
 -- so is a word
 pub word_over : (m : Expander) (r s : Source) (token : Token) → is_idle m ≡ true → IsStep r (Ok token) s → gives_itself s.definitions token.value ≡ true

@@ -13,9 +13,9 @@ ghost use Rattle.pp_lexer.specs.inner.PlainWords.{IsFirstWord};
 
 use crate::lexer::plain::{Form, Word, continues};
 
-// Whether the byte is a decimal digit.
+/// Whether the byte is a decimal digit.
 #[inline(always)]
-fn is_digit(byte: u8) -> bool
+pub fn is_digit(byte: u8) -> bool
     ensures { result ≡ is_decimal byte }
 {
     byte >= 48 && byte < 58

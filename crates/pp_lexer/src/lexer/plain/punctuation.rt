@@ -43,9 +43,9 @@ fn single(first: u8) -> Option<Punct>
     }
 }
 
-// Whether the character is a punctuator and begins no other.
+/// Whether the character is a punctuator and begins no other.
 #[inline(always)]
-fn is_lone(first: u8) -> bool
+pub fn is_lone(first: u8) -> bool
     ensures { result ≡ is_lone first }
 {
     match first {

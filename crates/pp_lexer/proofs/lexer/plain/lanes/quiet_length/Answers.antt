@@ -1,5 +1,4 @@
-use Rattle.std.proofs.Common.{◌≡◌, ◌+◌, true, length, take, drop, arith}
-use Rattle.std.specs.List.{list_all}
+use Rattle.std.proofs.Common.{arith}
 use Rattle.pp_lexer.specs.inner.Fronts.{is_quiet}
 use Rattle.pp_lexer.proofs.characters.LanesLemmas.{passes_on}
 use Rattle.pp_lexer.proofs.lexer.plain.lanes.quiet_length.Goals as goal

@@ -1,4 +1,4 @@
-use Rattle.std.proofs.Common.{◌≡◌, ℕ, leb, cond, bit_or, List, map, refl, length}
+use Rattle.std.proofs.Common.{◌≡◌, leb, cond, bit_or, refl, length}
 use Rattle.std.proofs.lemmas.Simd.{zip2_splat, zip2_of_maps, zip2_splat_left, length-chunk}
 use lib.Lanes.{chunk}
 use Rattle.pp_lexer.specs.inner.Fronts.{is_quiet}

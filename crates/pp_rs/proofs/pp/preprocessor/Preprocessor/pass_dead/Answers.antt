@@ -11,8 +11,8 @@ use Rattle.pp_macros.specs.inner.Source.{Source}
 use Rattle.pp_macros.specs.inner.Idle.{is_idle}
 use Rattle.pp_rs.specs.Kept.{LastItem, Preprocessing, is_spent, most_items}
 use Rattle.pp_rs.specs.inner.NextWord.{IsPause}
-use Rattle.pp_rs.proofs.runs.NextLemmas.{Reached, reached_first, reached_more, falls_more}
-use Rattle.pp_rs.proofs.runs.PassedLemmas.{newline_over, passed_pauses}
+use Rattle.pp_rs.proofs.runs.NextLemmas.{Reached, reached_first}
+use Rattle.pp_rs.proofs.runs.PassedLemmas.{pauses_over, passed_pauses}
 use Rattle.pp_rs.proofs.pp.preprocessor.Preprocessor.pass_dead.Goals as goal
 
 -- words were passed, or all is as it was
@@ -50,8 +50,8 @@ words-init c =
 
 pub words-preserved : goal.words-preserved
 words-preserved c =
-    let step = rw c.words-test.true at c.pass_dead.ensures in
-    let turn = newline_over _ _ _ c.words.invariant.idle step in
+    let pauses = rw c.words-test.true at c.pass_dead.ensures in
+    let over = pauses_over pauses.0 _ _ _ _ _ c.words.invariant.idle c.words.invariant.reached pauses.1 in
     record {
       unnoted = c.words.invariant.unnoted;
       unspent = c.words.invariant.unspent;
@@ -62,14 +62,14 @@ words-preserved c =
       alone = c.words.invariant.alone;
       same = c.words.invariant.same;
       idle = c.words.invariant.idle;
-      reached = reached_more _ _ _ _ _ _ c.words.invariant.reached turn;
-      passed = omega (arith, falls_more _ _ _ _ _ _ c.words.invariant.reached turn, c.words.invariant.reached.less);
+      reached = over.reached;
+      passed = omega (arith, over.less, c.words.invariant.reached.less);
     }
 
 pub words-smaller : goal.words-smaller
 words-smaller c =
-    let step = rw c.words-test.true at c.pass_dead.ensures in
-    falls_more _ _ _ _ _ _ c.words.invariant.reached (newline_over _ _ _ c.words.invariant.idle step)
+    let pauses = rw c.words-test.true at c.pass_dead.ensures in
+    (pauses_over pauses.0 _ _ _ _ _ c.words.invariant.idle c.words.invariant.reached pauses.1).less
 
 pub returns : goal.returns
 unfolding is_spent
