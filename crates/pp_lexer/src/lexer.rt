@@ -556,12 +556,13 @@ impl<'a> Lexer<'a> {
 
     /// Passes words and newlines of plain text that come next, if their bytes alone show that none of them is an error
     /// or a `#`, and returns whether it did. Otherwise it changes nothing. It passes some hundred bytes at most, but
-    /// for the last word, and may stop before a word that could be passed.
+    /// for the last word, and may stop before a word that could be passed. It looks only at the start of a line: a row
+    /// of operators would else be looked at again for each of them.
     #[inline(always)]
     pub fn pass_words(&mut self) -> bool
         ensures { PassesOthers self.old result self.new }
     {
-        if self.spent {
+        if self.spent || !self.state.flags.start_of_line {
             return false;
         }
         let left = self.state.inner.left();

@@ -29,6 +29,9 @@ struct Tame {
 // So many bytes at the end of a front are searched for its last word.
 const MOST_BACK: usize = 64;
 
+// A shorter front costs no less if it is passed at once.
+const WORTH: usize = 16;
+
 // Whether a digit is at `at`, within an identifier.
 #[inline(always)]
 fn is_inner_digit(bytes: &[u8], at: usize) -> bool
@@ -145,6 +148,9 @@ pub fn plain_words(text: &str) -> Option<Words>
                 });
             }
         }
+    }
+    if front.length < WORTH {
+        return None;
     }
     let last = before_last(bytes, front)?;
     if is_lone(bytes[last.length]) {
