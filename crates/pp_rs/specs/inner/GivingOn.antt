@@ -1,5 +1,8 @@
 -- How far `give_tokens` has got.
-use Rattle.std.specs.Prelude.{◌≡◌, ◌⊎◌, ◌<◌, ◌≤◌, Bool, true, false, Option}
+use Rattle.std.specs.Prelude.{◌≡◌, ◌⊎◌, ℕ, ◌<◌, ◌≤◌, Bool, true, false, Option, None}
+use Rattle.pp_directives.specs.WordTokens.{word_token}
+use Rattle.pp_lexer.specs.declared.lexer.plain_item.PlainItem.{PlainItem}
+use Rattle.pp_rs.specs.TokenRefs.{token_of}
 use Rattle.pp_macros.specs.inner.Frames.{outermost_frame_call}
 use Rattle.pp_rs.specs.Giving.{AreGiven}
 use Rattle.pp_rs.specs.Kept.{Preprocessing, is_spent, most_items}
@@ -10,6 +13,14 @@ use Rattle.pp_model.specs.declared.splice.CallPlace.{CallPlace}
 -- the call that gives the next token, if an wants macro gives it
 abbrev pub IsFrontCall : Option CallPlace → Preprocessing → Type 0
 IsFrontCall call p = call ≡ outermost_frame_call p.expander.frames
+
+-- the sink took the word of this text, which no macro gave
+pub record TakesWord {S : Type 0} (takes : S → TokenRef → S → Type 0) (text : ℕ) (word : PlainItem) (old new : S)
+    : Type 0 where
+  pub token : TokenRef
+  pub refers : token_of token ≡ word_token word
+  pub outside : token.origin ≡ record { text = text; call = None }
+  pub taken : takes old token new
 
 -- tokens were given, and then only pauses were passed, and not even these once the sink was full
 pub record IsGiving {S : Type 0} (takes : S → TokenRef → S → Type 0) (is_full : S → Bool) (start : Preprocessing)

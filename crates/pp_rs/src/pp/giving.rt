@@ -3,8 +3,10 @@
 ghost use Rattle.std.specs.Prelude.{◌≡◌, ◌≤◌, true, false, OnOk, OnErr, IfOk};
 ghost use Rattle.pp_rs.specs.Giving.{GivesTokens};
 ghost use Rattle.pp_rs.specs.Kept.{is_spent, most_items, rules_of};
-ghost use Rattle.pp_rs.specs.inner.GivingOn.{KeepsGiving, IsRefused, IsRefusedAfter, HasLeft};
+ghost use Rattle.pp_rs.specs.inner.GivingOn.{KeepsGiving, IsRefused, IsRefusedAfter, HasLeft, TakesWord};
+ghost use Rattle.pp_rs.specs.inner.NextWord.{IsPlain};
 
+use crate::lexer::{Form, PlainItem};
 use crate::pp::preprocessor::{Preprocessor, PreprocessorItem};
 use crate::pp::token_ref::{TokenRef, TokenSink};
 use crate::token::out_of_memory;
@@ -91,7 +93,7 @@ impl<'a> Preprocessor<'a> {
                 return Ok(!self.is_idle());
             };
             self.pay()?;
-            sink.take(TokenRef::of_word(self.source_text(), &word))?;
+            give_word(self.source_text(), &word, sink)?;
         }
         Ok(false)
     }
@@ -117,5 +119,21 @@ impl<'a> Preprocessor<'a> {
             self.pass(text);
         }
         Ok(())
+    }
+}
+
+// Gives a word of this text to the sink. The most frequent kinds have a call of their own, into each of which the sink
+// is compiled for that kind alone.
+#[inline(always)]
+fn give_word<S: TokenSink>(text: u32, word: &PlainItem<'_>, sink: &mut S) -> Result<(), AllocError>
+    requires plain { IsPlain word.now }
+    requires wants { S.is_full sink.old ≡ false }
+    ensures taken { OnOk result (TakesWord S.takes text word.now sink.old sink.new) }
+    ensures refused { OnErr result (S.refuses sink.old sink.new) }
+{
+    match word.form {
+        Form::Identifier => sink.take(TokenRef::of_word(text, word)),
+        Form::Punct(_) => sink.take(TokenRef::of_word(text, word)),
+        _ => sink.take(TokenRef::of_word(text, word)),
     }
 }

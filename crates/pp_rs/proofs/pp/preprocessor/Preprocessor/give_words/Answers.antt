@@ -44,8 +44,9 @@ words-preserved g c =
       left = omega (arith, word.next.less_left, before.left);
       rules = word.next.rules ∙ before.rules;
       giving = λ start first p.
-          giving_word _ _ start _ first _ (before.giving start first p) before.reads.unspent c.in-Some.word _ c.of_word.result _ word
-          c.of_word.ensures.token (rw c.source_text.ensures at c.of_word.ensures.origin) (c.in_ok-take.ensures {u = tt}).taken;
+          let gave = (c.in_ok-give_word.ensures {u = tt}).taken in
+          giving_word _ _ start _ first _ (before.giving start first p) before.reads.unspent c.in-Some.word _ gave.token _ word
+          gave.refers (rw c.source_text.ensures at gave.outside) gave.taken;
     }
 
 pub words-smaller : goal.words-smaller
@@ -53,8 +54,8 @@ words-smaller g c =
     let word = rw c.in-Some.is at (c.in_ok-word.ensures {u = tt}).gives in
     omega (arith, word.next.less_left)
 
-pub of_word-requires : goal.of_word-requires
-of_word-requires g c = (rw c.in-Some.is at (c.in_ok-word.ensures {u = tt}).gives).plain
+pub give_word-requires-clause-plain : goal.give_word-requires-clause-plain
+give_word-requires-clause-plain g c = (rw c.in-Some.is at (c.in_ok-word.ensures {u = tt}).gives).plain
 
 -- no more words
 pub returns-in_default-clause-spent : goal.returns-in_default-clause-spent
@@ -81,12 +82,12 @@ returns-in_err-word-clause-refused g c = on_err c.from_residual.result (λ start
     let before = c.words.invariant in
     giving_refused _ _ _ start _ first _ (before.giving start first p) (sym c.is_full.ensures ∙ c.words-test.true) before.reads.unspent (c.in_err-word.ensures {u = tt}).some_left _ (inl refl))
 
-pub returns-in_err-take-clause-refused : goal.returns-in_err-take-clause-refused
+pub returns-in_err-give_word-clause-refused : goal.returns-in_err-give_word-clause-refused
 unfolding is_spent
-returns-in_err-take-clause-refused g c = on_err c.from_residual-in_err-take.result (λ start first p.
+returns-in_err-give_word-clause-refused g c = on_err c.from_residual-in_err-give_word.result (λ start first p.
     let before = c.words.invariant in
     let word = rw c.in-Some.is at (c.in_ok-word.ensures {u = tt}).gives in
-    giving_refused _ _ _ start _ first _ (before.giving start first p) (sym c.is_full.ensures ∙ c.words-test.true) before.reads.unspent (omega (arith, word.next.less_left)) _ (inr (c.in_err-take.ensures {u = tt}).refused))
+    giving_refused _ _ _ start _ first _ (before.giving start first p) (sym c.is_full.ensures ∙ c.words-test.true) before.reads.unspent (omega (arith, word.next.less_left)) _ (inr (c.in_err-give_word.ensures {u = tt}).refused))
 
 -- no step is left for it
 pub returns-in_err-pay-clause-refused : goal.returns-in_err-pay-clause-refused
