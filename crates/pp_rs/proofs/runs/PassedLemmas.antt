@@ -8,9 +8,9 @@ use Rattle.pp_model.specs.Emitting.{answers_at, expansion_limit}
 use Rattle.pp_model.specs.declared.splice.CallPlace.{CallPlace}
 use Rattle.pp_model.specs.Painting.{read_in}
 use Rattle.pp_model.specs.declared.read.Read.{Read}
-use Rattle.std.specs.Prelude.{IsSome}
+use Rattle.std.specs.Prelude.{IfSome, IsSome, is_some}
 use Rattle.pp_macros.specs.inner.Ahead.{painted_as, given_next, token_given}
-use Rattle.pp_macros.specs.inner.Giving.{GivesAhead, passed}
+use Rattle.pp_macros.specs.inner.Giving.{GivesAhead, SomeAhead, passed}
 use Rattle.pp_macros.specs.inner.Idle.{is_idle}
 use Rattle.pp_macros.specs.inner.Left.{work_of}
 use Rattle.pp_macros.specs.inner.Reader.{of_source}
@@ -20,7 +20,7 @@ use Rattle.pp_macros.specs.inner.Source.{Source}
 use Rattle.pp_macros.specs.declared.step.PlacedExit.TheVariants.{Continue}
 use Rattle.pp_directives.specs.inner.PlainText.{IsStep, PausesTimes}
 use Rattle.pp_rs.specs.Kept.{LastItem, Preprocessing, Stands, IsAhead, is_spent, most_items, errors_left, error_place, from_text, rules_of}
-use Rattle.pp_rs.specs.inner.NextWord.{IsPassed}
+use Rattle.pp_rs.specs.inner.NextWord.{HasFront, IsPassed}
 use Rattle.pp_macros.specs.LexerErrors.{PassesErrors}
 use Rattle.pp_rs.specs.Preprocessing.{IsNextItem}
 use Rattle.pp_rs.specs.inner.Fit.{IsFit, IsReported}
@@ -67,19 +67,10 @@ idle_call m call other idle =
     rw free refl
 
 -- a token that is ahead
-pub token_ahead_is : (p : Preprocessing) → p.spent ≡ false → (read : Read) → IsTrue (is_ordinary read.token.value) → (painted : Bool)
+token_ahead_is : (p : Preprocessing) → p.spent ≡ false → (read : Read) → IsTrue (is_ordinary read.token.value) → (painted : Bool)
     → GivesAhead (of_source p.source) p.expander painted read → IsAhead p read
 unfolding IsAhead
 token_ahead_is p fresh read ordinary painted gives = (fresh, ordinary, painted, gives)
-
--- the token of what is ahead
-pub token_own : (painted : Bool) (given : Option Read) (token : Token) (read : Read) → Some token ≡ token_given given → painted_as painted given ≡ Some read
-    → token ≡ read.token
-token_own painted None token read first second = cc
-token_own painted (Some own) token read first second =
-    let same : token ≡ own.token = cc in
-    let shown : record own { painted = painted } ≡ read = cc in
-    same ∙ ap (λ (r : Read). r.token) shown
 
 -- what is ahead, but for its paint
 pub record IsOwn (own read : Read) : Type 0 where
@@ -95,10 +86,6 @@ own_painted painted (Some other) own read first second =
       token = ap (λ (r : Read). r.token) same ∙ ap (λ (r : Read). r.token) shown;
       text = ap (λ (r : Read). r.text) same ∙ ap (λ (r : Read). r.text) shown;
     }
-
-pub ahead_own : (p : Preprocessing) (own read : Read) → IsAhead p read → Some own ≡ given_next p.expander.frames → IsOwn own read
-unfolding IsAhead
-ahead_own p own read is first = own_painted is.2 (given_next p.expander.frames) own read first is.3.ahead
 
 some_painted : (painted : Bool) (given : Option Read) (read : Read) → painted_as painted given ≡ Some read → IsSome given
 some_painted painted None read e = cc
@@ -120,9 +107,20 @@ pub same_text : (p : Preprocessing) (a b : Read) → IsAhead p a → IsAhead p b
 unfolding IsAhead
 same_text p a b first second = same_painted (given_next p.expander.frames) first.2 second.2 a b first.3.ahead second.3.ahead
 
-pub ahead_ordinary : (p : Preprocessing) (read : Read) → IsAhead p read → IsTrue (is_ordinary read.token.value)
-unfolding IsAhead
-ahead_ordinary p read is = is.1
+-- what `advance` found
+pub front_found : (p : Preprocessing) (found : Option Bool) → p.spent ≡ false → IfSome found (SomeAhead (of_source p.source) p.expander)
+    → is_some found ≡ true → HasFront p
+front_found p None fresh gives e = let bad : false ≡ true = e in cc
+front_found p (Some painted) fresh gives e = record { fresh = fresh; read = gives.0; painted = painted; gives = gives.1 }
+
+pub front_given : (p : Preprocessing) → (f : HasFront p) → IsSome (given_next p.expander.frames)
+front_given p f = some_painted f.painted (given_next p.expander.frames) f.read f.gives.ahead
+
+pub front_own : (p : Preprocessing) (own : Read) → (f : HasFront p) → Some own ≡ given_next p.expander.frames → IsOwn own f.read
+front_own p own f first = own_painted f.painted (given_next p.expander.frames) own f.read first f.gives.ahead
+
+pub front_ahead : (p : Preprocessing) → (f : HasFront p) → IsTrue (is_ordinary f.read.token.value) → IsAhead p f.read
+front_ahead p f ordinary = token_ahead_is p f.fresh f.read ordinary f.painted f.gives
 
 pub fresh_ahead : (p : Preprocessing) (read : Read) → IsAhead p read → p.spent ≡ false
 unfolding IsAhead

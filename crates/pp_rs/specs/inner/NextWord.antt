@@ -1,5 +1,5 @@
 -- The next token as a word of plain text, before memory is taken for it.
-use Rattle.std.specs.Prelude.{◌≡◌, ◌≢◌, ◌<◌, ◌≤◌, ◌∷◌, [], List, ℕ, true, not, Option, Some, None, Ok}
+use Rattle.std.specs.Prelude.{◌≡◌, ◌≢◌, ◌<◌, ◌≤◌, ◌∷◌, [], List, ℕ, Bool, true, false, not, Option, Some, None, Ok}
 use Rattle.std.specs.Prelude.{MatchOption, position}
 use Rattle.std.specs.Str.{IsAscii}
 use Rattle.pp_lexer.specs.declared.lexer.plain.Form.TheVariants.{Hash}
@@ -10,7 +10,9 @@ use Rattle.pp_directives.specs.WordTokens.{word_token}
 use Rattle.pp_macros.specs.inner.Defined.{Defined, Macro, AreNumbered, meaning_of, names_in, numbered_by, opened_by}
 use Rattle.pp_macros.specs.inner.Expander.{Expander}
 use Rattle.pp_macros.specs.inner.Frames.{new_frame, bare_call}
+use Rattle.pp_macros.specs.inner.Giving.{GivesAhead}
 use Rattle.pp_macros.specs.inner.Idle.{is_idle}
+use Rattle.pp_macros.specs.inner.Reader.{of_source}
 use Rattle.pp_macros.specs.Item.{Item}
 use Rattle.pp_macros.specs.LexerErrors.{PassesErrors}
 use Rattle.pp_model.specs.ItemCall.{item_call}
@@ -79,11 +81,14 @@ pub record IsPassedText (old new : Preprocessing) : Type 0 where
 abbrev pub IsNextWord : Preprocessing → Option PlainItem → Preprocessing → Type 0
 IsNextWord old answer new = MatchOption answer (IsPassedText old new) (λ word. IsWord old word new)
 
--- an open macro gives a token next
-abbrev pub SomeAhead : Preprocessing → Type 0
-SomeAhead p = (read : Read) × IsAhead p read
+-- an open macro gives a token next, as its body or an argument has it
+pub record HasFront (p : Preprocessing) : Type 0 where
+  pub fresh : p.spent ≡ false
+  pub read : Read
+  pub painted : Bool
+  pub gives : GivesAhead (of_source p.source) p.expander painted read
 
--- it does, and the token is of this text
+-- it does, and the token is ordinary and of this text
 abbrev pub SomeAheadOf : ℕ → Preprocessing → Type 0
 SomeAheadOf text p = (read : Read) × IsAhead p read × (text ≡ read.text)
 

@@ -112,7 +112,9 @@ impl<'a> Preprocessor<'a> {
             return Ok(());
         }
         'tokens: while !sink.is_full() && self.advance()? {
-            let token = self.front();
+            let Some(token) = self.front() else {
+                return Ok(());
+            };
             let text = token.origin.text;
             self.pay()?;
             sink.take(token)?;

@@ -1,6 +1,6 @@
 //! The items of a preprocessed source.
 
-ghost use Rattle.std.specs.Prelude.{◌≡◌, ◌-◌, ◌^◌, ◌<◌, [], false, length, if◌then◌else◌, true, IsTrue, OnOk};
+ghost use Rattle.std.specs.Prelude.{◌≡◌, ◌-◌, ◌^◌, ◌<◌, [], false, length, if◌then◌else◌, true, IsTrue, OnOk, IfSome};
 ghost use Rattle.std.specs.Prelude.{MatchBool, OnErr, IfOk, IfErr, Option, None, Some, Ok, Err, option_map, unwrap_or};
 ghost use Rattle.pp_lexer.specs.declared.token.Token.{Token};
 ghost use Rattle.std.specs.Iterator.{at_most};
@@ -22,7 +22,7 @@ ghost use Rattle.pp_macros.specs.LexerErrors.{lexer_errors, lexer_errors_by};
 ghost use Rattle.pp_directives.specs.WordTokens.{word_token};
 ghost use Rattle.pp_directives.specs.inner.PlainText.{IsBare};
 ghost use Rattle.pp_rs.specs.inner.NextWord.{IsNextGiven, IsNextStep, IsNextWord, IsPassed, IsPlain, OpensNumbered};
-ghost use Rattle.pp_rs.specs.inner.NextWord.{IsAheadAs, IsPause, ReadsText, SomeAhead, SomeAheadOf};
+ghost use Rattle.pp_rs.specs.inner.NextWord.{HasFront, IsAheadAs, IsPause, ReadsText, SomeAheadOf};
 ghost use Rattle.pp_rs.specs.Preprocessing.{IsNextItem};
 
 use crate::lexer::PlainItem;
@@ -452,48 +452,46 @@ impl<'a> Preprocessor<'a> {
         }
     }
 
-    // Goes on in the open macros, and returns whether the next token is ordinary, and the body or an argument of an
-    // open macro has it as it is given. Then `front` returns it before memory is taken for it, and `pass` passes it.
-    // It passes ends of macros and names of macros without parameters, which open.
+    // Goes on in the open macros, and returns whether the body or an argument of one has the next token as it is given.
+    // Then `front` returns it before memory is taken for it, if it is ordinary, and `pass` passes it. It passes ends of
+    // macros and names of macros without parameters, which open.
     #[inline(always)]
     pub(crate) fn advance(&mut self) -> Result<bool, AllocError>
         requires { is_spent self.old ≡ false }
         ensures passed { OnOk result (IsPassed self.old self.new) }
-        ensures ahead { IfOk result (λ found. found ≡ true → SomeAhead self.new) }
+        ensures front { IfOk result (λ found. found ≡ true → HasFront self.new) }
         ensures some_left { OnErr result (0 < most_items self.old) }
         ensures rules { rules_of self.new ≡ rules_of self.old }
     {
         self.in_text = false;
         match self.expander.advance(&self.source) {
-            Ok(Some(_)) => {}
-            Ok(None) => return Ok(false),
+            Ok(found) => Ok(found.is_some()),
             Err(refused) => {
                 self.spent = true;
-                return Err(refused);
+                Err(refused)
             }
         }
-        let Some(token) = self.expander.token() else {
-            return Ok(false);
-        };
-        Ok(token.is_ordinary())
     }
 
-    // The token that `advance` found.
+    // The token that `advance` found, if it is ordinary.
     #[inline(always)]
-    pub(crate) fn front(&self) -> TokenRef<'_>
-        requires { SomeAhead self.now }
-        ensures ahead { IsAheadAs self.now result }
-        ensures call { IsFrontCall result.origin.call self.now }
-        ensures some_left { 0 < most_items self.now }
+    pub(crate) fn front(&self) -> Option<TokenRef<'_>>
+        requires { HasFront self.now }
+        ensures ahead { IfSome result (λ token. IsAheadAs self.now token) }
+        ensures call { IfSome result (λ token. IsFrontCall token.origin.call self.now) }
+        ensures some_left { IfSome result (λ token. 0 < most_items self.now) }
     {
-        match self.expander.ahead() {
-            Some(ahead) => {
-                let call = self.expander.outermost_call();
-                let text = ahead.text;
-                TokenRef::of_token(ahead.token, Origin { text, call })
-            }
-            None => unreachable!(),
+        let Some(ahead) = self.expander.ahead() else {
+            unreachable!();
+        };
+        if !ahead.token.is_ordinary() {
+            return None;
         }
+        let origin = Origin {
+            text: ahead.text,
+            call: self.expander.outermost_call(),
+        };
+        Some(TokenRef::of_token(ahead.token, origin))
     }
 
     // Passes the token that `advance` found, which is of this text, as `next` does.

@@ -6,7 +6,7 @@ use Rattle.pp_macros.proofs.open_frames.KnownLemmas.{alone_known}
 use Rattle.pp_macros.specs.inner.Frames.{names_of}
 use Rattle.pp_rs.proofs.runs.NextLemmas.{reached_first, next_refused}
 use Rattle.pp_rs.proofs.runs.PausesLemmas.{reached_on}
-use Rattle.pp_rs.proofs.runs.PassedLemmas.{passed_pauses, token_ahead_is, token_own}
+use Rattle.pp_rs.proofs.runs.PassedLemmas.{front_found, passed_pauses}
 use Rattle.pp_rs.proofs.pp.preprocessor.Preprocessor.advance.Goals as goal
 
 pub advance-requires : goal.advance-requires
@@ -21,46 +21,23 @@ unfolding is_spent
 invariant_of-self c = (
   λ e.
       let first = reached_first _ _ _ _ (ap (λ p. p.expander) c.self.view_is) (ap (λ p. p.source) c.self.view_is) (c.self.invariant.0 (ap (λ p. p.spent) c.self.view_is ∙ c.requires)) in
-      let r = (reached_on _ _ _ _ first _ (c.in-Ok-None.ensures {u = tt}).advances.pauses).reached in
+      let r = (reached_on _ _ _ _ first _ (c.in-Ok.ensures {u = tt}).advances.pauses).reached in
       (r.fit, r.reported),
   c.advance.ensures.below ∙ c.self.invariant.1,
   λ e. cc,
 )
 
-pub returns-in-Ok-None-clause-passed : goal.returns-in-Ok-None-clause-passed
-unfolding is_spent
-returns-in-Ok-None-clause-passed c =
-    let first = reached_first _ _ _ _ (ap (λ p. p.expander) c.self.view_is) (ap (λ p. p.source) c.self.view_is) (c.self.invariant.0 (ap (λ p. p.spent) c.self.view_is ∙ c.requires)) in
-    let r = (reached_on _ _ _ _ first _ (c.in-Ok-None.ensures {u = tt}).advances.pauses).reached in
-    let fresh : c.args.self.now.spent ≡ false = c.requires in
-    passed_pauses c.args.self.now _ _ _ _ _ _ _ r fresh (ap (λ p. p.spent) c.self.view_is ∙ c.requires) (ap (λ p. p.place) c.self.view_is) (ap (λ p. p.rules) c.self.view_is)
-
-pub invariant_of-self-2 : goal.invariant_of-self-2
-unfolding is_spent
-invariant_of-self-2 c = (
-  λ e.
-      let first = reached_first _ _ _ _ (ap (λ p. p.expander) c.self.view_is) (ap (λ p. p.source) c.self.view_is) (c.self.invariant.0 (ap (λ p. p.spent) c.self.view_is ∙ c.requires)) in
-      let r = (reached_on _ _ _ _ first _ (c.in-Ok-Some.ensures {u = tt}).advances.pauses).reached in
-      (r.fit, r.reported),
-  c.advance.ensures.below ∙ c.self.invariant.1,
-  λ e. cc,
-)
-
-pub returns : goal.returns
+pub returns-in-Ok : goal.returns-in-Ok
 unfolding is_spent rules_of
-returns c =
+returns-in-Ok c =
     let first = reached_first _ _ _ _ (ap (λ p. p.expander) c.self.view_is) (ap (λ p. p.source) c.self.view_is) (c.self.invariant.0 (ap (λ p. p.spent) c.self.view_is ∙ c.requires)) in
-    let advanced = (c.in-Ok-Some.ensures {u = tt}).advances in
+    let advanced = (c.in-Ok.ensures {u = tt}).advances in
     let r = (reached_on _ _ _ _ first _ advanced.pauses).reached in
     let fresh : c.args.self.now.spent ≡ false = c.requires in
-    let found = rw c.in-Ok-Some.field-0-is at advanced.gives in
-    let same = token_own _ _ c.in-Some.token.now found.0 (rw c.in-Some.is at c.token.ensures.token) found.1.ahead in
+    let now_fresh = ap (λ p. p.spent) c.self.view_is ∙ c.requires in
     record {
-      passed = passed_pauses c.args.self.now _ _ _ _ _ _ _ r fresh (ap (λ p. p.spent) c.self.view_is ∙ c.requires) (ap (λ p. p.place) c.self.view_is) (ap (λ p. p.rules) c.self.view_is);
-      ahead = λ e. (
-        found.0,
-        token_ahead_is _ (ap (λ p. p.spent) c.self.view_is ∙ c.requires) found.0 (ap (λ (t : Token). is_ordinary t.value) (sym same) ∙ sym c.is_ordinary.ensures ∙ e) _ found.1,
-      );
+      passed = passed_pauses c.args.self.now _ _ _ _ _ _ _ r fresh now_fresh (ap (λ p. p.place) c.self.view_is) (ap (λ p. p.rules) c.self.view_is);
+      front = λ e. front_found _ c.in-Ok.found now_fresh advanced.gives (sym c.is_some.ensures ∙ e);
       some_left = tt;
       rules = ap (λ p. p.rules) c.self.view_is;
     }
@@ -75,10 +52,6 @@ returns-in-Err-clause-some_left c =
     let next = next_refused _ _ c.advance.new.self.here _ _ c.self.inside.source on.reached c.args.self.now fresh refl refl (ap (λ p. p.rules) c.self.view_is)
     refused.some (record c.args.self.now { spent = true }) refl refl in
     omega (arith, next.less_left)
-
-pub returns-in-Ok-None-clause-rules : goal.returns-in-Ok-None-clause-rules
-unfolding rules_of
-returns-in-Ok-None-clause-rules c = ap (λ p. p.rules) c.self.view_is
 
 pub returns-in-Err-clause-rules : goal.returns-in-Err-clause-rules
 unfolding rules_of

@@ -12,8 +12,8 @@ tokens-preserved g c =
     let before = c.tokens.invariant in
     let wants = sym c.is_full.ensures ∙ c.tokens-test.true in
     let passed = (c.in_ok-advance.ensures {u = tt}).passed in
-    let token = c.front-token.result in
-    let ahead = c.front-token.ensures.ahead in
+    let token = c.in-Some.token in
+    let ahead = rw c.in-Some.is at c.front.ensures.ahead in
     let next = rw (← ahead.token) at (c.pass.ensures.gives ahead.read ahead.ahead) in
     let fresh = passed.spent ∙ before.unspent in
     record {
@@ -22,12 +22,18 @@ tokens-preserved g c =
       rules = next.rules ∙ passed.rules ∙ before.rules;
       giving = λ start first p.
           giving_takes _ _ start _ first _ (giving_passes _ _ start _ first _ (before.giving start first p) wants _ passed) fresh token _ _ next
-          (sym (origin_is token.origin _ c.pass.ensures.text (c.pass.ensures.call ∙ sym c.front-token.ensures.call))) (c.in_ok-take.ensures {u = tt}).taken;
+          (sym (origin_is token.origin _ c.pass.ensures.text (c.pass.ensures.call ∙ sym (rw c.in-Some.is at c.front.ensures.call)))) (c.in_ok-take.ensures {u = tt}).taken;
     }
 
 -- no more tokens
 pub returns-else-branch-clause-giving : goal.returns-else-branch-clause-giving
 returns-else-branch-clause-giving g c = λ start first p.
+    giving_passes _ _ start _ first _ (c.tokens.invariant.giving start first p) (sym c.is_full.ensures ∙ c.tokens-test.true) _
+    (c.in_ok-advance.ensures {u = tt}).passed
+
+-- the next one isn't ordinary
+pub returns-in_default-clause-giving : goal.returns-in_default-clause-giving
+returns-in_default-clause-giving g c = λ start first p.
     giving_passes _ _ start _ first _ (c.tokens.invariant.giving start first p) (sym c.is_full.ensures ∙ c.tokens-test.true) _
     (c.in_ok-advance.ensures {u = tt}).passed
 
@@ -45,7 +51,7 @@ returns-in_err-take-clause-refused g c = on_err c.from_residual-in_err-take.resu
     let wants = sym c.is_full.ensures ∙ c.tokens-test.true in
     let passed = (c.in_ok-advance.ensures {u = tt}).passed in
     giving_refused _ _ _ start _ first _ (giving_passes _ _ start _ first _ (before.giving start first p) wants _ passed) wants (passed.spent ∙ before.unspent)
-    c.front-token.ensures.some_left _ (inr (c.in_err-take.ensures {u = tt}).refused))
+    (rw c.in-Some.is at c.front.ensures.some_left) _ (inr (c.in_err-take.ensures {u = tt}).refused))
 
 -- no step is left for it
 pub returns-in_err-pay-clause-refused : goal.returns-in_err-pay-clause-refused
@@ -54,9 +60,9 @@ returns-in_err-pay-clause-refused g c = on_err c.from_residual-in_err-pay.result
     let wants = sym c.is_full.ensures ∙ c.tokens-test.true in
     let passed = (c.in_ok-advance.ensures {u = tt}).passed in
     giving_refused _ _ _ start _ first _ (giving_passes _ _ start _ first _ (before.giving start first p) wants _ passed) wants (passed.spent ∙ before.unspent)
-    c.front-token.ensures.some_left _ (inl refl))
+    (rw c.in-Some.is at c.front.ensures.some_left) _ (inl refl))
 
 pub pass-requires : goal.pass-requires
 pass-requires g c =
-    let ahead = c.front-token.ensures.ahead in
+    let ahead = rw c.in-Some.is at c.front.ensures.ahead in
     (ahead.read, ahead.ahead, ahead.text)
