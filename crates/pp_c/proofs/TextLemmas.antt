@@ -12,7 +12,6 @@ pub bytes_of_chars : (bytes characters : List ℕ) → IsUtf8 bytes → chars by
 bytes_of_chars bytes characters u e = ap encode_utf8_all (sym e) ∙ encodes-chars bytes u
 
 -- the room of an item with a text
-pub room_of_one : (item : Item) (bytes : List ℕ) → IsUtf8 bytes → length bytes < 2 ^ 64
-    → ◌≡◌ {A = Sizes} record { items = 1; texts = length bytes } (room_of (with_text item (encode_utf8_all (chars bytes)) ∷ []))
-room_of_one item bytes u small =
-    sizes_same _ _ _ _ (omega arith) (omega (arith, small, ap length (encodes-chars bytes u), length-append (encode_utf8_all (chars bytes)) []))
+pub room_of_one : (item : Item) (bytes : List ℕ) → length bytes < 2 ^ 64
+    → ◌≡◌ {A = Sizes} record { items = 1; texts = length bytes } (room_of (with_text item bytes ∷ []))
+room_of_one item bytes small = sizes_same _ _ _ _ (omega arith) (omega (arith, small, length-append bytes []))

@@ -9,7 +9,7 @@ use crate::definitions::LIMIT;
 use crate::items::{Kind, LEADING_WHITESPACE, START_OF_LINE, bit_if};
 use crate::output::Output;
 use crate::status::Refusal;
-use crate::words::{give_error, give_float, give_integer, give_name, give_punctuator, item_at};
+use crate::words::{float_entry, give_error, integer_entry, item_at, name_entry, punctuator_entry};
 use pp_macros::step::is_out_of_memory;
 use pp_rs::lexer::{Lexer, LexerItem, Token, TokenValue};
 use pp_rs::token::Location;
@@ -66,13 +66,13 @@ fn give_token(token: &Token, output: &mut Output<'_>)
     let flags = bit_if(token.leading_whitespace, LEADING_WHITESPACE)
         | bit_if(token.start_of_line, START_OF_LINE);
     match &token.value {
-        TokenValue::Hash => output.take(item_at(place, Kind::Hash, flags)),
-        TokenValue::NewLine => output.take(item_at(place, Kind::NewLine, flags)),
-        TokenValue::Ident(name) => give_name(place, flags, name.as_str(), output),
-        TokenValue::Integer(integer) => give_integer(place, flags, *integer, output),
+        TokenValue::Hash => output.take_item(item_at(place, Kind::Hash, flags)),
+        TokenValue::NewLine => output.take_item(item_at(place, Kind::NewLine, flags)),
+        TokenValue::Ident(name) => output.take(name_entry(place, flags, name.as_str())),
+        TokenValue::Integer(integer) => output.take(integer_entry(place, flags, *integer)),
         TokenValue::Float(float) => {
-            give_float(place, flags, float.text.as_str(), float.width, output)
+            output.take(float_entry(place, flags, float.text.as_str(), float.width))
         }
-        TokenValue::Punct(punct) => give_punctuator(place, flags, *punct, output),
+        TokenValue::Punct(punct) => output.take(punctuator_entry(place, flags, *punct)),
     }
 }

@@ -17,7 +17,7 @@ ghost use Rattle.pp_c.specs.inner.Refusing.{IsAddingRefusal, IsRefusalWithin};
 ghost use Rattle.pp_c.specs.inner.Making.{given_of, NextIsWritten, IsUntil, GoesOn, HasRest, HasAll, Gives};
 ghost use Rattle.pp_c.specs.inner.Making.{up_to, taken, is_front};
 ghost use Rattle.pp_c.specs.inner.Settings.{takes_texts};
-ghost use Rattle.pp_c.specs.inner.Taking.{Takes};
+ghost use Rattle.pp_c.specs.inner.Taking.{Takes, TakesIfRoom};
 
 use crate::definitions::{LIMIT, enter};
 use crate::items::{
@@ -26,7 +26,7 @@ use crate::items::{
 use crate::options::Setting;
 use crate::output::Output;
 use crate::status::{End, Refusal};
-use crate::words::{give_error, give_float, give_integer, give_name, give_punctuator, item_at};
+use crate::words::{float_entry, give_error, integer_entry, item_at, name_entry, punctuator_entry};
 use pp_rs::pp::{Preprocessor, PreprocessorItem, TokenRef, TokenSink, ValueRef};
 use pp_rs::token::{Location, PreprocessorError, Token, TokenValue};
 use std::alloc::{AllocError, Global};
@@ -283,16 +283,30 @@ impl TokenSink for Output<'_> {
     }
 }
 
-/// Gives an ordinary token.
+// Gives an ordinary token.
 #[inline(always)]
-pub(crate) fn give_ordinary(place: Location, value: ValueRef<'_>, output: &mut Output<'_>)
+fn give_ordinary(place: Location, value: ValueRef<'_>, output: &mut Output<'_>)
     ensures { Takes output.old (token_entries place (value_of value.entry)) output.new }
 {
     match value {
-        ValueRef::Ident(name) => give_name(place, 0, name, output),
-        ValueRef::Integer(integer) => give_integer(place, 0, integer, output),
-        ValueRef::Float(digits, width) => give_float(place, 0, digits, width, output),
-        ValueRef::Punct(punct) => give_punctuator(place, 0, punct, output),
+        ValueRef::Ident(name) => output.take(name_entry(place, 0, name)),
+        ValueRef::Integer(integer) => output.take(integer_entry(place, 0, integer)),
+        ValueRef::Float(digits, width) => output.take(float_entry(place, 0, digits, width)),
+        ValueRef::Punct(punct) => output.take(punctuator_entry(place, 0, punct)),
+    }
+}
+
+/// Gives an ordinary token if there is room for it, and returns whether there is.
+// Each kind has a call of its own, so that most fields of an item are known where it is written.
+#[inline(always)]
+pub(crate) fn give_if_room(place: Location, value: ValueRef<'_>, output: &mut Output<'_>) -> bool
+    ensures { TakesIfRoom output.old (token_entries place (value_of value.entry)) result output.new }
+{
+    match value {
+        ValueRef::Ident(name) => output.take_if_room(name_entry(place, 0, name)),
+        ValueRef::Integer(integer) => output.take_if_room(integer_entry(place, 0, integer)),
+        ValueRef::Float(digits, width) => output.take_if_room(float_entry(place, 0, digits, width)),
+        ValueRef::Punct(punct) => output.take_if_room(punctuator_entry(place, 0, punct)),
     }
 }
 
@@ -352,7 +366,7 @@ fn give_include_line(
     ensures { Takes output.old (asking_entries error.now location place rest) output.new }
 {
     give_error(error, location, place, 1, output);
-    output.take(item_at(rest, Kind::IncludeLine, 0));
+    output.take_item(item_at(rest, Kind::IncludeLine, 0));
 }
 
 // Gives an error, with its place and the token that it carries.
@@ -411,23 +425,23 @@ fn give_word(place: Location, value: &TokenValue, children: u32, output: &mut Ou
     ensures { Takes output.old (leaf_entry place 0 children (leaf_of value.now) ∷ []) output.new }
 {
     match value {
-        TokenValue::Ident(name) => give_name(place, 0, name.as_str(), output),
-        TokenValue::Integer(integer) => give_integer(place, 0, *integer, output),
+        TokenValue::Ident(name) => output.take(name_entry(place, 0, name.as_str())),
+        TokenValue::Integer(integer) => output.take(integer_entry(place, 0, *integer)),
         TokenValue::Float(float) => {
-            give_float(place, 0, float.text.as_str(), float.width, output)
+            output.take(float_entry(place, 0, float.text.as_str(), float.width))
         }
-        TokenValue::Punct(punct) => give_punctuator(place, 0, *punct, output),
+        TokenValue::Punct(punct) => output.take(punctuator_entry(place, 0, *punct)),
         TokenValue::Version(version) => {
             let flags = bit_if(version.is_first_directive, FIRST_DIRECTIVE)
                 | bit_if(version.has_comments_before, COMMENTS_BEFORE);
-            output.take(directive_item(place, Kind::Version, flags, children));
+            output.take_item(directive_item(place, Kind::Version, flags, children));
         }
         TokenValue::Extension(extension) => {
             let flags = bit_if(extension.has_non_directive_before, NON_DIRECTIVE_BEFORE);
-            output.take(directive_item(place, Kind::Extension, flags, children));
+            output.take_item(directive_item(place, Kind::Extension, flags, children));
         }
         TokenValue::Pragma(_) => {
-            output.take(directive_item(place, Kind::Pragma, 0, children));
+            output.take_item(directive_item(place, Kind::Pragma, 0, children));
         }
     }
 }

@@ -1,13 +1,25 @@
 -- How entries are written after those before them. No contract of a public call cites this.
-use Rattle.std.specs.Prelude.{◌≡◌, ℕ, ◌+◌, ◌≤◌, List, [], ◌∷◌, ◌++◌, take, drop, length}
+use Rattle.std.specs.Prelude.{◌≡◌, ℕ, ◌+◌, ◌≤◌, List, [], ◌∷◌, ◌++◌, take, drop, length, Option, Some, None}
+use Rattle.std.specs.Prelude.{Bool, true, false}
+use Rattle.std.specs.Borrow.{Bor}
 use Rattle.pp_c.specs.Entries.{Entry, bare, with_text, in_64_bits, items_from, texts_of}
 use Rattle.pp_rs.specs.Preorder.{leaf_of}
 use Rattle.pp_rs.specs.declared.token.Token.{Token}
 use Rattle.pp_rs.specs.TokenRefs.{value_of}
 use Rattle.pp_rs.specs.declared.pp.token_ref.TokenRef.{TokenRef}
 use Rattle.pp_c.specs.Tokens.{leaf_entry, token_entries}
+use Rattle.pp_c.specs.declared.items.Item.{Item}
 use Rattle.pp_c.specs.declared.items.Sizes.{Sizes}
+use Rattle.pp_c.specs.declared.output.Entry.{Entry as PassedEntry}
 use Rattle.pp_c.specs.declared.output.Output.{Output}
+
+abbrev pub entry_of : Item → Option (Bor (List ℕ)) → Entry
+entry_of item None = bare item
+entry_of item (Some text) = with_text item text.now
+
+-- an item with its text, as the code passes it
+abbrev pub entry_in : PassedEntry → Entry
+entry_in passed = entry_of passed.item passed.text
 
 -- the list, with others written over it from an index on
 abbrev pub written_over : {A : Type 0} → ℕ → List A → List A → List A
@@ -42,6 +54,11 @@ pub record Takes (old : Output) (more : List Entry) (new : Output) : Type 0 wher
       → new.items.now ≡ written_over old.sizes.items (items_from old.sizes.texts more) old.items.now
   pub texts : HaveRoom old more
       → new.texts.now ≡ written_over old.sizes.texts (texts_of more) old.texts.now
+
+-- These entries are written if there is room for all. Otherwise nothing changes.
+abbrev pub TakesIfRoom : Output → List Entry → Bool → Output → Type 0
+TakesIfRoom old more true new = Takes old more new × (HaveRoom old [] → HaveRoom old more)
+TakesIfRoom old more false new = (new ≡ old) × (HaveRoom old [] → ¬ (HaveRoom old more))
 
 -- the token's entries are taken
 abbrev pub TakesToken : Output → TokenRef → Output → Type 0

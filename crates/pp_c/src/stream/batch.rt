@@ -1,21 +1,18 @@
 //! The next items of a stream, in the caller's memory.
 
-ghost use Rattle.std.specs.Prelude.{◌≡◌, ◌<◌, ◌≤◌, ◌∷◌, [], false, IfOk, OnErr, IfSome, option_map};
-ghost use Rattle.std.specs.Str.{chars, encode_utf8_all};
+ghost use Rattle.std.specs.Prelude.{◌≡◌, ◌<◌, ◌≤◌, false, IfOk, OnErr, IfSome, option_map};
 ghost use Rattle.pp_rs.specs.Kept.{is_spent};
-ghost use Rattle.pp_rs.specs.TokenRefs.{value_of};
-ghost use Rattle.pp_c.specs.Entries.{room_of, with_text};
+ghost use Rattle.pp_c.specs.Entries.{room_of};
 ghost use Rattle.pp_c.specs.Preprocessed.{asks, given_entries};
-ghost use Rattle.pp_c.specs.Tokens.{token_entries};
 ghost use Rattle.pp_c.specs.inner.Batches.{is_full, item_in, waiting_in, BeginsBatch, EndsReading, GivesBatch};
 ghost use Rattle.pp_c.specs.inner.Batches.{GivesWaiting, RunsOut, RunsOutFrom};
 ghost use Rattle.pp_c.specs.inner.Taking.{Takes};
 
 use crate::items::{Item, Sizes};
 use crate::output::Output;
-use crate::preprocessing::{give_item, give_ordinary, number, unless_refused};
+use crate::preprocessing::{give_if_room, give_item, number, unless_refused};
 use crate::status::End;
-use pp_rs::pp::{Preprocessor, PreprocessorItem, TokenRef, TokenSink, ValueRef};
+use pp_rs::pp::{Preprocessor, PreprocessorItem, TokenRef, TokenSink};
 use pp_rs::token::Location;
 use std::alloc::{AllocError, Global};
 use std::mem;
@@ -133,7 +130,8 @@ impl TokenSink for Batch<'_, '_> {
 
     #[inline(always)]
     fn take(&mut self, token: TokenRef<'_>) -> Result<(), AllocError> {
-        if !self.output.has_room(room_of_value(token.value)) {
+        let at = self.output.sizes().items;
+        if !give_if_room(token.location, token.value, &mut self.output) {
             let next = Waiting {
                 item: Ok(token.to_token(self.alloc)?),
                 place: token.location,
@@ -143,8 +141,6 @@ impl TokenSink for Batch<'_, '_> {
             drop(mem::replace(&mut self.waiting, Some(next)));
             return Ok(());
         }
-        let at = self.output.sizes().items;
-        give_ordinary(token.location, token.value, &mut self.output);
         number(
             self.numbers,
             at,
@@ -160,30 +156,6 @@ impl TokenSink for Batch<'_, '_> {
         self.waiting.is_some()
             || self.given >= self.most
             || (self.given > 0 && self.output.is_full())
-    }
-}
-
-// How much room an ordinary token takes.
-#[inline(always)]
-fn room_of_value(value: ValueRef<'_>) -> Sizes
-    ensures { (place : _) → result ≡ room_of (token_entries place (value_of value.entry)) }
-{
-    match value {
-        ValueRef::Ident(name) => room_of_text(name),
-        ValueRef::Integer(_) => Sizes { items: 1, texts: 0 },
-        ValueRef::Float(digits, _) => room_of_text(digits),
-        ValueRef::Punct(punct) => room_of_text(punct.spelling()),
-    }
-}
-
-// How much room an item with this text takes.
-#[inline(always)]
-fn room_of_text(text: &str) -> Sizes
-    ensures { (item : _) → result ≡ room_of (with_text item (encode_utf8_all (chars text.now)) ∷ []) }
-{
-    Sizes {
-        items: 1,
-        texts: text.len() as u64,
     }
 }
 

@@ -1,13 +1,12 @@
-use Rattle.std.proofs.Common.{ap, ◌∙◌}
+use Rattle.std.proofs.Common.{ap, ◌∙◌, refl}
 use Rattle.std.specs.Int.Bits.{or_zero_r}
 use Rattle.std.specs.Str.{chars}
 use Rattle.pp_rs.specs.Punctuators.{punctuator}
 use Rattle.pp_rs.proofs.runs.SpellingLemmas.{chars-punctuator}
 use Rattle.pp_c.proofs.TextLemmas.{bytes_of_chars}
-use Rattle.pp_c.proofs.words.give_punctuator.Goals as goal
+use Rattle.pp_c.proofs.words.punctuator_entry.Goals as goal
 
 pub returns : goal.returns
 returns c =
     let u = ap chars c.spelling.ensures ∙ chars-punctuator c.args.punct in
-    rw (or_zero_r c.args.flags, bytes_of_chars c.spelling.result.now (punctuator c.args.punct) c.spelling.utf8 u)
-    (rw (c.numbered_item_at-item.ensures, c.number_of_punctuator.ensures) at c.take_text.ensures)
+    rw (c.numbered_item_at.ensures, c.number_of_punctuator.ensures, or_zero_r c.args.flags, bytes_of_chars c.spelling.result.now (punctuator c.args.punct) c.spelling.utf8 u) refl
