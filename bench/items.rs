@@ -1,17 +1,16 @@
-//! Counts the items of the source on standard input, which the Rust library gives. Built and run by bench/kinds. With a word it
-//! reads otherwise: `first` item, `front` of 1,000 items, or all with a definition after each hundred.
+//! Counts the items of the source on standard input, which the Rust library gives. Built and run by bench/kinds and
+//! bench/rust_crate. With a word it reads otherwise: `first` item, `front` of 1,000 items, or `all` with a definition after
+//! each hundred if the word is `defined`. With a number after the word it reads so often, and prints the least nanoseconds too.
 use pp_rs::pp::Preprocessor;
 use std::io::{self, Read};
+use std::time::Instant;
 
-fn main() -> io::Result<()> {
-    let mut source = String::new();
-    io::stdin().read_to_string(&mut source)?;
-    let mut pp = Preprocessor::new(&source);
-    let count = match std::env::args().nth(1).as_deref() {
-        None => pp.count(),
-        Some("first") => pp.take(1).count(),
-        Some("front") => pp.take(1000).count(),
-        Some(_) => {
+fn count(source: &str, how: &str) -> usize {
+    let mut pp = Preprocessor::new(source);
+    match how {
+        "first" => pp.take(1).count(),
+        "front" => pp.take(1000).count(),
+        "defined" => {
             let mut count = 0;
             while pp.next().is_some() {
                 count += 1;
@@ -21,7 +20,25 @@ fn main() -> io::Result<()> {
             }
             count
         }
+        _ => pp.count(),
+    }
+}
+
+fn main() -> io::Result<()> {
+    let mut source = String::new();
+    io::stdin().read_to_string(&mut source)?;
+    let how = std::env::args().nth(1).unwrap_or_default();
+    let Some(rounds) = std::env::args().nth(2) else {
+        println!("{}", count(&source, &how));
+        return Ok(());
     };
-    println!("{}", count);
+    let rounds: usize = rounds.parse().expect("how often");
+    let (mut items, mut least) = (0, u128::MAX);
+    for _ in 0..rounds {
+        let before = Instant::now();
+        items = count(&source, &how);
+        least = least.min(before.elapsed().as_nanos());
+    }
+    println!("{} {}", items, least);
     Ok(())
 }
