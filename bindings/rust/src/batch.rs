@@ -96,7 +96,7 @@ impl Batch {
 
     /// Whether all items were taken.
     pub fn is_empty(&self) -> bool {
-        self.at == self.items.len()
+        self.at >= self.items.len()
     }
 
     /// Forgets the items.
@@ -256,8 +256,11 @@ impl Batch {
     }
 
     fn text(&self, item: &raw::Item) -> &str {
-        let text = &self.texts[item.value as usize..][..item.text_length as usize];
-        // SAFETY: the text of an item that the library wrote is UTF-8, as its contract says.
-        unsafe { std::str::from_utf8_unchecked(text) }
+        let start = item.value as usize;
+        // SAFETY: the text of an item that the library wrote is among its texts, and UTF-8, as its contract says.
+        unsafe {
+            let text = self.texts.get_unchecked(start..start + item.text_length as usize);
+            std::str::from_utf8_unchecked(text)
+        }
     }
 }

@@ -130,7 +130,7 @@ impl TokenSink for Batch<'_, '_> {
 
     #[inline(always)]
     fn take(&mut self, token: TokenRef<'_>) -> Result<(), AllocError> {
-        let at = self.output.sizes().items;
+        let at = self.output.sizes().items as usize;
         if !give_if_room(token.location, token.value, &mut self.output) {
             let next = Waiting {
                 item: Ok(token.to_token(self.alloc)?),
@@ -141,13 +141,10 @@ impl TokenSink for Batch<'_, '_> {
             drop(mem::replace(&mut self.waiting, Some(next)));
             return Ok(());
         }
-        number(
-            self.numbers,
-            at,
-            self.output.sizes().items,
-            token.origin.text,
-        );
         self.given += 1;
+        if at < self.numbers.len() {
+            self.numbers[at] = token.origin.text;
+        }
         Ok(())
     }
 

@@ -5,8 +5,7 @@ use Rattle.pp_c.proofs.output.Output.take_if_room.Goals as goal
 
 pub returns : goal.returns
 returns c =
-    let fits = c.has_room.ensures.room.0 c.if-not-has_room.false in
-    (
+    let fits = c.has_room.ensures.room.0 c.if-not-has_room.false in (
       c.take.ensures,
       λ room. fits_by c.args.self.now (entry_in c.args.one ∷ []) c.has_room.ensures.small room (rw c.room.ensures at fits.0) (rw c.room.ensures at fits.1),
     )
