@@ -259,7 +259,9 @@ impl Batch {
         let start = item.value as usize;
         // SAFETY: the text of an item that the library wrote is among its texts, and UTF-8, as its contract says.
         unsafe {
-            let text = self.texts.get_unchecked(start..start + item.text_length as usize);
+            let text = self
+                .texts
+                .get_unchecked(start..start + item.text_length as usize);
             std::str::from_utf8_unchecked(text)
         }
     }
