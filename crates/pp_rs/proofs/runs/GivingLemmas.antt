@@ -1,6 +1,7 @@
 -- Tokens that are given to a sink.
 use Rattle.std.proofs.Common.{◌≡◌, ◌∙◌, ◌<◌, ◌≤◌, Bool, true, false, refl, ap, sym, Option, Some, None, Ok, Err, IsTrue, ◌⊎◌, inl, inr, arith, ℕ}
-use Rattle.std.specs.Prelude.{IfSome, OnErr, Result}
+use Rattle.std.proofs.lemmas.Result.{on_ok_weaker}
+use Rattle.std.specs.Prelude.{IfSome, OnErr, OnOk, Result}
 use Rattle.pp_lexer.specs.PreprocessorError.{out_of_memory}
 use Rattle.pp_lexer.specs.TokenValue.{is_ordinary}
 use Rattle.pp_lexer.specs.declared.lexer.plain_item.PlainItem.{PlainItem}
@@ -17,7 +18,7 @@ use Rattle.pp_rs.specs.TokenRefs.{value_of, token_of}
 use Rattle.pp_rs.specs.declared.pp.token_ref.TokenRef.{TokenRef}
 use Rattle.pp_rs.specs.declared.pp.token_ref.ValueRef.{ValueRef}
 use Rattle.pp_rs.specs.declared.pp.token_ref.ValueRef.TheVariants as value
-use Rattle.pp_rs.specs.inner.GivingOn.{IsGiving, IsRefusedAfter}
+use Rattle.pp_rs.specs.inner.GivingOn.{IsGiving, IsRefusedAfter, TakesToken}
 use Rattle.pp_rs.proofs.runs.NextLemmas.{next_none}
 use Rattle.pp_rs.proofs.runs.NextWordLemmas.{less_over, passed_next, passed_again, refused_next}
 use Rattle.pp_rs.proofs.runs.PassedLemmas.{passed_nothing}
@@ -33,6 +34,13 @@ value_ordinary _ = refl
 
 pub refers_to_ordinary : (t : TokenRef) → IsTrue (is_ordinary (token_of t).value)
 refers_to_ordinary t = value_ordinary t.value
+
+-- what a sink took, if memory didn't run out
+pub took_token : {S A E : Type 0} (takes : S → TokenRef → S → Type 0) (token : Token) (origin : Origin) (old new : S) (r : Result A E) (reference : TokenRef)
+    → token_of reference ≡ token → reference.origin ≡ origin → OnOk r (takes old reference new) → OnOk r (TakesToken takes token origin old new)
+took_token takes token origin old new r reference refers comes taken =
+    on_ok_weaker {P = takes old reference new} {Q = TakesToken takes token origin old new} r
+    (λ took. record { reference = reference; refers = refers; comes = comes; taken = took }) taken
 
 -- memory didn't run out for a token that was given
 pub token_unspent : (old new : Preprocessing) (token : Token) → is_spent old ≡ false → IsNextItem old (Some (Ok token)) new → is_spent new ≡ false

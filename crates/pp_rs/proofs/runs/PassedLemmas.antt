@@ -122,6 +122,10 @@ front_own p own f first = own_painted f.painted (given_next p.expander.frames) o
 pub front_ahead : (p : Preprocessing) → (f : HasFront p) → IsTrue (is_ordinary f.read.token.value) → IsAhead p f.read
 front_ahead p f ordinary = token_ahead_is p f.fresh f.read ordinary f.painted f.gives
 
+pub ahead_ordinary : (p : Preprocessing) (read : Read) → IsAhead p read → IsTrue (is_ordinary read.token.value)
+unfolding IsAhead
+ahead_ordinary p read is = is.1
+
 pub fresh_ahead : (p : Preprocessing) (read : Read) → IsAhead p read → p.spent ≡ false
 unfolding IsAhead
 fresh_ahead p read ahead = ahead.0

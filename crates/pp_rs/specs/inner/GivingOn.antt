@@ -1,7 +1,7 @@
 -- How far `give_tokens` has got.
-use Rattle.std.specs.Prelude.{◌≡◌, ◌⊎◌, ℕ, ◌<◌, ◌≤◌, Bool, true, false, Option, None}
-use Rattle.pp_directives.specs.WordTokens.{word_token}
-use Rattle.pp_lexer.specs.declared.lexer.plain_item.PlainItem.{PlainItem}
+use Rattle.std.specs.Prelude.{◌≡◌, ◌⊎◌, ◌<◌, ◌≤◌, Bool, true, false, Option}
+use Rattle.pp_lexer.specs.declared.token.Token.{Token}
+use Rattle.pp_model.specs.declared.splice.Origin.{Origin}
 use Rattle.pp_rs.specs.TokenRefs.{token_of}
 use Rattle.pp_macros.specs.inner.Frames.{outermost_frame_call}
 use Rattle.pp_rs.specs.Giving.{AreGiven}
@@ -14,13 +14,13 @@ use Rattle.pp_model.specs.declared.splice.CallPlace.{CallPlace}
 abbrev pub IsFrontCall : Option CallPlace → Preprocessing → Type 0
 IsFrontCall call p = call ≡ outermost_frame_call p.expander.frames
 
--- the sink took the word of this text, which no macro gave
-pub record TakesWord {S : Type 0} (takes : S → TokenRef → S → Type 0) (text : ℕ) (word : PlainItem) (old new : S)
+-- the sink took the token, which comes from there
+pub record TakesToken {S : Type 0} (takes : S → TokenRef → S → Type 0) (token : Token) (origin : Origin) (old new : S)
     : Type 0 where
-  pub token : TokenRef
-  pub refers : token_of token ≡ word_token word
-  pub outside : token.origin ≡ record { text = text; call = None }
-  pub taken : takes old token new
+  pub reference : TokenRef
+  pub refers : token_of reference ≡ token
+  pub comes : reference.origin ≡ origin
+  pub taken : takes old reference new
 
 -- tokens were given, and then only pauses were passed, and not even these once the sink was full
 pub record IsGiving {S : Type 0} (takes : S → TokenRef → S → Type 0) (is_full : S → Bool) (start : Preprocessing)

@@ -17,12 +17,11 @@ use Rattle.pp_macros.specs.Item.{Item}
 use Rattle.pp_macros.specs.LexerErrors.{PassesErrors}
 use Rattle.pp_model.specs.ItemCall.{item_call}
 use Rattle.pp_lexer.specs.declared.token.Location.{Location}
+use Rattle.pp_lexer.specs.declared.token.Token.{Token}
 use Rattle.pp_rs.specs.Comes.{State, Comes}
 use Rattle.pp_rs.specs.Kept.{Preprocessing, Stands, IsAhead, is_spent, most_items, errors_left, error_place, call_place}
 use Rattle.pp_model.specs.declared.read.Read.{Read}
 use Rattle.pp_rs.specs.Kept.{item_text, rules_of}
-use Rattle.pp_rs.specs.TokenRefs.{token_of}
-use Rattle.pp_rs.specs.declared.pp.token_ref.TokenRef.{TokenRef}
 use Rattle.pp_rs.specs.Preprocessing.{IsNextItem}
 use Rattle.pp_rs.specs.inner.Fit.{IsInLiveText}
 
@@ -92,12 +91,12 @@ pub record HasFront (p : Preprocessing) : Type 0 where
 abbrev pub SomeAheadOf : ℕ → Preprocessing → Type 0
 SomeAheadOf text p = (read : Read) × IsAhead p read × (text ≡ read.text)
 
--- it gives the token that the reference refers to, of the text that it says
-pub record IsAheadAs (p : Preprocessing) (reference : TokenRef) : Type 0 where
+-- it gives this token, of this text
+pub record IsAheadAs (p : Preprocessing) (token : Token) (text : ℕ) : Type 0 where
   pub read : Read
   pub ahead : IsAhead p read
-  pub token : token_of reference ≡ read.token
-  pub text : reference.origin.text ≡ read.text
+  pub same : token ≡ read.token
+  pub within : text ≡ read.text
 
 -- one call of `next_text` or `next_given`
 abbrev pub IsNextGiven : Preprocessing → Option Item → Preprocessing → Type 0

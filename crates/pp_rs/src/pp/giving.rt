@@ -1,15 +1,18 @@
 //! Giving the tokens that come to what takes them, before memory is taken for them.
 
-ghost use Rattle.std.specs.Prelude.{◌≡◌, ◌≤◌, true, false, OnOk, OnErr, IfOk};
+ghost use Rattle.std.specs.Prelude.{◌≡◌, ◌≤◌, true, false, None, IsTrue, OnOk, OnErr, IfOk};
+ghost use Rattle.pp_directives.specs.WordTokens.{word_token};
+ghost use Rattle.pp_lexer.specs.TokenValue.{is_ordinary};
 ghost use Rattle.pp_rs.specs.Giving.{GivesTokens};
 ghost use Rattle.pp_rs.specs.Kept.{is_spent, most_items, rules_of};
-ghost use Rattle.pp_rs.specs.inner.GivingOn.{KeepsGiving, IsRefused, IsRefusedAfter, HasLeft, TakesWord};
+ghost use Rattle.pp_rs.specs.inner.GivingOn.{KeepsGiving, IsRefused, IsRefusedAfter, HasLeft, TakesToken};
 ghost use Rattle.pp_rs.specs.inner.NextWord.{IsPlain};
 
 use crate::lexer::{Form, PlainItem};
 use crate::pp::preprocessor::{Preprocessor, PreprocessorItem};
 use crate::pp::token_ref::{TokenRef, TokenSink};
-use crate::token::out_of_memory;
+use crate::token::{Token, TokenValue, out_of_memory};
+use pp_model::splice::Origin;
 use std::alloc::AllocError;
 
 impl<'a> Preprocessor<'a> {
@@ -112,13 +115,12 @@ impl<'a> Preprocessor<'a> {
             return Ok(());
         }
         'tokens: while !sink.is_full() && self.advance()? {
-            let Some(token) = self.front() else {
+            let Some((token, origin)) = self.front() else {
                 return Ok(());
             };
-            let text = token.origin.text;
             self.pay()?;
-            sink.take(token)?;
-            self.pass(text);
+            give_token(token, origin, sink)?;
+            self.pass(origin.text);
         }
         Ok(())
     }
@@ -130,12 +132,28 @@ impl<'a> Preprocessor<'a> {
 fn give_word<S: TokenSink>(text: u32, word: &PlainItem<'_>, sink: &mut S) -> Result<(), AllocError>
     requires plain { IsPlain word.now }
     requires wants { S.is_full sink.old ≡ false }
-    ensures taken { OnOk result (TakesWord S.takes text word.now sink.old sink.new) }
+    ensures taken { OnOk result (TakesToken S.takes (word_token word.now) (record { text = text; call = None })
+        sink.old sink.new) }
     ensures refused { OnErr result (S.refuses sink.old sink.new) }
 {
     match word.form {
         Form::Identifier => sink.take(TokenRef::of_word(text, word)),
         Form::Punct(_) => sink.take(TokenRef::of_word(text, word)),
         _ => sink.take(TokenRef::of_word(text, word)),
+    }
+}
+
+// Gives an ordinary token to the sink. It has as many calls as `give_word`, for the same reason.
+#[inline(always)]
+fn give_token<S: TokenSink>(token: &Token, origin: Origin, sink: &mut S) -> Result<(), AllocError>
+    requires ordinary { IsTrue (is_ordinary token.now.value) }
+    requires wants { S.is_full sink.old ≡ false }
+    ensures taken { OnOk result (TakesToken S.takes token.now origin sink.old sink.new) }
+    ensures refused { OnErr result (S.refuses sink.old sink.new) }
+{
+    match token.value {
+        TokenValue::Ident(_) => sink.take(TokenRef::of_token(token, origin)),
+        TokenValue::Punct(_) => sink.take(TokenRef::of_token(token, origin)),
+        _ => sink.take(TokenRef::of_token(token, origin)),
     }
 }

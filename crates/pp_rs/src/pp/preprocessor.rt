@@ -28,7 +28,6 @@ ghost use Rattle.pp_rs.specs.Preprocessing.{IsNextItem};
 use crate::lexer::PlainItem;
 use crate::pp::last_item::LastItem;
 use crate::pp::source_turn::turn_source;
-use crate::pp::token_ref::TokenRef;
 use crate::rules::Rules;
 use crate::token::{Location, NOWHERE, PreprocessorError, Token, out_of_memory};
 use pp_directives::convert::word_token;
@@ -473,13 +472,13 @@ impl<'a> Preprocessor<'a> {
         }
     }
 
-    // The token that `advance` found, if it is ordinary.
+    // The token that `advance` found, if it is ordinary, and where it comes from.
     #[inline(always)]
-    pub(crate) fn front(&self) -> Option<TokenRef<'_>>
+    pub(crate) fn front(&self) -> Option<(&Token, Origin)>
         requires { HasFront self.now }
-        ensures ahead { IfSome result (λ token. IsAheadAs self.now token) }
-        ensures call { IfSome result (λ token. IsFrontCall token.origin.call self.now) }
-        ensures some_left { IfSome result (λ token. 0 < most_items self.now) }
+        ensures ahead { IfSome result (λ found. IsAheadAs self.now found.0.now found.1.text) }
+        ensures call { IfSome result (λ found. IsFrontCall found.1.call self.now) }
+        ensures some_left { IfSome result (λ found. 0 < most_items self.now) }
     {
         let Some(ahead) = self.expander.ahead() else {
             unreachable!();
@@ -491,7 +490,7 @@ impl<'a> Preprocessor<'a> {
             text: ahead.text,
             call: self.expander.outermost_call(),
         };
-        Some(TokenRef::of_token(ahead.token, origin))
+        Some((ahead.token, origin))
     }
 
     // Passes the token that `advance` found, which is of this text, as `next` does.

@@ -24,13 +24,13 @@ returns-clause-ahead c =
       read = c.requires.read;
       ahead = front_ahead c.args.self.now c.requires
           (ap (λ (t : Token). is_ordinary t.value) (sym own.token) ∙ sym c.is_ordinary.ensures ∙ c.if-not-is_ordinary.false);
-      token = c.of_token.ensures.token ∙ own.token;
-      text = ap (λ o. o.text) c.of_token.ensures.origin ∙ own.text;
+      same = own.token;
+      within = own.text;
     }
 
 pub returns-clause-call : goal.returns-clause-call
 returns-clause-call c =
-    ap (λ o. o.call) c.of_token.ensures.origin ∙ c.outermost_call.ensures ∙ ap (λ p. outermost_frame_call p.expander.frames) c.self.view_is
+    c.outermost_call.ensures ∙ ap (λ p. outermost_frame_call p.expander.frames) c.self.view_is
 
 pub returns-clause-some_left : goal.returns-clause-some_left
 returns-clause-some_left c =

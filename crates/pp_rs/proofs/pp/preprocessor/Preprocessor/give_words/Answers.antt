@@ -45,8 +45,8 @@ words-preserved g c =
       rules = word.next.rules ∙ before.rules;
       giving = λ start first p.
           let gave = (c.in_ok-give_word.ensures {u = tt}).taken in
-          giving_word _ _ start _ first _ (before.giving start first p) before.reads.unspent c.in-Some.word _ gave.token _ word
-          gave.refers (rw c.source_text.ensures at gave.outside) gave.taken;
+          giving_word _ _ start _ first _ (before.giving start first p) before.reads.unspent c.in-Some.word _ gave.reference _ word
+          gave.refers (rw c.source_text.ensures at gave.comes) gave.taken;
     }
 
 pub words-smaller : goal.words-smaller
