@@ -189,9 +189,31 @@ def of_directives(r):
     )
 
 
+# Lines with an error, in text, on a line or at its end, and good ones, among which the first are read on.
+MIXED_LINES = [
+    "#if 1", "#if 0", "#if 1/0", "#if @", "#if 1 @ 2", "#if", "#if F(", "#if 1 1", "#if defined", "#ifdef A",
+    "#ifdef A B", "#ifndef", "#ifndef A", "#elif 1", "#elif 0", "#elif", "#elif @ 1", "#elif 1 @", "#elif 1/0",
+    "#else", "#else", "#else x y", "#endif", "#endif", "#endif", "#endif x y", "#endif @", "#define A 1",
+    "#define A 2", "#define A", "#define", "#define 1 2", "#define F(a) a", "#define F(a,a b) x", "#define F(a",
+    "#define F(a b) c", "#define B x # y", "#define B @ z", "#define F(1) A", "#undef A", "#undef A x y",
+    "#undef A @", "#undef", "#undef 1 A", "#undef F z", "#line 7", "#line 7 @", "#line 7 1/0", "#line 7 1 1",
+    "#line 4294967296", "#line", "#line 1/0 2", "#line foo", "#line 5 A B", "#line #", "#version 1", "#version @ 1",
+    "#version #", "#version 3 # 4", "#extension x", "#extension @ y z", "#extension # z", "#pragma p", "#pragma @ p",
+    "#pragma #", "#error", "#error x A", "#nope", "#nope A x", "#", "# 1 x", "# @ A", "# # A", "x # y", "A", "x",
+    "F(1)", "F(x", "1)", "F(1,2)", "F(A @ 1)", "F(\n#define A 3\n)", "A @ x", "08 x", "__LINE__", "x", "A F",
+    "F F(1) x", "#include <a>",
+]
+
+
+def of_errors(r):
+    """Many errors, and what comes after them."""
+    end = r.choice(["", "\n", "\n#version 9", "\n#extension e\n#version 2", "\nx __LINE__"])
+    return "\n".join(r.choice(MIXED_LINES) for _ in range(r.randint(1, 9))) + end
+
+
 STYLES = [
     of_text, of_macros, of_macros, of_calls, of_calls, of_depth, of_blocks, of_blocks, of_expressions, of_line_numbers,
-    of_directives,
+    of_directives, of_errors, of_errors,
 ]
 
 

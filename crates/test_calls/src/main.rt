@@ -21,7 +21,8 @@
 //! | `calls` | `next` up to the first `None`, and after each item `origin`, `call_line` and `call_place` |
 //! | `spell`, `afresh` | `spell_tokens` and `are_read_afresh`, of the tokens that were given so far |
 //! | `copy` | `clone` of all items so far, of what they hold, of errors of their values, and of steps with the errors |
-//! | `replies`, `plain` | `replies` and the plain program, over all `add_define`, `include` and `next` so far |
+//! | `replies` | `replies`, over all `add_define`, `include` and `next` so far, up to the first error item |
+//! | `plain` | the plain program, over the same, to the end |
 //! | `agree` | both: only how many replies they give is printed, and whether these are the same |
 //! | `lexer` | `next` of a `Lexer` of the source, up to the first `None` and then once more |
 //! | `convert` | `clone`, `convert_lexer_token` and `convert_lexer_token_to_step`, of each token of a `Lexer` |
