@@ -4,12 +4,14 @@ ghost use Rattle.std.specs.Prelude.{◌≡◌, option_map};
 ghost use Rattle.glslpp_parts.specs.Reports.{line_of_site, name_of, point_of_site, start_of_site, text_of_site};
 ghost use Rattle.glslpp_parts.specs.Reports.{place_of_site, pointed_text};
 
+use crate::excerpt::Excerpt;
 use crate::macro_use::MacroUse;
 use crate::outline::Define;
 use crate::place::Place;
 use crate::texts::Texts;
 use crate::warning::Warning;
 use pp_rs::token::Location;
+use std::alloc::AllocError;
 
 /// How grave a message is.
 #[derive(Clone, Copy, PartialEq, Eq)]
@@ -115,6 +117,20 @@ impl<'a> Site<'a> {
             Some(place) => Some(place.here),
             None => None,
         }
+    }
+
+    /// Appends a caret as it stands under the text that it points to, and a line end, unless that is in a long line.
+    pub fn push_caret(self, text: &mut String) -> Result<(), AllocError> {
+        let Some(place) = self.place() else {
+            return Ok(());
+        };
+        let excerpt = Excerpt::of(place);
+        if !excerpt.is_whole() {
+            return Ok(());
+        }
+        excerpt.push_blanks(text)?;
+        excerpt.push_caret(text)?;
+        text.push('\n')
     }
 
     /// The text that it points to, with its line.

@@ -52,6 +52,11 @@ impl<'a> Excerpt<'a> {
         }
     }
 
+    /// Whether it is the whole line.
+    pub(crate) fn is_whole(&self) -> bool {
+        !self.is_cut_before && !self.is_cut_behind
+    }
+
     /// Appends the text of the line, with dots for what isn't shown.
     pub(crate) fn push_text(&self, text: &mut String) -> Result<(), AllocError>
         ensures { OnOk result (IsLonger (string_bytes text.old) (string_bytes text.new)) }

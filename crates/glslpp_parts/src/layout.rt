@@ -46,6 +46,11 @@ impl Layout {
         }
     }
 
+    /// The text.
+    pub fn text(&self) -> &str {
+        self.text.as_str()
+    }
+
     /// Returns the line on which the text ends.
     pub fn line(&self) -> u32
         ensures { result ≡ self.now.line }

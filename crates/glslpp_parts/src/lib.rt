@@ -47,6 +47,7 @@ mod search;
 pub mod source;
 pub mod standard;
 pub mod texts;
+pub mod trace;
 pub mod undefined_names;
 pub mod used_names;
 pub mod version;

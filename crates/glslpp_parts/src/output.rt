@@ -18,6 +18,7 @@ use crate::layout::{Gap, Layout};
 use crate::line_names::LineMark;
 use crate::quoting::push_quoted;
 use crate::texts::{File, Inclusion, Texts};
+use crate::trace::Trace;
 use crate::words::{made_word, spelled_word, written_word};
 use pp_rs::pp::{SOURCE_TEXT, TokenRef, TokenSink, ValueRef};
 use pp_rs::rules::Rules;
@@ -53,6 +54,8 @@ pub struct Output<'a> {
     last_text: u32,
     // The place of the last token of the source that no macro gave.
     read: Location,
+    // What is noted for a page, if one is made.
+    trace: Option<Trace>,
 }
 
 impl<'a> Model for Output<'a> {
@@ -85,19 +88,10 @@ impl<'a> TokenSink for Output<'a> {
 
     #[inline(always)]
     fn take(&mut self, token: TokenRef<'_>) -> Result<(), AllocError> {
-        if token.origin.call.is_none() && token.origin.text == SOURCE_TEXT {
-            self.read = token.location;
+        if self.trace.is_some() {
+            return self.push_traced(token);
         }
-        self.last_text = text_of(token);
-        if self.is_left_out(self.last_text, line_of(token)) {
-            return Ok(());
-        }
-        match self.form {
-            Form::Lines => self.push_on_its_line(token),
-            Form::Compact => self.push_on_last_line(token),
-            Form::Tokens => self.push_item(token),
-            Form::Directives | Form::Definitions => Ok(()),
-        }
+        self.push_token(token)
     }
 
     #[inline(always)]
@@ -145,6 +139,24 @@ impl<'a> Output<'a> {
             left_out: None,
             last_text: SOURCE_TEXT,
             read: NOWHERE,
+            trace: None,
+        }
+    }
+
+    /// Notes from now on what a page shows of the tokens.
+    pub fn begin_trace(&mut self)
+        ensures { self.new ≡ self.old }
+    {
+        self.trace = Some(Trace::new(self.alloc));
+    }
+
+    /// Ends this, and returns what was noted.
+    pub fn end_trace(&mut self) -> Trace
+        ensures { self.new ≡ self.old }
+    {
+        match self.trace.take() {
+            Some(trace) => trace,
+            None => Trace::new(self.alloc),
         }
     }
 
@@ -246,6 +258,47 @@ impl<'a> Output<'a> {
     /// the first.
     pub fn read(&self) -> Location {
         self.read
+    }
+
+    // Takes a token, unless it is on the line that is left out.
+    #[inline(always)]
+    fn push_token(&mut self, token: TokenRef<'_>) -> Result<(), AllocError>
+        ensures { OnOk result (Takes self.old token.entry self.new) }
+    {
+        if token.origin.call.is_none() && token.origin.text == SOURCE_TEXT {
+            self.read = token.location;
+        }
+        self.last_text = text_of(token);
+        if self.is_left_out(self.last_text, line_of(token)) {
+            return Ok(());
+        }
+        match self.form {
+            Form::Lines => self.push_on_its_line(token),
+            Form::Compact => self.push_on_last_line(token),
+            Form::Tokens => self.push_item(token),
+            Form::Directives | Form::Definitions => Ok(()),
+        }
+    }
+
+    // The same, and notes it for a page.
+    #[inline(never)]
+    fn push_traced(&mut self, token: TokenRef<'_>) -> Result<(), AllocError>
+        ensures { OnOk result (Takes self.old token.entry self.new) }
+    {
+        let start = self.layout.text().len();
+        self.push_token(token)?;
+        self.note_token(token, start)
+    }
+
+    // Notes a token, whose text in the output begins at a byte offset there, or behind it.
+    fn note_token(&mut self, token: TokenRef<'_>, start: usize) -> Result<(), AllocError>
+        ensures { self.new ≡ self.old }
+    {
+        let printed = self.layout.text().get(start..).unwrap_or("");
+        match &mut self.trace {
+            Some(trace) => trace.add(token, text_of(token), line_of(token), printed),
+            None => Ok(()),
+        }
     }
 
     // A name and a punctuator are printed by their values, which is their text in the source but for continuations.
@@ -395,7 +448,8 @@ impl<'a> Output<'a> {
         match self.form {
             Form::Lines => {
                 self.go_to_text(text, token.location.line)?;
-                self.push_directive_line(token.location.line, line.as_str())
+                self.push_directive_line(token.location.line, line.as_str())?;
+                self.note_line(text, token.location.line, line.as_str())
             }
             Form::Compact | Form::Directives => {
                 let last = self.layout.line();
@@ -411,6 +465,16 @@ impl<'a> Output<'a> {
                 token.location,
                 line.as_str(),
             ),
+        }
+    }
+
+    // Notes what is printed for a line.
+    fn note_line(&mut self, text: u32, line: u32, words: &str) -> Result<(), AllocError>
+        ensures { self.new ≡ self.old }
+    {
+        match &mut self.trace {
+            Some(trace) => trace.add_words(text, line, words),
+            None => Ok(()),
         }
     }
 
