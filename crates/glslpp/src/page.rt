@@ -1,142 +1,30 @@
 //! The page of `--html`: a source and the files that it includes, with what the preprocessor did.
 
+mod defined;
+mod lines;
 mod marks;
+mod order;
 mod sheet;
 mod steps;
+mod tally;
 mod verdicts;
+mod view;
+mod words;
 
-use glslpp_html::page::{File, page};
-use glslpp_html::source::{Class, Line, Mark, Note};
-use glslpp_parts::arguments::Arguments;
-use glslpp_parts::changes::{Change, Definition};
-use glslpp_parts::condition::Branch;
-use glslpp_parts::diagnostic::{Diagnostic, Severity};
-use glslpp_parts::macro_uses::MacroUses;
+use glslpp_html::page::{File, Part, page};
+use glslpp_parts::changes::Definition;
 use glslpp_parts::texts::Texts;
 use glslpp_parts::undefined_names::Conditions;
-use marks::{empty_note, marks_of, plain_mark};
+use lines::Found;
+use order::Order;
 use pp_rs::pp::SOURCE_TEXT;
 use pp_rs::rules::Rules;
-use sheet::{Sheet, Sheets};
+pub(crate) use sheet::MOST_MARKED;
+use sheet::{Piece, Sheet, Sheets};
 use std::alloc::{AllocError, Global};
 use std::env;
-use verdicts::{dead_branch, dead_branches};
-
-// The id of the command line in a page.
-const COMMAND: &str = "command";
-
-// A message on a line of a text.
-#[derive(Drop)]
-struct Said {
-    text: u32,
-    line: u32,
-    severity: Severity,
-    message: String,
-}
-
-impl Said {
-    // Whether it is on a line before this one, of this text or of one before.
-    fn is_before(&self, text: u32, line: usize) -> bool {
-        self.text < text || (self.text == text && (self.line as usize) < line)
-    }
-}
-
-/// What a run over a source gives for its page.
-#[derive(Drop)]
-pub(crate) struct View {
-    alloc: Global,
-    /// What became of macros.
-    pub(crate) uses: MacroUses,
-    said: Vec<Said>,
-    // The macros of the command line.
-    given: Vec<String>,
-}
-
-impl View {
-    /// Nothing yet, with these arguments.
-    pub(crate) fn new(alloc: Global, arguments: &Arguments<'_>) -> Result<View, AllocError> {
-        let mut given = Vec::new(alloc);
-        for change in arguments.changes.as_slice() {
-            if let Change::Define(name, _) = change {
-                given.push(String::from_str(alloc, name)?)?;
-            }
-        }
-        Ok(View {
-            alloc,
-            uses: MacroUses::new(alloc),
-            said: Vec::new(alloc),
-            given,
-        })
-    }
-
-    /// Takes a message, if it is on a line of a file.
-    pub(crate) fn say(&mut self, diagnostic: &Diagnostic<'_>) -> Result<(), AllocError> {
-        let (Some(text), Some(line)) = (diagnostic.site.text(), diagnostic.site.line()) else {
-            return Ok(());
-        };
-        let severity = diagnostic.severity;
-        let message = format!(in self.alloc; "{}: {}", severity.name(), diagnostic.message)?;
-        self.said.push(Said {
-            text,
-            line,
-            severity,
-            message,
-        })?;
-        Ok(())
-    }
-
-    /// Puts the messages in the order of their texts and lines.
-    pub(crate) fn sort(&mut self) -> Result<(), AllocError> {
-        self.said.sort_by_key(|said| said.line)?;
-        self.said.sort_by_key(|said| said.text)
-    }
-
-    // What is said of a 1-based line of a text.
-    fn note(&self, text: u32, line: usize) -> Result<String, AllocError> {
-        let mut note = String::new(self.alloc);
-        let said = self.said.as_slice();
-        let before = said.partition_point(|said| said.is_before(text, line));
-        for said in said.get(before..).unwrap_or(&[]) {
-            if said.text != text || said.line as usize != line {
-                break;
-            }
-            if !note.is_empty() {
-                note.push('\n')?;
-            }
-            note.push_str(said.message.as_str())?;
-        }
-        Ok(note)
-    }
-
-    // How many messages of this severity there are on lines of a text.
-    fn count(&self, text: u32, severity: Severity) -> usize {
-        let mut count = 0usize;
-        for said in self.said.as_slice() {
-            if said.text == text && said.severity == severity {
-                count = count.saturating_add(1);
-            }
-        }
-        count
-    }
-}
-
-// What there is to count in files.
-#[derive(Clone, Copy)]
-struct Tally {
-    lines: usize,
-    live: usize,
-    errors: usize,
-    warnings: usize,
-}
-
-impl Tally {
-    fn add(&mut self, other: Tally) {
-        self.lines = self.lines.saturating_add(other.lines);
-        self.live = self.live.saturating_add(other.live);
-        self.errors = self.errors.saturating_add(other.errors);
-        self.warnings = self.warnings.saturating_add(other.warnings);
-    }
-}
+use tally::Tally;
+pub(crate) use view::View;
 
 /// What a page is made of.
 #[derive(Clone, Copy)]
@@ -170,6 +58,7 @@ pub(crate) fn page_of<'p, 'a>(
     conditions: &'p Conditions,
     view: &'p View,
 ) -> Result<Made, AllocError> {
+    let command = command_line(rt)?;
     let sheets = Sheets::of(alloc, texts)?;
     let sight = Sight {
         alloc,
@@ -180,41 +69,19 @@ pub(crate) fn page_of<'p, 'a>(
         conditions,
         view,
     };
-    let mut files = Vec::new(alloc);
-    let mut total = Tally {
-        lines: 0,
-        live: 0,
-        errors: 0,
-        warnings: 0,
-    };
-    for sheet in sheets.sheets.as_slice() {
-        let lines = sight.lines(sheet)?;
-        let tally = sight.tally(sheet.number, lines.as_slice());
-        total.add(tally);
-        files.push(File {
-            name: sheet.file.name,
-            text: sheet.file.text,
-            note: sight.note_of(sheet.number, tally)?,
-            lines,
-        })?;
-    }
-    let page = page(
-        alloc,
-        texts.name(SOURCE_TEXT),
-        command_line(rt)?.as_str(),
-        files.as_slice(),
-    )?;
-    Ok(Made {
-        page,
-        summary: sight.summary(total)?,
-    })
+    sight.made(command.as_str())
 }
 
 /// Returns the words of the command line, with a space between each two.
 pub(crate) fn command_line(rt: &HostRuntime) -> Result<String, AllocError> {
     let mut command = String::new(rt.alloc());
+    push_command_line(rt, &mut command)?;
+    Ok(command)
+}
+
+fn push_command_line(rt: &HostRuntime, command: &mut String) -> Result<(), AllocError> {
     let Ok(words) = env::args(rt) else {
-        return Ok(command);
+        return Ok(());
     };
     for word in words {
         if !command.is_empty() {
@@ -222,201 +89,133 @@ pub(crate) fn command_line(rt: &HostRuntime) -> Result<String, AllocError> {
         }
         command.push_str(word.as_str())?;
     }
-    Ok(command)
+    Ok(())
 }
 
 impl<'p, 'a> Sight<'p, 'a> {
-    // What there is to count in a file with these lines.
-    fn tally(&self, number: u32, lines: &[Line]) -> Tally {
-        Tally {
-            lines: lines.len(),
-            live: count_live(lines),
-            errors: self.view.count(number, Severity::Error),
-            warnings: self.view.count(number, Severity::Warning),
-        }
-    }
-
-    // How much is compiled, and how many messages there are.
-    fn summary(&self, tally: Tally) -> Result<String, AllocError> {
-        let mut summary = if self.conditions.are_known {
-            format!(in self.alloc; "{} of {} lines compiled", tally.live, tally.lines)?
-        } else {
-            String::from_str(self.alloc, "which lines are compiled is not known")?
+    // The page of this command.
+    fn made(&self, command: &str) -> Result<Made, AllocError> {
+        let mut total = Tally::nothing();
+        let parts = self.arranged(&mut total)?;
+        let page = self.page(command, parts)?;
+        let mut made = Made {
+            page,
+            summary: String::new(self.alloc),
         };
-        for (count, name) in [(tally.errors, "error"), (tally.warnings, "warning")] {
-            if count > 0 {
-                let plural = if count == 1 { "" } else { "s" };
-                write!(summary, ", {count} {name}{plural}")?;
-            }
-        }
-        Ok(summary)
+        self.push_summary(&mut made.summary, total)?;
+        Ok(made)
     }
 
-    // The same of a text, and where it is included.
-    fn note_of(&self, number: u32, tally: Tally) -> Result<String, AllocError> {
-        let mut note = self.summary(tally)?;
-        if let Some(inclusion) = self.texts.inclusion(number) {
-            let name = self.texts.name(inclusion.text);
-            write!(
-                note,
-                ", included by {name}, line {}",
-                inclusion.location.line
-            )?;
-        }
-        Ok(note)
+    fn page(&self, command: &str, parts: Vec<Part<'_>>) -> Result<String, AllocError> {
+        let files = self.files()?;
+        let title = self.texts.name(SOURCE_TEXT);
+        page(self.alloc, title, command, files.as_slice(), parts)
     }
 
-    fn lines(&self, sheet: &Sheet<'_>) -> Result<Vec<Line>, AllocError> {
-        let number = sheet.number;
-        let branches = if self.conditions.are_known {
-            self.conditions.branches(number)
-        } else {
-            &[]
-        };
-        let dead_branches = dead_branches(self.alloc, branches)?;
-        let mut marks = marks_of(self, sheet)?;
-        marks.reverse();
-        let mut lines = Vec::new(self.alloc);
-        let mut start = 0;
-        let mut last = None;
-        for end in sheet.ends.as_slice() {
-            let dead = dead_branch(branches, dead_branches.as_slice(), start, *end);
-            let is_last = *end == sheet.file.text.len();
-            lines.push(Line {
-                end: *end,
-                is_live: dead.is_none(),
-                reason: self.reason_of(number, branches, dead)?,
-                is_continued: last == dead,
-                note: self.view.note(number, lines.len().saturating_add(1))?,
-                marks: marks_before(self.alloc, &mut marks, *end, is_last)?,
-            })?;
-            start = *end;
-            last = dead;
-        }
-        Ok(lines)
-    }
-
-    // Why a line isn't compiled, of which this is the outermost branch for which it isn't.
-    fn reason_of(
-        &self,
-        number: u32,
-        branches: &[Branch],
-        dead: Option<usize>,
-    ) -> Result<Note, AllocError> {
-        let Some(index) = dead else {
-            return Ok(empty_note(self.alloc));
-        };
-        match branches.get(index) {
-            Some(branch) => self.reason(number, branches, branch),
-            None => Ok(empty_note(self.alloc)),
-        }
-    }
-
-    /// Appends links from `#include` lines of a text to what they include.
-    fn push_inclusions(&self, marks: &mut Vec<Mark>, number: u32) -> Result<(), AllocError> {
+    fn files(&self) -> Result<Vec<File<'a>>, AllocError> {
+        let mut files = Vec::new(self.alloc);
         for sheet in self.sheets.sheets.as_slice() {
-            match self.texts.inclusion(sheet.number) {
-                Some(inclusion) if inclusion.text == number => {
-                    let (start, end) = (inclusion.location.start, inclusion.location.end);
-                    let mut mark = plain_mark(
-                        self.alloc,
-                        start as usize,
-                        end as usize,
-                        Class::Directive,
-                    );
-                    mark.title.text.push_str(sheet.file.name)?;
-                    mark.title.target = self.sheets.id(sheet.number)?;
-                    marks.push(mark)?;
-                }
-                _ => {}
+            files.push(File {
+                name: sheet.file.name,
+                text: sheet.file.text,
+            })?;
+        }
+        Ok(files)
+    }
+
+    // The parts of the files in the order of the page. What there is to count in them is added.
+    fn arranged(&self, total: &mut Tally) -> Result<Vec<Part<'a>>, AllocError> {
+        let mut order = Order::new(self.alloc);
+        self.arrange(&mut order, total)?;
+        Ok(order.parts)
+    }
+
+    fn arrange(&self, order: &mut Order<'a>, total: &mut Tally) -> Result<(), AllocError> {
+        for (index, sheet) in self.sheets.sheets.as_slice().iter().enumerate() {
+            let parts = self.parts(index, sheet)?;
+            total.add(self.tally(sheet.number, parts.as_slice()));
+            order.push(parts)?;
+        }
+        order.arrange(self.sheets)
+    }
+
+    // The parts of a file, which has this index, in their order.
+    fn parts<'s>(&self, index: usize, sheet: &Sheet<'s>) -> Result<Vec<Part<'s>>, AllocError> {
+        let mut parts = Vec::new(self.alloc);
+        self.push_parts(&mut parts, index, sheet)?;
+        Ok(parts)
+    }
+
+    fn push_parts<'s>(
+        &self,
+        parts: &mut Vec<Part<'s>>,
+        index: usize,
+        sheet: &Sheet<'s>,
+    ) -> Result<(), AllocError> {
+        if self.sheets.are_marked {
+            self.push_marked_parts(parts, index, sheet)?;
+        } else {
+            parts.push(self.part(index, sheet, sheet.whole()))?;
+        }
+        if let Some(last) = parts.last_mut() {
+            last.is_last = true;
+        }
+        self.begin_first(parts, sheet.number)
+    }
+
+    // Has a file begin with the first of its parts, and says there how much of it is compiled.
+    fn begin_first(&self, parts: &mut [Part<'_>], number: u32) -> Result<(), AllocError> {
+        let tally = self.tally(number, parts);
+        match parts.first_mut() {
+            Some(first) => {
+                first.is_first = true;
+                self.push_note_of(&mut first.note, number, tally)
+            }
+            None => Ok(()),
+        }
+    }
+
+    // Appends the parts of a file with their lines.
+    fn push_marked_parts<'s>(
+        &self,
+        parts: &mut Vec<Part<'s>>,
+        index: usize,
+        sheet: &Sheet<'s>,
+    ) -> Result<(), AllocError> {
+        let mut found = self.found(sheet)?;
+        self.push_pieces(parts, index, sheet, &mut found)
+    }
+
+    fn push_pieces<'s>(
+        &self,
+        parts: &mut Vec<Part<'s>>,
+        index: usize,
+        sheet: &Sheet<'s>,
+        found: &mut Found<'p>,
+    ) -> Result<(), AllocError> {
+        let pieces = sheet.pieces(self.alloc)?;
+        for piece in pieces.as_slice() {
+            parts.push(self.part(index, sheet, *piece))?;
+            if let Some(part) = parts.last_mut() {
+                self.push_lines(&mut part.lines, sheet, *piece, found)?;
             }
         }
         Ok(())
     }
 
-    // Where a name is defined as it is at a byte offset of a text, if it is.
-    fn definition(&self, name: &str, text: u32, offset: u32) -> Result<Option<Note>, AllocError> {
-        if let Some(line) = self.conditions.history.last_line(name, text, offset) {
-            if !line.is_definition {
-                return Ok(None);
-            }
-            return Ok(Some(
-                self.sheets
-                    .directive(line.text, line.start, line.end, text)?,
-            ));
-        }
-        let Some(content) = self.given(name) else {
-            return Ok(None);
-        };
-        let is_of_command = self.view.given.iter().any(|other| other.as_str() == name);
-        Ok(Some(if is_of_command {
-            Note {
-                text: format!(in self.alloc; "-D {name}={content}")?,
-                target: String::from_str(self.alloc, COMMAND)?,
-            }
-        } else {
-            Note {
-                text: format!(in self.alloc; "{name} is {content} before the source")?,
-                target: String::new(self.alloc),
-            }
-        }))
-    }
-
-    // The same, unless it is the line of the definition itself.
-    fn definition_for(
-        &self,
-        name: &str,
-        text: u32,
-        offset: u32,
-    ) -> Result<Option<Note>, AllocError> {
-        match self.conditions.history.last_line(name, text, offset) {
-            Some(line) if line.text == text && line.start <= offset && offset < line.end => Ok(
-                None,
-            ),
-            _ => self.definition(name, text, offset),
+    // A piece of a file, in which nothing is marked yet.
+    fn part<'s>(&self, index: usize, sheet: &Sheet<'s>, piece: Piece) -> Part<'s> {
+        let text = sheet.file.text;
+        Part {
+            file: index,
+            name: sheet.file.name,
+            note: String::new(self.alloc),
+            is_first: false,
+            is_last: false,
+            is_inner: sheet.is_inner,
+            text: text.get(piece.start..piece.end).unwrap_or(""),
+            first_line: piece.first.saturating_add(1),
+            lines: Vec::new(self.alloc),
         }
     }
-
-    // The content of a macro that is defined before the source.
-    fn given(&self, name: &str) -> Option<&'a str> {
-        let mut found = None;
-        for (other, content) in self.definitions {
-            if *other == name {
-                found = Some(*content);
-            }
-        }
-        found
-    }
-}
-
-fn count_live(lines: &[Line]) -> usize {
-    let mut count = 0usize;
-    for line in lines {
-        if line.is_live {
-            count = count.saturating_add(1);
-        }
-    }
-    count
-}
-
-// Takes the marks before a byte offset, or all, from the end of these, which are in the order from the last to the
-// first.
-fn marks_before(
-    alloc: Global,
-    marks: &mut Vec<Mark>,
-    end: usize,
-    are_all: bool,
-) -> Result<Vec<Mark>, AllocError> {
-    let mut before = Vec::new(alloc);
-    for _ in 0..marks.len() {
-        match marks.last() {
-            Some(mark) if are_all || mark.start < end => {
-                if let Some(mark) = marks.pop() {
-                    before.push(mark)?;
-                }
-            }
-            _ => return Ok(before),
-        }
-    }
-    Ok(before)
 }

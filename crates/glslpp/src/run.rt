@@ -8,7 +8,7 @@ mod included;
 mod messages;
 
 use crate::including::Library;
-use crate::page::{Made, View, page_of};
+use crate::page::{MOST_MARKED, Made, View, page_of};
 use glslpp_parts::arguments::{Arguments, Form};
 use glslpp_parts::diagnostic::Diagnostic;
 use glslpp_parts::explainer::Explainer;
@@ -107,6 +107,11 @@ impl<'a> Run<'a> {
         conditions: Conditions,
     ) -> Result<Run<'a>, AllocError> {
         let has_names = arguments.has_line_names;
+        let is_traced = arguments.is_page && texts.source.text.len() <= MOST_MARKED;
+        let mut output = Output::new(alloc, arguments.form, has_names, setting.rules, texts);
+        if is_traced {
+            output.begin_trace();
+        }
         Ok(Run {
             alloc,
             setting,
@@ -116,7 +121,7 @@ impl<'a> Run<'a> {
             reporter,
             is_first_error_alone: arguments.is_first_error_alone,
             most_reports: arguments.most_errors,
-            output: Output::new(alloc, arguments.form, has_names, setting.rules, texts),
+            output,
             reports: String::new(alloc),
             errors: 0,
             fault_start: None,
@@ -162,7 +167,7 @@ impl<'a> Run<'a> {
             alloc,
             setting,
             library,
-            output,
+            mut output,
             reports,
             errors,
             listed,
@@ -173,6 +178,7 @@ impl<'a> Run<'a> {
         let files = library.names()?;
         let made = match view {
             Some(mut view) => {
+                view.trace = output.end_trace();
                 view.sort()?;
                 page_of(
                     alloc,
@@ -230,17 +236,14 @@ impl<'a> Run<'a> {
         Ok(())
     }
 
-    // Takes the next tokens, up to what isn't one. A page shows the sources, and of the tokens what macros became.
+    // Takes the next tokens, up to what isn't one.
     fn next_item(
         &mut self,
         items: &mut Preprocessor<'a>,
     ) -> Option<Result<Token, (PreprocessorError, Location)>>
         ensures { is_ordinary_token result ≡ false }
     {
-        match &mut self.view {
-            Some(view) => items.give_tokens(&mut view.uses),
-            None => items.give_tokens(&mut self.output),
-        }
+        items.give_tokens(&mut self.output)
     }
 
     // Lists the macros that are defined.

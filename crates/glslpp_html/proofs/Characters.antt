@@ -36,6 +36,12 @@ chars_pushed (Err x) before after more cs is e m = tt
 pub chars_appended : (before after more cs : List ℕ) → IsUtf8 before → after ≡ before ++ more → chars more ≡ cs → chars after ≡ chars before ++ cs
 chars_appended before after more cs is e m = ap chars e ∙ chars-append before more is ∙ ap (λ x. chars before ++ x) m
 
+-- what is pushed after something else
+pub two_pushed : {T E : Type 0} (r : Result T E) (old now new first rest : List ℕ) → chars now ≡ chars old ++ first
+    → OnOk r (chars new ≡ chars now ++ rest) → OnOk r (chars new ≡ chars old ++ (first ++ rest))
+two_pushed (Ok x) old now new first rest a b = b ∙ ap (λ t. t ++ rest) a ∙ append_assoc (chars old) first rest
+two_pushed (Err x) old now new first rest a b = tt
+
 -- one more character of a text, each of which is written by a function
 pub one_more : (f : ℕ → List ℕ) (old now new yielded : List ℕ) (c : ℕ) → now ≡ old ++ flat_map f yielded → new ≡ now ++ f c
     → new ≡ old ++ flat_map f (yielded ++ c ∷ [])

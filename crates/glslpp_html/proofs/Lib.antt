@@ -1,3 +1,4 @@
 pub mod Characters
 pub mod Showing
 pub mod Sources
+pub mod Wholes

@@ -11,6 +11,7 @@ use Rattle.glslpp_html.specs.Shown.{Attributes, none, more, IsTag, is_beginning,
 use Rattle.std.specs.Prelude.{Result, OnOk}
 use Rattle.std.proofs.lemmas.Str.{chars-nil}
 use Rattle.glslpp_html.proofs.Characters.{chars_same, on_ok}
+use Rattle.glslpp_html.specs.Pages.{name_line}
 use Rattle.glslpp_html.specs.Written.{ShowsMore, HasAttributes}
 
 pub both_shown : (page next text rest : List ℕ) → Shows page text → Shows next rest → Shows (page ++ next) (text ++ rest)
@@ -153,16 +154,27 @@ pub shows_between : {T E : Type 0} (r : Result T E) (p0 p1 p2 p3 text : List ℕ
 shows_between r p0 p1 p2 p3 text a b = on_ok r _ _ (λ (d : ShowsMore p2 p3 []). subst (ShowsMore p0 p3) (append-nil (chars text))
     (shows_both p0 p2 p3 (chars text) [] (shows_both p0 p1 p2 [] (chars text) a (shows_text p1 p2 text b)) d))
 
--- a file: its heading, a line end and its text
-pub file_shown : {T E : Type 0} (r : Result T E) (p0 p1 p2 p3 p4 p5 name text : List ℕ) → ShowsMore p0 p1 (chars name)
-    → chars p2 ≡ chars p1 ++ flat_map escaped_character (chars (codes "\n")) → ShowsMore p2 p3 [] → ShowsMore p3 p4 (chars text)
-    → OnOk r (ShowsMore p4 p5 []) → OnOk r (ShowsMore p0 p5 (chars name ++ codes "\n" ++ chars text))
-file_shown r p0 p1 p2 p3 p4 p5 name text a b d e =
-    let to_line = shows_both p0 p1 p2 (chars name) (chars (codes "\n")) a (shows_text p1 p2 (codes "\n") b) in
-    let to_code = shows_both p0 p2 p3 (chars name ++ chars (codes "\n")) [] to_line d in
-    let to_text = shows_both p0 p3 p4 ((chars name ++ chars (codes "\n")) ++ []) (chars text) to_code e in
-    on_ok r _ _ (λ (h : ShowsMore p4 p5 []). subst (ShowsMore p0 p5) (simp (append-nil, chars_same (codes "\n") refl))
-    (shows_both p0 p4 p5 (((chars name ++ chars (codes "\n")) ++ []) ++ chars text) [] to_text h))
+-- a text, and then another if nothing failed
+pub then_shown : {T E : Type 0} (r : Result T E) (p0 p1 p2 text rest : List ℕ) → ShowsMore p0 p1 text → OnOk r (ShowsMore p1 p2 rest)
+    → OnOk r (ShowsMore p0 p2 (text ++ rest))
+then_shown r p0 p1 p2 text rest a b = on_ok r _ _ (λ (d : ShowsMore p1 p2 rest). shows_both p0 p1 p2 text rest a d) b
+
+-- a text, and then tags that show nothing
+pub nothing_after : (p0 p1 p2 text : List ℕ) → ShowsMore p0 p1 text → ShowsMore p1 p2 [] → ShowsMore p0 p2 text
+nothing_after p0 p1 p2 text a b = subst (ShowsMore p0 p2) (append-nil text) (shows_both p0 p1 p2 text [] a b)
+
+pub then_nothing : {T E : Type 0} (r : Result T E) (p0 p1 p2 text : List ℕ) → ShowsMore p0 p1 text → OnOk r (ShowsMore p1 p2 [])
+    → OnOk r (ShowsMore p0 p2 text)
+then_nothing r p0 p1 p2 text a b = on_ok r _ _ (λ (d : ShowsMore p1 p2 []). nothing_after p0 p1 p2 text a d) b
+
+-- a name, a line end and a tag
+pub named_then : {T E : Type 0} (r : Result T E) (p0 p1 p2 p3 name : List ℕ) → ShowsMore p0 p1 (chars name)
+    → chars p2 ≡ chars p1 ++ flat_map escaped_character (chars (codes "\n")) → OnOk r (ShowsMore p2 p3 [])
+    → OnOk r (ShowsMore p0 p3 (name_line name))
+named_then r p0 p1 p2 p3 name a b d =
+    then_nothing r p0 p2 p3 (name_line name)
+    (subst (λ end. ShowsMore p0 p2 (chars name ++ end)) (chars_same (codes "\n") refl)
+    (shows_both p0 p1 p2 (chars name) (chars (codes "\n")) a (shows_text p1 p2 (codes "\n") b))) d
 
 -- a page in an overview: its name, `: `, what is said of it, and a line end
 pub entry_shown : {T E : Type 0} (r : Result T E) (p0 p1 p2 p3 p4 p5 p6 name note : List ℕ) → ShowsMore p0 p1 [] → ShowsMore p1 p2 (chars name)

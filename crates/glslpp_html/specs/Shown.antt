@@ -8,7 +8,7 @@ use Rattle.std.specs.List.{list_all, list_any}
 abbrev pub is_element : List ℕ → Bool
 is_element name =
     list_any (pointwise nat_eq name)
-    (codes "span" ∷ codes "a" ∷ codes "details" ∷ codes "summary" ∷ codes "code" ∷ codes "h2" ∷ [])
+    (codes "span" ∷ codes "a" ∷ codes "details" ∷ codes "summary" ∷ codes "div" ∷ codes "h2" ∷ [])
 
 -- The attributes of a page, up to their values. None runs or loads anything: a link leads to a place in the page or to
 -- a file beside it.

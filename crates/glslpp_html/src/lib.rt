@@ -7,3 +7,4 @@ pub mod source;
 mod style;
 mod tag;
 mod text;
+mod whole;

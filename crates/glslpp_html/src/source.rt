@@ -84,6 +84,8 @@ pub struct Line {
     pub reason: Note,
     /// Whether the line before isn't compiled for the same reason.
     pub is_continued: bool,
+    /// What is printed for it, which can be shown beside it, or the empty text.
+    pub output: String,
     /// What is shown below it, or the empty text.
     pub note: String,
     /// Its marks, in their order.
@@ -92,7 +94,7 @@ pub struct Line {
 
 impl Line {
     fn class(&self) -> &'static str {
-        if self.is_live { "line" } else { "line dead" }
+        if self.is_live { "" } else { "dead" }
     }
 }
 
@@ -104,7 +106,7 @@ struct Writer<'a> {
     done: usize,
 }
 
-/// Appends a source to a page. Each line has an id: that of the source, `-` and its number, from 1.
+/// Appends a source to a page. Each line has an id: that of the source, `-` and its number. The first is given.
 ///
 /// What is marked twice is marked once, and what is marked or lined outside of the source isn't.
 pub fn push_source(
@@ -112,6 +114,7 @@ pub fn push_source(
     page: &mut String,
     source: &str,
     id: &str,
+    first_line: usize,
     lines: &[Line],
 ) -> Result<(), AllocError>
     ensures { OnOk result (ShowsMore (string_bytes page.old) (string_bytes page.new) (chars source.now)) }
@@ -121,19 +124,25 @@ pub fn push_source(
         source,
         done: 0,
     };
-    writer.push_lines(alloc, id, lines)?;
+    writer.push_lines(alloc, id, first_line, lines)?;
     writer.push_up_to(source.len())?;
     page.push_str(writer.text.as_str())
 }
 
 impl<'a> Writer<'a> {
-    fn push_lines(&mut self, alloc: Global, source: &str, lines: &[Line]) -> Result<(), AllocError>
+    fn push_lines(
+        &mut self,
+        alloc: Global,
+        source: &str,
+        first_line: usize,
+        lines: &[Line],
+    ) -> Result<(), AllocError>
         requires { IsWritten self.old }
         ensures written { OnOk result (IsWritten self.new) }
         ensures source { OnOk result (self.new.source.now ≡ self.old.source.now) }
     {
         for (index, line) in lines.iter().enumerate() {
-            let id = format!(in alloc; "{source}-{}", index.saturating_add(1))?;
+            let id = format!(in alloc; "{source}-{}", first_line.saturating_add(index))?;
             self.push_line(id.as_str(), line)?;
         }
         Ok(())
@@ -145,7 +154,7 @@ impl<'a> Writer<'a> {
         ensures source { OnOk result (self.new.source.now ≡ self.old.source.now) }
     {
         self.open(
-            Element::Span,
+            Element::Block,
             &[
                 (Attribute::Class, line.class()),
                 (Attribute::Id, id),
@@ -153,9 +162,10 @@ impl<'a> Writer<'a> {
             ],
         )?;
         self.push_reason(line)?;
+        self.push_output(line)?;
         self.push_marks(line.marks.as_slice())?;
         self.push_up_to(line.end)?;
-        self.close(Element::Span)
+        self.close(Element::Block)
     }
 
     // Writes a link to what decides that a line isn't compiled. The first of several such lines is reached by keys.
@@ -178,6 +188,25 @@ impl<'a> Writer<'a> {
             ],
         )?;
         self.close(Element::Link)
+    }
+
+    // Writes what is printed for a line.
+    fn push_output(&mut self, line: &Line) -> Result<(), AllocError>
+        requires { IsWritten self.old }
+        ensures written { OnOk result (IsWritten self.new) }
+        ensures source { OnOk result (self.new.source.now ≡ self.old.source.now) }
+    {
+        if line.output.is_empty() {
+            return Ok(());
+        }
+        self.open(
+            Element::Span,
+            &[
+                (Attribute::Class, "out"),
+                (Attribute::Note, line.output.as_str()),
+            ],
+        )?;
+        self.close(Element::Span)
     }
 
     fn push_marks(&mut self, marks: &[Mark]) -> Result<(), AllocError>

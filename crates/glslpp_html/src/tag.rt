@@ -16,7 +16,8 @@ pub(crate) enum Element {
     // What can be opened, and what of it is always shown.
     Details,
     Summary,
-    Code,
+    // A block of lines, or one of them.
+    Block,
     Heading,
 }
 
@@ -29,7 +30,7 @@ impl Element {
             Element::Link => "a",
             Element::Details => "details",
             Element::Summary => "summary",
-            Element::Code => "code",
+            Element::Block => "div",
             Element::Heading => "h2",
         }
     }

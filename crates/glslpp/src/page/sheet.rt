@@ -14,7 +14,81 @@ pub(crate) struct Sheet<'a> {
     pub(crate) file: File<'a>,
     /// The byte offsets at which its lines end, each behind its line end.
     pub(crate) ends: Vec<usize>,
+    /// Whether it stands within another.
+    pub(crate) is_inner: bool,
+    /// The files that stand within it, in the order of the lines that include them.
+    pub(crate) inner: Vec<Inner>,
 }
+
+/// A file that stands within another.
+#[derive(Clone, Copy)]
+pub(crate) struct Inner {
+    /// Its index among the files of the page.
+    pub(crate) index: usize,
+    /// The index of the line of the other below which it stands.
+    pub(crate) line: usize,
+}
+
+/// Lines of a file between which no other stands.
+#[derive(Clone, Copy)]
+pub(crate) struct Piece {
+    /// The index of the first line.
+    pub(crate) first: usize,
+    /// The index behind that of the last line.
+    pub(crate) last: usize,
+    /// The byte offset at which it begins.
+    pub(crate) start: usize,
+    /// The byte offset at which it ends.
+    pub(crate) end: usize,
+}
+
+impl<'a> Sheet<'a> {
+    /// The whole file as one piece.
+    pub(crate) fn whole(&self) -> Piece {
+        Piece {
+            first: 0,
+            last: self.ends.len(),
+            start: 0,
+            end: self.file.text.len(),
+        }
+    }
+
+    /// The text between two byte offsets.
+    fn between(&self, start: u32, end: u32) -> &'a str {
+        let text = self.file.text;
+        text.get(start as usize..end as usize).unwrap_or("")
+    }
+
+    /// The pieces of the file, one more than files stand within it.
+    pub(crate) fn pieces(&self, alloc: Global) -> Result<Vec<Piece>, AllocError> {
+        let mut pieces = Vec::new(alloc);
+        let (mut first, mut start) = (0usize, 0usize);
+        for inner in self.inner.as_slice() {
+            let last = inner.line.saturating_add(1);
+            let end = match self.ends.get(inner.line) {
+                Some(end) => *end,
+                None => start,
+            };
+            pieces.push(Piece {
+                first,
+                last,
+                start,
+                end,
+            })?;
+            (first, start) = (last, end);
+        }
+        pieces.push(Piece {
+            first,
+            last: self.ends.len(),
+            start,
+            end: self.file.text.len(),
+        })?;
+        Ok(pieces)
+    }
+}
+
+/// How many bytes files may have together of which anything is marked: a page has about ten times as many.
+pub(crate) const MOST_MARKED: usize = 4_000_000;
 
 /// The files of a page, in the order of their texts.
 #[derive(Drop)]
@@ -22,19 +96,70 @@ pub(crate) struct Sheets<'a> {
     alloc: Global,
     /// The files.
     pub(crate) sheets: Vec<Sheet<'a>>,
+    /// Whether anything is marked in them.
+    pub(crate) are_marked: bool,
 }
 
 impl<'a> Sheets<'a> {
     /// The files of these texts.
     pub(crate) fn of(alloc: Global, texts: &Texts<'a>) -> Result<Sheets<'a>, AllocError> {
-        let mut sheets = Vec::new(alloc);
+        let mut sheets = Sheets {
+            alloc,
+            sheets: Vec::new(alloc),
+            are_marked: false,
+        };
+        sheets.take_files(texts)?;
+        Ok(sheets)
+    }
+
+    fn take_files(&mut self, texts: &Texts<'a>) -> Result<(), AllocError> {
+        let mut bytes = 0usize;
         for number in 0..texts.count() {
             if let Some(file) = texts.file(number) {
-                let ends = line_ends(alloc, file.text)?;
-                sheets.push(Sheet { number, file, ends })?;
+                bytes = bytes.saturating_add(file.text.len());
+                self.push(number, file)?;
             }
         }
-        Ok(Sheets { alloc, sheets })
+        self.are_marked = bytes <= MOST_MARKED;
+        if self.are_marked {
+            for index in 0..self.sheets.len() {
+                self.place_within(texts, index)?;
+            }
+        }
+        Ok(())
+    }
+
+    fn push(&mut self, number: u32, file: File<'a>) -> Result<(), AllocError> {
+        let ends = line_ends(self.alloc, file.text)?;
+        self.sheets.push(Sheet {
+            number,
+            file,
+            ends,
+            is_inner: false,
+            inner: Vec::new(self.alloc),
+        })?;
+        Ok(())
+    }
+
+    // Notes within which file another stands, below which of its lines, if it was included by one.
+    fn place_within(&mut self, texts: &Texts<'a>, index: usize) -> Result<(), AllocError> {
+        let Some(sheet) = self.sheets.get(index) else {
+            return Ok(());
+        };
+        let Some(inclusion) = texts.inclusion(sheet.number) else {
+            return Ok(());
+        };
+        let line = self
+            .line(inclusion.text, inclusion.location.end)
+            .saturating_sub(1);
+        let around = self.index_of(inclusion.text);
+        if let Some(other) = self.sheets.get_mut(around) {
+            other.inner.push(Inner { index, line })?;
+        }
+        if let Some(sheet) = self.sheets.get_mut(index) {
+            sheet.is_inner = true;
+        }
+        Ok(())
     }
 
     fn index_of(&self, number: u32) -> usize {
@@ -58,82 +183,82 @@ impl<'a> Sheets<'a> {
         }
     }
 
-    /// The id of a file.
-    pub(crate) fn id(&self, number: u32) -> Result<String, AllocError> {
-        format!(in self.alloc; "f{}", self.index_of(number))
+    /// Appends the id of a file.
+    pub(crate) fn push_id(&self, id: &mut String, number: u32) -> Result<(), AllocError> {
+        write!(id, "f{}", self.index_of(number))
     }
 
-    /// The id of the line of a byte offset in a text.
-    pub(crate) fn line_id(&self, number: u32, offset: u32) -> Result<String, AllocError> {
-        format!(in self.alloc; "f{}-{}", self.index_of(number), self.line(number, offset))
+    /// Appends the id of the line of a byte offset in a text.
+    pub(crate) fn push_line_id(
+        &self,
+        id: &mut String,
+        number: u32,
+        offset: u32,
+    ) -> Result<(), AllocError> {
+        self.push_id(id, number)?;
+        write!(id, "-{}", self.line(number, offset))
     }
 
-    /// The line of a byte offset in a text, as it is called in another text.
-    pub(crate) fn place(&self, number: u32, offset: u32, from: u32) -> Result<String, AllocError> {
+    // Appends the line of a byte offset in a text, as it is called in another text.
+    fn push_place(
+        &self,
+        place: &mut String,
+        number: u32,
+        offset: u32,
+        from: u32,
+    ) -> Result<(), AllocError> {
         let line = self.line(number, offset);
         match self.sheet(number) {
-            Some(sheet) if number != from => format!(in self.alloc;
-                "{}, line {line}",
-                sheet.file.name
-            ),
-            _ => format!(in self.alloc; "line {line}"),
+            Some(sheet) if number != from => write!(place, "{}, line {line}", sheet.file.name),
+            _ => write!(place, "line {line}"),
         }
     }
 
-    /// The line of a definition, with its continuations.
-    pub(crate) fn definition_line(&self, line: DefinedAt) -> Result<String, AllocError> {
-        let text = match self.sheet(line.text) {
-            Some(sheet) => sheet
-                .file
-                .text
-                .get(line.start as usize..line.end as usize)
-                .unwrap_or(""),
+    // What stands between two byte offsets of a text.
+    fn between(&self, number: u32, start: u32, end: u32) -> &'a str {
+        match self.sheet(number) {
+            Some(sheet) => sheet.between(start, end),
             None => "",
-        };
-        format!(in self.alloc; "#{text}\n")
+        }
     }
 
-    /// The directive whose word begins at a byte offset of a text and whose line ends at another, on one line, with its
-    /// place as it is called in a text, and the id of its line.
-    pub(crate) fn directive(
+    /// Appends the line of a definition, with its continuations.
+    pub(crate) fn push_line(&self, lines: &mut String, line: DefinedAt) -> Result<(), AllocError> {
+        writeln!(lines, "#{}", self.between(line.text, line.start, line.end))
+    }
+
+    /// Appends the directive whose word begins at a byte offset of a text and whose line ends at another, on one line,
+    /// with its place as it is called in a text, and the id of its line.
+    pub(crate) fn push_directive(
         &self,
+        note: &mut Note,
         number: u32,
         start: u32,
         end: u32,
         from: u32,
-    ) -> Result<Note, AllocError> {
-        let place = self.place(number, start, from)?;
-        let line = match self.sheet(number) {
-            Some(sheet) => sheet
-                .file
-                .text
-                .get(start as usize..end as usize)
-                .unwrap_or(""),
-            None => "",
-        };
-        let line = shortened(self.alloc, line)?;
-        Ok(Note {
-            text: format!(in self.alloc; "#{line} ({place})")?,
-            target: self.line_id(number, start)?,
-        })
+    ) -> Result<(), AllocError> {
+        note.text.push('#')?;
+        push_shortened(&mut note.text, self.between(number, start, end))?;
+        note.text.push_str(" (")?;
+        self.push_place(&mut note.text, number, start, from)?;
+        note.text.push(')')?;
+        self.push_line_id(&mut note.target, number, start)
     }
 }
 
 // How many characters of a directive are shown beside another line.
 const MOST_CHARACTERS: usize = 80;
 
-// A text with a space in place of each run of white space and line ends that are continued, cut if it is long.
-fn shortened(alloc: Global, text: &str) -> Result<String, AllocError> {
-    let mut line = String::new(alloc);
+// Appends a text with a space in place of each run of white space and line ends that are continued, cut if it is long.
+fn push_shortened(line: &mut String, text: &str) -> Result<(), AllocError> {
     let mut count = 0usize;
     let mut is_parted = false;
     'characters: for c in text.chars() {
         if count >= MOST_CHARACTERS {
-            line.push('…')?;
-            return Ok(line);
+            return line.push('…');
         }
         if is_blank(c) {
-            is_parted = !line.is_empty();
+            is_parted = count > 0;
             continue;
         }
         if is_parted {
@@ -143,7 +268,7 @@ fn shortened(alloc: Global, text: &str) -> Result<String, AllocError> {
         line.push(c)?;
         count = count.saturating_add(1);
     }
-    Ok(line)
+    Ok(())
 }
 
 // Whether a character is white space or continues a line.

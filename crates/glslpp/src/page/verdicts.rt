@@ -4,7 +4,7 @@ use crate::page::Sight;
 use crate::page::marks::plain_mark;
 use glslpp_html::source::{Class, Mark, Note};
 use glslpp_parts::condition::{Branch, BranchWord, Tested};
-use std::alloc::{AllocError, Global};
+use std::alloc::AllocError;
 
 impl<'p, 'a> Sight<'p, 'a> {
     /// Appends marks for the names that conditions of a text test, and for what became of its directives.
@@ -18,14 +18,26 @@ impl<'p, 'a> Sight<'p, 'a> {
         }
         let branches = self.conditions.branches(number);
         for branch in branches {
-            if !branch.is_known {
-                continue;
+            if branch.is_known {
+                self.push_branch(marks, number, branches, branch)?;
             }
-            if branch.is_reached {
-                for tested in branch.tested.as_slice() {
-                    self.push_tested(marks, number, branch, tested)?;
-                }
+        }
+        Ok(())
+    }
+
+    fn push_branch(
+        &self,
+        marks: &mut Vec<Mark>,
+        number: u32,
+        branches: &[Branch],
+        branch: &Branch,
+    ) -> Result<(), AllocError> {
+        if branch.is_reached {
+            for tested in branch.tested.as_slice() {
+                self.push_tested(marks, number, branch, tested)?;
             }
+        }
+        if branch.word != BranchWord::Endif && is_live(branches, branch) {
             self.push_verdict(marks, number, branches, branch)?;
         }
         Ok(())
@@ -39,28 +51,33 @@ impl<'p, 'a> Sight<'p, 'a> {
         branch: &Branch,
         tested: &Tested,
     ) -> Result<(), AllocError> {
-        let (start, end) = (tested.location.start as usize, tested.location.end as usize);
-        if tested.is_defined {
-            let found = self.definition(tested.name.as_str(), number, tested.location.start)?;
-            if let Some(title) = found {
-                let mut mark = plain_mark(self.alloc, start, end, Class::Macro);
-                mark.title = title;
-                marks.push(mark)?;
-            }
-            return Ok(());
+        if !tested.is_defined {
+            return self.push_undefined(marks, branch, tested);
         }
-        let mut mark = plain_mark(self.alloc, start, end, Class::Undefined);
-        mark.title.text = self.undefined(branch, tested)?;
-        marks.push(mark)?;
-        Ok(())
+        let (name, place) = (tested.name.as_str(), tested.location);
+        match self.definition_at(name, number, place.start) {
+            Some(defined) => self.push_macro(marks, number, name, place, defined),
+            None => Ok(()),
+        }
     }
 
-    fn undefined(&self, branch: &Branch, tested: &Tested) -> Result<String, AllocError> {
-        let name = tested.name.as_str();
-        if branch.counts(tested) {
-            return format!(in self.alloc; "{name} isn't defined, and counts as 0");
+    fn push_undefined(
+        &self,
+        marks: &mut Vec<Mark>,
+        branch: &Branch,
+        tested: &Tested,
+    ) -> Result<(), AllocError> {
+        let (start, end) = (tested.location.start as usize, tested.location.end as usize);
+        marks.push(plain_mark(self.alloc, start, end, Class::Undefined))?;
+        let counts = if branch.counts(tested) {
+            ", and counts as 0"
+        } else {
+            ""
+        };
+        match marks.last_mut() {
+            Some(mark) => write!(mark.title.text, "{} isn't defined{counts}", tested.name),
+            None => Ok(()),
         }
-        format!(in self.alloc; "{name} isn't defined")
     }
 
     // Appends a mark for what became of a directive behind its line.
@@ -71,64 +88,81 @@ impl<'p, 'a> Sight<'p, 'a> {
         branches: &[Branch],
         branch: &Branch,
     ) -> Result<(), AllocError> {
-        let is_live = match branches.get(branch.first) {
-            Some(first) => first.is_reached,
-            None => false,
-        };
-        if !is_live || branch.word == BranchWord::Endif {
-            return Ok(());
-        }
         let end = branch.end as usize;
-        let class = if branch.is_read {
-            Class::Taken
+        let (class, verdict) = if branch.is_read {
+            (Class::Taken, "taken: ")
         } else {
-            Class::Passed
+            (Class::Passed, "not taken: ")
         };
-        let mut mark = plain_mark(self.alloc, end, end, class);
-        let because = match taken_before(branches, branch) {
-            Some(other) => {
-                mark.title.target = self.sheets.line_id(number, other.start)?;
-                format!(in self.alloc; "line {} is taken", self.sheets.line(number, other.start))?
+        marks.push(plain_mark(self.alloc, end, end, class))?;
+        match marks.last_mut() {
+            Some(mark) => {
+                mark.note.push_str(verdict)?;
+                self.push_cause(mark, number, branches, branch)
             }
-            None => self.condition(branch)?,
-        };
-        let verdict = if branch.is_read { "taken" } else { "not taken" };
-        mark.note = format!(in self.alloc; "{verdict}: {because}")?;
-        marks.push(mark)?;
-        Ok(())
-    }
-
-    // What a condition became that was computed.
-    fn condition(&self, branch: &Branch) -> Result<String, AllocError> {
-        match (branch.word, branch.tested.first()) {
-            (BranchWord::Ifdef | BranchWord::Ifndef, Some(tested)) => {
-                let is = if tested.is_defined { "is" } else { "isn't" };
-                format!(in self.alloc; "{} {is} defined", tested.name)
-            }
-            (BranchWord::Else, _) => String::from_str(self.alloc, "nothing before it is"),
-            _ => String::from_str(self.alloc, branch.value.as_str()),
+            None => Ok(()),
         }
     }
 
-    /// Returns why what follows a branch of a text isn't compiled, with the line that decides it.
-    pub(crate) fn reason(
+    // Puts on a mark why a branch is taken or not.
+    fn push_cause(
         &self,
+        mark: &mut Mark,
         number: u32,
         branches: &[Branch],
         branch: &Branch,
-    ) -> Result<Note, AllocError> {
-        let is_instead = taken_before(branches, branch);
-        let decisive = is_instead.unwrap_or(branch);
-        let directive = self
-            .sheets
-            .directive(number, decisive.start, decisive.end, number)?;
-        let because = self.condition(decisive)?;
-        let instead = if is_instead.is_some() { "instead " } else { "" };
-        let text = format!(in self.alloc; "not compiled: {instead}{}: {because}", directive.text)?;
-        Ok(Note {
-            text,
-            target: directive.target,
-        })
+    ) -> Result<(), AllocError> {
+        match taken_before(branches, branch) {
+            Some(other) => {
+                let line = self.sheets.line(number, other.start);
+                write!(mark.note, "line {line} is taken")?;
+                self.sheets
+                    .push_line_id(&mut mark.title.target, number, other.start)
+            }
+            None => push_condition(&mut mark.note, branch),
+        }
+    }
+
+    /// Appends why what follows a branch of a text isn't compiled, with the line that decides it.
+    pub(crate) fn push_reason(
+        &self,
+        reason: &mut Note,
+        number: u32,
+        branches: &[Branch],
+        branch: &Branch,
+    ) -> Result<(), AllocError> {
+        let instead = taken_before(branches, branch);
+        let decisive = instead.unwrap_or(branch);
+        let beginning = if instead.is_some() {
+            "not compiled: instead "
+        } else {
+            "not compiled: "
+        };
+        reason.text.push_str(beginning)?;
+        self.sheets
+            .push_directive(reason, number, decisive.start, decisive.end, number)?;
+        reason.text.push_str(": ")?;
+        push_condition(&mut reason.text, decisive)
+    }
+}
+
+// Appends what a condition became that was computed.
+fn push_condition(text: &mut String, branch: &Branch) -> Result<(), AllocError> {
+    match (branch.word, branch.tested.first()) {
+        (BranchWord::Ifdef | BranchWord::Ifndef, Some(tested)) => {
+            let is = if tested.is_defined { "is" } else { "isn't" };
+            write!(text, "{} {is} defined", tested.name)
+        }
+        (BranchWord::Else, _) => text.push_str("nothing before it is"),
+        _ => text.push_str(branch.value.as_str()),
+    }
+}
+
+// Whether the block of a branch is read.
+fn is_live(branches: &[Branch], branch: &Branch) -> bool {
+    match branches.get(branch.first) {
+        Some(first) => first.is_reached,
+        None => false,
     }
 }
 
@@ -140,12 +174,11 @@ fn taken_before<'b>(branches: &'b [Branch], branch: &Branch) -> Option<&'b Branc
     branches.get(branch.taken?)
 }
 
-/// Returns of each branch the outermost around it, or itself, after which nothing is read.
-pub(crate) fn dead_branches(
-    alloc: Global,
+/// Appends of each branch the outermost around it, or itself, after which nothing is read.
+pub(crate) fn push_dead_branches(
+    dead: &mut Vec<Option<usize>>,
     branches: &[Branch],
-) -> Result<Vec<Option<usize>>, AllocError> {
-    let mut dead: Vec<Option<usize>> = Vec::new(alloc);
+) -> Result<(), AllocError> {
     for (index, branch) in branches.iter().enumerate() {
         let around = dead_around(dead.as_slice(), branch.around);
         let found = match around {
@@ -154,7 +187,7 @@ pub(crate) fn dead_branches(
         };
         dead.push(found)?;
     }
-    Ok(dead)
+    Ok(())
 }
 
 fn dead_around(dead: &[Option<usize>], around: Option<usize>) -> Option<usize> {

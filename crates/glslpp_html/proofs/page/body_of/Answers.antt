@@ -1,14 +1,19 @@
-use Rattle.std.proofs.Common.{string_bytes}
+use Rattle.std.proofs.Common.{[], string_bytes}
 use Rattle.std.specs.Str.{chars}
-use Rattle.glslpp_html.specs.Pages.{text_of_file}
-use Rattle.glslpp_html.proofs.Showing.{body_begun, one_element_more}
+use Rattle.glslpp_html.specs.Pages.{text_of_part}
+use Rattle.glslpp_html.proofs.Showing.{body_begun, one_element_more, shows_both}
 use Rattle.glslpp_html.proofs.page.body_of.Goals as goal
 
-pub loop-index-init : goal.loop-index-init
-loop-index-init c = body_begun (string_bytes c.push_heading.new.body) c.args.command.now (string_bytes c.new-body.result) c.new-body.ensures.bytes c.in_ok-push_heading.ensures
+pub loop-part-init : goal.loop-part-init
+loop-part-init c =
+    let start = string_bytes c.new-body.result in
+    let headed = string_bytes c.push_heading.new.body in
+    body_begun headed c.args.command.now start c.new-body.ensures.bytes
+    (shows_both start (string_bytes c.push_switch.new.body) headed [] (chars c.args.command.now) c.in_ok-push_switch.ensures
+    c.in_ok-push_heading.ensures)
 
-pub loop-index-preserved : goal.loop-index-preserved
-loop-index-preserved c =
-    one_element_more text_of_file (chars c.args.command.now) c.args.files.now c.loop-index.index-counter c.index-files-index.result
-    (string_bytes c.loop-index.body) (string_bytes c.push_file.new.body) c.loop-index-test.true c.index-files-index.is c.loop-index.invariant
-    c.in_ok-push_file.ensures
+pub loop-part-preserved : goal.loop-part-preserved
+loop-part-preserved c =
+    one_element_more text_of_part (chars c.args.command.now) c.args.parts.now c.loop-part.part-index c.part-item.result
+    (string_bytes c.loop-part.body) (string_bytes c.push_part.new.body) c.loop-part-test.true c.part-item.is c.loop-part.invariant
+    c.in_ok-push_part.ensures

@@ -5,8 +5,8 @@ use Rattle.glslpp_html.proofs.tag.Element.name.Goals as goal
 pub returns-in-Span : goal.returns-in-Span
 returns-in-Span c = rw (chars_same (codes "span") refl) refl
 
-pub returns-in-Code : goal.returns-in-Code
-returns-in-Code c = rw (chars_same (codes "code") refl) refl
+pub returns-in-Block : goal.returns-in-Block
+returns-in-Block c = rw (chars_same (codes "div") refl) refl
 
 pub returns-in-Heading : goal.returns-in-Heading
 returns-in-Heading c = rw (chars_same (codes "h2") refl) refl
