@@ -15,8 +15,8 @@ abbrev pub IsFrontCall : Option CallPlace → Preprocessing → Type 0
 IsFrontCall call p = call ≡ outermost_frame_call p.expander.frames
 
 -- the sink took the token, which comes from there
-pub record TakesToken {S : Type 0} (takes : S → TokenRef → S → Type 0) (token : Token) (origin : Origin) (old new : S)
-    : Type 0 where
+pub record TakesToken {S : Type 0} (takes : S → TokenRef → S → Type 0) (token : Token) (origin : Origin)
+    (old new : S) : Type 0 where
   pub reference : TokenRef
   pub refers : token_of reference ≡ token
   pub comes : reference.origin ≡ origin
