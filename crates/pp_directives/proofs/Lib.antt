@@ -1,13 +1,18 @@
 pub mod LinedLemmas
 pub mod EndedLemmas
+pub mod ErrorsShownLemmas
 pub mod UnreportedLemmas
 pub mod PassedErrorsLemmas
 pub mod HeldLemmas
+pub mod ShownLemmas
+pub mod FaultTakenLemmas
 pub mod LineReadingLemmas
+pub mod PartsShownLemmas
 pub mod LineEndLemmas
 pub mod ContentLemmas
 pub mod CommentsAfterLemmas
 pub mod SourceActsLemmas
+pub mod FaultyLinesLemmas
 pub mod SkippingLemmas
 pub mod NotedLemmas
 pub mod PlainWordLemmas
@@ -20,4 +25,5 @@ pub mod LineReadLemmas
 pub mod LineKnownLemmas
 pub mod LineOperandLemmas
 pub mod LineWordsLemmas
+pub mod PlainConditionLemmas
 pub mod ParametersLemmas

@@ -1,21 +1,26 @@
 -- A line that isn't read is passed, and its end is found.
-use Rattle.std.proofs.Common.{◌≡◌, ◌∙◌, ℕ, Bool, true, false, not, List, [], ◌∷◌, drop, ap, sym, refl, subst, Result, Ok, Err, Option, Some, None}
+use Rattle.std.proofs.Common.{◌≡◌, ◌∙◌, ◌⊎◌, ℕ, Bool, true, false, not, List, [], ◌∷◌, drop, ap, sym, refl, subst, Result, Ok, Err, Option, Some, None}
 use Rattle.std.specs.Prelude.{unwrap_or, if◌then◌else◌}
 use Rattle.pp_expression.specs.Answers.{◌>>=◌}
 use Rattle.pp_lexer.specs.Items.{Lexeme}
 use Rattle.pp_lexer.specs.Lexed.{Seen}
 use Rattle.pp_lexer.specs.declared.lexer.item.Token.{Token as LexerToken}
 use Rattle.pp_model.specs.Conversions.{is_newline}
-use Rattle.pp_model.specs.Lines.{ends_line, line_end, line_fault, newline_start}
+use Rattle.pp_model.specs.Faults.{is_shown}
+use Rattle.pp_model.specs.Moves.{fails}
+use Rattle.pp_model.specs.Lines.{ends_line, line_end, line_fault, line_length, newline_start}
 use Rattle.pp_model.specs.Places.{Fault}
-use Rattle.pp_macros.specs.inner.LineReading.{HasTaken, as_next, next_token, goes_on_after, item_goes_on, line_goes_on, passed_line, skipped_line, unless_fault}
+use Rattle.pp_macros.specs.inner.LineReading.{HasTaken, as_next, next_token, goes_on_after, item_goes_on, line_goes_on, shown_on, passed_line, skipped_line, unless_fault}
 use Rattle.pp_macros.specs.inner.SourceLexed.{SourceLexed, unreported_at}
 use Rattle.pp_macros.specs.inner.Unreported.{Unreported, IsMet, ReportsNone}
+use Rattle.pp_macros.specs.declared.halt.Halt.{Halt}
+use Rattle.pp_macros.specs.declared.halt.Halt.TheVariants as halt
 use Rattle.pp_directives.specs.inner.LineEnds.{goes_on_by, first_end, passed_end}
 use Rattle.pp_directives.specs.inner.PlainText.{PassesBlanks}
 use Rattle.pp_directives.specs.inner.ReadingLines.{ReadsPart}
 use Rattle.pp_directives.proofs.UnreportedLemmas.{met_none}
-use Rattle.pp_directives.proofs.LineReadingLemmas.{skipped_more}
+use Rattle.pp_directives.proofs.LineReadingLemmas.{skipped_more, skipped_shown, skipped_here}
+use Rattle.pp_directives.proofs.ShownLemmas.{later_taken, same_taken, mapped_shown}
 
 -- whether the line goes on after an item that was passed
 on_after : (rest : List Seen) (on : Bool) → line_goes_on rest ≡ Ok on → item_goes_on rest ≡ on
@@ -135,11 +140,55 @@ next_on (s ∷ rest) fault e = go s.item e
 
 pub error_on : (passes : Bool) (fault : Fault) (old mid next new : SourceLexed) → passes ≡ true → PassesBlanks old mid → next_token mid.rest ≡ Err fault
     → HasTaken 1 mid next → IsMet fault (unreported_at mid) (unreported_at next) → new ≡ record next { error_place = None }
-    → ReadsPart passes {A = Bool} (λ t. t) (goes_on_by passes old.rest) 1 old (Ok true) new
+    → ReadsPart passes {A = Bool} (λ t. t) (goes_on_by passes old.rest) 1 1 old (Ok true) new
 error_on passes fault old mid next new passed same e one met others =
     let here : IsMet fault (unreported_at old) (unreported_at next) = subst (λ (u : Unreported). IsMet fault u (unreported_at next)) (ap unreported_at same) met in
     rw (passed, others) (record {
       is = next_on old.rest fault (ap (λ (l : SourceLexed). next_token l.rest) (sym same) ∙ e);
       takes = record { rest = one.rest ∙ ap (λ (l : SourceLexed). drop 1 l.rest) same; spent = one.spent };
+      fault = tt;
       errors = met_none fault (unreported_at old) (unreported_at next) _ here refl;
     })
+
+-- the items that show an error of what is left of the line
+item_on : (s : Seen) (items : List Seen) → item_goes_on (s ∷ items) ≡ true → ends_line s.item ≡ false
+item_on s items e = by (ends_line s.item) e
+  where
+    by : (ends : Bool) → not ends ≡ true → ends ≡ false
+    by true e = cc
+    by false e = refl
+
+passing_shown : (rest after : List Seen) → item_goes_on rest ≡ true → after ≡ drop 1 rest
+    → drop (shown_on (passed_line true) after) after ≡ drop (shown_on (passed_line true) rest) rest
+passing_shown [] after e d = cc
+passing_shown (s ∷ rest) after e d = rw d (sym (later_taken (passed_line true) (passed_line true) s rest (item_on s rest e) (λ items. refl) refl))
+
+pub passed_shown : (passes : Bool) (rest after : List Seen) → goes_on_by passes rest ≡ Ok true → after ≡ drop 1 rest
+    → drop (shown_on (passed_line passes) after) after ≡ drop (shown_on (passed_line passes) rest) rest
+passed_shown true rest after e d = passing_shown rest after (goes_on true rest true e) d
+passed_shown false rest after e d = skipped_shown rest after e d
+
+pub passed_here : (passes : Bool) (rest after : List Seen) (fault : Fault) → goes_on_by passes rest ≡ Err fault → after ≡ drop 1 rest
+    → (is_shown (fails fault) ≡ true) ⊎ (after ≡ []) → after ≡ drop (shown_on (passed_line passes) rest) rest
+passed_here true rest after fault e d h = cc
+passed_here false rest after fault e d h = skipped_here rest after fault e d h
+
+-- where the line ends shows none
+pub end_shown : (passes : Bool) (from : ℕ) (rest : List Seen)
+    → drop (shown_on (passed_line passes) rest) rest ≡ drop (shown_on (passed_end passes from) rest) rest
+end_shown passes from rest =
+    same_taken (passed_line passes) (passed_end passes from) (λ items. sym (mapped_shown (λ done. line_end from items) (passed_line passes items))) rest
+
+-- an error of what is left of the line
+pub end_fails : (h : Halt) (passes : Bool) (from : ℕ) (start old new : SourceLexed) → passed_line passes old.rest ≡ passed_line passes start.rest
+    → drop (shown_on (passed_line passes) old.rest) old.rest ≡ drop (shown_on (passed_end passes from) start.rest) start.rest
+    → ReportsNone passes (unreported_at start) (unreported_at old)
+    → ReadsPart passes {A = Bool} (λ t. t) (goes_on_by passes old.rest) 1 1 old (Err h) new
+    → ReadsPart passes {A = ℕ} (λ t. t) (passed_end passes from start.rest) (line_length start.rest) (shown_on (passed_end passes from) start.rest) start (Err h) new
+end_fails (halt.Fault fault) passes from start old new whole shown none p = record {
+  is = passed_fault passes from start.rest old.rest fault whole p.is;
+  takes = record { rest = passed_here passes old.rest new.rest fault p.is p.takes.rest p.fault ∙ shown; spent = p.takes.spent };
+  fault = p.fault;
+  errors = fault_met passes old.rest fault (unreported_at start) (unreported_at old) (unreported_at new) p.is none p.errors;
+}
+end_fails halt.OutOfMemory passes from start old new whole shown none p = record { is = tt; takes = tt; fault = tt; errors = tt }

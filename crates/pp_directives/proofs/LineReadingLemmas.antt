@@ -1,10 +1,14 @@
 -- The tokens of a line, read one after another.
-use Rattle.std.proofs.Common.{◌≡◌, ℕ, ◌+◌, ◌≤◌, Bool, true, false, if◌then◌else◌, not, ◌&&◌, List, [], ◌∷◌, ◌++◌, length, drop, Option, Some, None, Result, Ok, Err, refl, sym, ◌∙◌, ap, append_assoc, length-drop, suc, arith}
+use Rattle.std.proofs.Common.{◌≡◌, ℕ, ◌+◌, ◌≤◌, Bool, true, false, if◌then◌else◌, not, ◌&&◌, List, [], ◌∷◌, ◌++◌, length, drop, Option, Some, None, Result, Ok, Err, refl, sym, ◌∙◌, ◌⊎◌, ap, append_assoc, length-drop, suc, arith}
+use Rattle.pp_lexer.specs.Entry.{Entry}
 use Rattle.pp_lexer.specs.Items.{Lexeme}
 use Rattle.pp_lexer.specs.Lexed.{Seen}
+use Rattle.pp_lexer.specs.Preorder.{preorder}
 use Rattle.pp_lexer.specs.declared.token.Token.{Token}
 use Rattle.pp_model.specs.Places.{Fault, placed}
 use Rattle.pp_model.specs.Conversions.{is_newline, conversion}
+use Rattle.pp_model.specs.Faults.{is_shown}
+use Rattle.pp_model.specs.Moves.{fails}
 use Rattle.pp_model.specs.inner.Emitting.{token_before}
 use Rattle.pp_lexer.specs.declared.rules.Rules.{Rules}
 use Rattle.pp_lexer.specs.declared.token.PreprocessorError.TheVariants.{UnexpectedToken}
@@ -13,11 +17,13 @@ use Rattle.pp_model.specs.DefineLines.{is_own_name, free_name}
 use Rattle.pp_model.specs.declared.definition.Placed.{Placed}
 use Rattle.pp_model.specs.Lines.{line_tokens, line_length, line_fault, ends_line}
 use Rattle.pp_expression.specs.Answers.{◌>>=◌}
-use Rattle.pp_macros.specs.inner.LineReading.{HasTaken, TakesItems, some_token, next_line_token, tokens_after, length_after, unless_fault, skipped_line, goes_on_after, line_goes_on, item_goes_on}
+use Rattle.pp_macros.specs.inner.LineReading.{TakesItems, shown_on, shown_after, as_next, line_token, some_token, next_line_token, tokens_after, length_after, unless_fault, skipped_line, goes_on_after, line_goes_on, item_goes_on}
 use Rattle.pp_macros.specs.inner.SourceLexed.{SourceLexed, unreported_at}
 use Rattle.pp_macros.specs.declared.halt.Halt.{Halt}
 use Rattle.pp_macros.specs.declared.halt.Halt.TheVariants as halt
-use Rattle.pp_directives.specs.inner.ReadingLines.{ReadsPart, ReadsNext, ReadsLine}
+use Rattle.pp_directives.specs.inner.LineEntries.{line_entries}
+use Rattle.pp_directives.specs.inner.ReadingLines.{ReadsPart, ReadsNext, ReadsLine, ReadsTokens}
+use Rattle.pp_directives.proofs.ShownLemmas.{fails_shown, mapped_shown, same_taken, end_taken, shown_then, shown_there}
 use Rattle.pp_directives.proofs.UnreportedLemmas.{reports_after}
 
 -- tokens that were read, and then those of the rest
@@ -123,27 +129,126 @@ skipped_place [] after e d = cc
 skipped_place (s ∷ rest) after e d = rw d (sym (skip_place_item s.item s.had_comments rest e))
 
 -- a part of a line is taken after another
-pub takes_after : {A : Type 0} (result : Result A Halt) (first more total : ℕ) (old mid new : SourceLexed) → HasTaken first old mid
-    → TakesItems more mid result new → drop total old.rest ≡ drop more mid.rest → TakesItems total old result new
-takes_after (Ok value) first more total old mid new m t e = record { rest = t.rest ∙ sym e; spent = t.spent }
-takes_after (Err (halt.Fault fault)) first more total old mid new m t e =
-    record { rest = omega (arith, t.rest, drop_fewer old.rest mid.rest first m.rest); spent = t.spent }
-takes_after (Err halt.OutOfMemory) first more total old mid new m t e = t
+pub takes_after : {A : Type 0} (result : Result A Halt) (more total more_shown shown : ℕ) (old mid new : SourceLexed)
+    → TakesItems more more_shown mid result new → drop total old.rest ≡ drop more mid.rest → drop shown old.rest ≡ drop more_shown mid.rest
+    → TakesItems total shown old result new
+takes_after (Ok value) more total more_shown shown old mid new t e f = record { rest = t.rest ∙ sym e; spent = t.spent }
+takes_after (Err (halt.Fault fault)) more total more_shown shown old mid new t e f = record { rest = t.rest ∙ sym f; spent = t.spent }
+takes_after (Err halt.OutOfMemory) more total more_shown shown old mid new t e f = t
+
+-- a fault of the line is shown by the items that show one of those after the next token
+abbrev line_after : Result (Option Token) Fault → List Seen → Result (List Token) Fault
+line_after found items = found >>= λ next. tokens_after next items
+
+token_goes_on : (token : Token) (s : Seen) (items : List Seen) → next_line_token (s ∷ items) ≡ Ok (Some token) → ends_line s.item ≡ false
+token_goes_on token s items e = go s.item e
+  where
+    by : (newline : Bool) (first : Result Token Fault)
+        → ◌≡◌ {A = Result (Option Token) Fault} (if newline then Ok None else (first >>= some_token)) (Ok (Some token)) → newline ≡ false
+    by true first e = cc
+    by false first e = refl
+
+    go : (item : Lexeme) → (as_next item >>= line_token) ≡ Ok (Some token) → ends_line item ≡ false
+    go (Ok found) e = by (is_newline found.value) (conversion found) e
+    go (Err fault) e = cc
+
+none_ends : (s : Seen) (items : List Seen) → next_line_token (s ∷ items) ≡ Ok None → ends_line s.item ≡ true
+none_ends s items e = go s.item e
+  where
+    by : (newline : Bool) (first : Result Token Fault)
+        → ◌≡◌ {A = Result (Option Token) Fault} (if newline then Ok None else (first >>= some_token)) (Ok None) → newline ≡ true
+    by true first e = refl
+    by false (Ok token) e = cc
+    by false (Err fault) e = cc
+
+    go : (item : Lexeme) → (as_next item >>= line_token) ≡ Ok None → ends_line item ≡ true
+    go (Ok found) e = by (is_newline found.value) (conversion found) e
+    go (Err fault) e = cc
+
+-- a token before others hides no fault
+before_shown : (token : Token) (later : Result (List Token) Fault) → fails_shown (token_before token later) ≡ fails_shown later
+before_shown token (Ok tokens) = refl
+before_shown token (Err fault) = refl
+
+pub line_shown-next : (rest : List Seen) (next : Option Token) → next_line_token rest ≡ Ok next
+    → drop (shown_on line_tokens rest) rest ≡ drop (shown_after next (drop 1 rest)) (drop 1 rest)
+line_shown-next rest (Some token) e =
+    shown_then line_tokens next_line_token line_after line_tokens-next (λ s items. refl) rest (Ok (Some token)) e (token_goes_on token) refl
+line_shown-next [] None e = refl
+line_shown-next (s ∷ rest) None e = end_taken line_tokens s rest (none_ends s rest e)
+
+pub line_shown-here : (rest after : List Seen) (fault : Fault) → next_line_token rest ≡ Err fault → after ≡ drop 1 rest
+    → (is_shown (fails fault) ≡ true) ⊎ (after ≡ []) → after ≡ drop (shown_on line_tokens rest) rest
+line_shown-here rest after fault e d h =
+    shown_there line_tokens next_line_token line_after line_tokens-next (λ s items. refl) rest after (Err fault) e d h
+
+-- the same after a token that was read before
+pub tokens_shown : (first : Option Token) (token : Token) (rest : List Seen) → first ≡ Some token
+    → drop (shown_on line_tokens rest) rest ≡ drop (shown_after first rest) rest
+tokens_shown first token rest some = rw some
+    (same_taken line_tokens (tokens_after (Some token)) (λ items. sym (before_shown token (line_tokens items))) rest)
+
+-- one token more of a line is read
+pub shown_more : (first next : Option Token) (token : Token) (rest after : List Seen) → next_line_token rest ≡ Ok next → after ≡ drop 1 rest
+    → first ≡ Some token → drop (shown_after next after) after ≡ drop (shown_after first rest) rest
+shown_more first next token rest after e d some = rw d (sym (line_shown-next rest next e) ∙ tokens_shown first token rest some)
+
+-- the next token of a line has a fault
+pub line_fails : {A B : Type 0} (shows : A → List Token) (shown : B → Option Token) (h : Halt) (old new : SourceLexed)
+    → ReadsNext shown next_line_token old (Err h) new → ReadsLine shows line_tokens old (Err h) new
+line_fails shows shown (halt.Fault fault) old new p = record {
+  is = line_tokens-next old.rest ∙ ap (λ r. r >>= λ next. tokens_after next (drop 1 old.rest)) p.is;
+  takes = record { rest = line_shown-here old.rest new.rest fault p.is p.takes.rest p.fault; spent = p.takes.spent };
+  fault = p.fault;
+  errors = p.errors;
+}
+line_fails shows shown halt.OutOfMemory old new p = record { is = tt; takes = tt; fault = tt; errors = tt }
+
+-- and tokens before it were read
+before_fails : (tokens : List Token) (token : Token) (line : Result (List Token) Fault) (fault : Fault) → line ≡ Err fault
+    → tokens_before tokens (token_before token line) ≡ Err fault
+before_fails tokens token line fault e = ap (λ (r : Result (List Token) Fault). tokens_before tokens (token_before token r)) e
+
+pub more_fails : {A B : Type 0} (shows : A → List Token) (read : B → Option Token) (h : Halt) (first next : Option Token) (token : Token) (start old new : SourceLexed) (tokens : List Token)
+    → next ≡ Some token → tokens_before tokens (tokens_after next old.rest) ≡ tokens_after first start.rest
+    → drop (shown_after next old.rest) old.rest ≡ drop (shown_after first start.rest) start.rest → unreported_at old ≡ unreported_at start
+    → ReadsNext read next_line_token old (Err h) new
+    → ReadsTokens shows first start (Err h) new
+more_fails shows read (halt.Fault fault) first next token start old new tokens some whole shown same p = record {
+  reads = record {
+    is = sym whole ∙ ap (λ (n : Option Token). tokens_before tokens (tokens_after n old.rest)) some
+        ∙ before_fails tokens token (line_tokens old.rest) fault
+        (line_tokens-next old.rest ∙ ap (λ r. r >>= λ n. tokens_after n (drop 1 old.rest)) p.is);
+    takes = record {
+      rest = line_shown-here old.rest new.rest fault p.is p.takes.rest p.fault ∙ tokens_shown next token old.rest some ∙ shown;
+      spent = p.takes.spent;
+    };
+    fault = p.fault;
+    errors = reports_after false {A = Unit {0}} (Err (halt.Fault fault)) (unreported_at start) (unreported_at old) (unreported_at new) same p.errors;
+  };
+  comments = tt;
+  ordinary = tt;
+}
+more_fails shows read halt.OutOfMemory first next token start old new tokens some whole shown same p =
+    record { reads = record { is = tt; takes = tt; fault = tt; errors = tt }; comments = tt; ordinary = tt }
 
 -- the tokens of a line are read: the next one, and those after it
-pub reads_line : {A : Type 0} (shows : A → List Token) (first : Option Token) (result : Result A Halt) (old mid new : SourceLexed)
-    → ReadsNext {A = Option Token} (λ t. t) next_line_token old (Ok first) mid
-    → ReadsPart false shows (tokens_after first mid.rest) (length_after first mid.rest) mid result new
+pub reads_line : {A B : Type 0} (shows : A → List Token) (read : B → Option Token) (token : B) (result : Result A Halt) (old mid new : SourceLexed)
+    → ReadsNext read next_line_token old (Ok token) mid
+    → ReadsPart false shows (tokens_after (read token) mid.rest) (length_after (read token) mid.rest) (shown_after (read token) mid.rest) mid result new
     → ReadsLine shows line_tokens old result new
-reads_line shows first result old mid new next more =
+reads_line shows read token result old mid new next more =
+    let first = read token in
     let rest = old.rest in
     let same = sym next.takes.rest in
     let tokens : line_tokens rest ≡ tokens_after first mid.rest =
     line_tokens-next rest ∙ ap (λ r. r >>= λ n. tokens_after n (drop 1 rest)) next.is ∙ ap (tokens_after first) same in
     record {
       is = rw tokens more.is;
-      takes = takes_after result 1 _ _ _ _ _ next.takes more.takes
-          (line_place-next rest first next.is ∙ ap (λ r. drop (length_after first r) r) same);
+      takes = takes_after result _ _ _ _ _ _ _ more.takes
+          (line_place-next rest first next.is ∙ ap (λ r. drop (length_after first r) r) same)
+          (line_shown-next rest first next.is ∙ ap (λ r. drop (shown_after first r) r) same);
+      fault = more.fault;
       errors = reports_after false result (unreported_at old) (unreported_at mid) (unreported_at new) next.errors more.errors;
     }
 
@@ -191,3 +296,76 @@ fault_goes_on (s ∷ rest) fault e = go s.item e
     go : (item : Lexeme) → goes_on_after item ≡ Err fault → not (ends_line item) ≡ true
     go (Ok token) e = cc
     go (Err found) e = refl
+
+-- a line that is skipped, by its first item
+abbrev skipped_after : Result Bool Fault → List Seen → Result (Unit {0}) Fault
+skipped_after (Ok true) items = skipped_line items
+skipped_after (Ok false) items = Ok tt
+skipped_after (Err fault) items = Err fault
+
+skips_first : (rest : List Seen) → skipped_line rest ≡ skipped_after (line_goes_on rest) (drop 1 rest)
+skips_first [] = refl
+skips_first (s ∷ rest) = go s.item
+  where
+    by : (ends : Bool) → ◌≡◌ {A = Result (Unit {0}) Fault} (unless_fault (if ends then None else line_fault rest) (Ok tt))
+        (skipped_after (Ok (not ends)) rest)
+    by true = refl
+    by false = refl
+
+    go : (item : Lexeme) → skipped_line (record { item = item; had_comments = s.had_comments } ∷ rest) ≡ skipped_after (goes_on_after item) rest
+    go (Ok token) = by (is_newline token.value)
+    go (Err fault) = refl
+
+skip_goes_on : (s : Seen) (items : List Seen) → line_goes_on (s ∷ items) ≡ Ok true → ends_line s.item ≡ false
+skip_goes_on s items e = go s.item e
+  where
+    by : (newline : Bool) → ◌≡◌ {A = Result Bool Fault} (Ok (not newline)) (Ok true) → newline ≡ false
+    by true e = cc
+    by false e = refl
+
+    go : (item : Lexeme) → goes_on_after item ≡ Ok true → ends_line item ≡ false
+    go (Ok token) e = by (is_newline token.value) e
+    go (Err fault) e = cc
+
+pub skipped_shown : (rest after : List Seen) → line_goes_on rest ≡ Ok true → after ≡ drop 1 rest
+    → drop (shown_on skipped_line after) after ≡ drop (shown_on skipped_line rest) rest
+skipped_shown rest after e d = rw d
+    (sym (shown_then skipped_line line_goes_on skipped_after skips_first (λ s items. refl) rest (Ok true) e skip_goes_on refl))
+
+pub skipped_here : (rest after : List Seen) (fault : Fault) → line_goes_on rest ≡ Err fault → after ≡ drop 1 rest
+    → (is_shown (fails fault) ≡ true) ⊎ (after ≡ []) → after ≡ drop (shown_on skipped_line rest) rest
+skipped_here rest after fault e d h =
+    shown_there skipped_line line_goes_on skipped_after skips_first (λ s items. refl) rest after (Err fault) e d h
+
+-- an error of a line that is skipped
+pub skip_fails : (h : Halt) (start old new : SourceLexed) → skipped_line old.rest ≡ skipped_line start.rest
+    → drop (shown_on skipped_line old.rest) old.rest ≡ drop (shown_on skipped_line start.rest) start.rest → unreported_at old ≡ unreported_at start
+    → ReadsNext {A = Bool} (λ t. t) line_goes_on old (Err h) new → ReadsLine {A = Unit {0}} (λ t. t) skipped_line start (Err h) new
+skip_fails (halt.Fault fault) start old new whole shown same p = record {
+  is = sym whole ∙ skips_first old.rest ∙ ap (λ r. skipped_after r (drop 1 old.rest)) p.is;
+  takes = record { rest = skipped_here old.rest new.rest fault p.is p.takes.rest p.fault ∙ shown; spent = p.takes.spent };
+  fault = p.fault;
+  errors = reports_after false {A = Unit {0}} (Err (halt.Fault fault)) (unreported_at start) (unreported_at old) (unreported_at new) same p.errors;
+}
+skip_fails halt.OutOfMemory start old new whole shown same p = record { is = tt; takes = tt; fault = tt; errors = tt }
+
+-- a fault is the same whatever a value would have been
+pub fails_as : (passes : Bool) {A B C : Type 0} (shows : A → B) (shown : C → B) (h : Halt) (wanted : Result B Fault) (count taken : ℕ) (old new : SourceLexed)
+    → ReadsPart passes shows wanted count taken old (Err h) new → ReadsPart passes shown wanted count taken old (Err h) new
+fails_as passes shows shown (halt.Fault fault) wanted count taken old new p =
+    record { is = p.is; takes = record { rest = p.takes.rest; spent = p.takes.spent }; fault = p.fault; errors = p.errors }
+fails_as passes shows shown halt.OutOfMemory wanted count taken old new p = record { is = tt; takes = tt; fault = tt; errors = tt }
+
+-- a line that an item holds
+pub entries_fail : {A C : Type 0} (shows : A → List Token) (shown : C → List Entry) (h : Halt) (old new : SourceLexed)
+    → ReadsLine shows line_tokens old (Err h) new → ReadsLine shown line_entries old (Err h) new
+entries_fail shows shown (halt.Fault fault) old new p = record {
+  is = ap (λ (r : Result (List Token) Fault). r >>= λ tokens. Ok (preorder tokens)) p.is;
+  takes = record {
+    rest = p.takes.rest ∙ same_taken line_tokens line_entries (λ items. sym (mapped_shown (λ tokens. preorder tokens) (line_tokens items))) old.rest;
+    spent = p.takes.spent;
+  };
+  fault = p.fault;
+  errors = p.errors;
+}
+entries_fail shows shown halt.OutOfMemory old new p = record { is = tt; takes = tt; fault = tt; errors = tt }

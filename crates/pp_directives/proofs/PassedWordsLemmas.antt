@@ -18,9 +18,10 @@ use Rattle.pp_macros.specs.inner.OpenBlocks.{is_live_among}
 use Rattle.pp_macros.specs.inner.Source.{SuspendedText, Source}
 use Rattle.pp_macros.specs.inner.SourceLexed.{SourceLexed, HavePlaces}
 use Rattle.pp_macros.specs.inner.Unreported.{unreported}
-use Rattle.pp_directives.specs.inner.Lined.{AreEnded}
+use Rattle.pp_directives.specs.inner.Lined.{AreEnded, ShowErrors}
 use Rattle.pp_directives.specs.inner.PlainText.{IsStep, PausesAtNewline, PausesTimes, PassesPauses, TakesOther, TakesOthersEach}
 use Rattle.pp_directives.proofs.EndedLemmas.{ended_after}
+use Rattle.pp_directives.proofs.ErrorsShownLemmas.{shown_after}
 use Rattle.pp_directives.proofs.SourceActsLemmas.{source_of}
 use Rattle.pp_directives.proofs.SourceStepLemmas.{step_passes}
 use Rattle.pp_directives.proofs.UnreportedLemmas.{places_after, same_none}
@@ -74,9 +75,10 @@ others_each (suc n) l m place fresh places t =
     )
 
 -- what holds of its items still does
-pub others_fit : (n : ℕ) (l m : Lexed) → TakesOthers n l m → AreEnded l.rest × HavePlaces l.rest l.places → AreEnded m.rest × HavePlaces m.rest m.places
-others_fit zero l m t h = subst (λ x. AreEnded x.rest × HavePlaces x.rest x.places) (sym t) h
-others_fit (suc n) l m t h = others_fit n (after_first l) m t.1 (ended_after l.rest h.0, places_after l.rest l.places h.1)
+pub others_fit : (n : ℕ) (l m : Lexed) → TakesOthers n l m → AreEnded l.rest × ShowErrors l.rest × HavePlaces l.rest l.places
+    → AreEnded m.rest × ShowErrors m.rest × HavePlaces m.rest m.places
+others_fit zero l m t h = subst (λ x. AreEnded x.rest × ShowErrors x.rest × HavePlaces x.rest x.places) (sym t) h
+others_fit (suc n) l m t h = others_fit n (after_first l) m t.1 (ended_after l.rest h.0, shown_after l.rest h.1, places_after l.rest l.places h.2)
 
 pub others_unspent : (n : ℕ) (l m : Lexed) → TakesOthers n l m → m.spent ≡ l.spent
 others_unspent zero l m t = ap (λ x. x.spent) t

@@ -1,27 +1,27 @@
 -- What is left of a directive's line after a fault is skipped.
-use Rattle.std.proofs.Common.{◌≡◌, ◌∙◌, ◌≤◌, ℕ, Bool, true, false, if◌then◌else◌, List, length, drop, ap, subst, arith, length-drop, Result, Ok, Err}
-use Rattle.std.specs.Prelude.{MatchBool}
+use Rattle.std.proofs.Common.{◌≡◌, ◌∙◌, ◌≤◌, ℕ, Bool, true, false, if◌then◌else◌, List, length, drop, ap, refl, sym, subst, arith, length-drop, Result, Ok, Err}
+use Rattle.std.specs.Prelude.{MatchBool, ℤ}
 use Rattle.pp_lexer.specs.Lexed.{Seen}
 use Rattle.pp_lexer.specs.declared.rules.Rules.{Rules}
 use Rattle.pp_lexer.specs.declared.token.Location.{Location}
 use Rattle.pp_lexer.specs.declared.token.Token.{Token}
 use Rattle.pp_model.specs.Places.{Fault, PlacedFault, placed, unasked, unplaced}
-use Rattle.pp_model.specs.Lines.{first_token, line_length}
-use Rattle.pp_model.specs.Moves.{Move}
+use Rattle.pp_model.specs.Lines.{line_length}
+use Rattle.pp_model.specs.Moves.{Effect, gives, gives_item, asks, fails, ends, passes, defines, undefines, tests, decides, renumbers}
 use Rattle.pp_macros.specs.Halting.{exit_of, placed_halt_of}
 use Rattle.pp_macros.specs.Item.{PlacedStep}
 use Rattle.pp_macros.specs.declared.halt.Halt.{Halt}
 use Rattle.pp_macros.specs.declared.halt.Halt.TheVariants as halt
 use Rattle.pp_macros.specs.declared.halt.PlacedHalt.{PlacedHalt}
 use Rattle.pp_macros.specs.declared.halt.PlacedHalt.TheVariants as placed_halt
-use Rattle.pp_macros.specs.inner.Defined.{names_in, body_tokens}
+use Rattle.pp_macros.specs.inner.Faults.{LineLeft, IsUndefined}
 use Rattle.pp_macros.specs.inner.LineReading.{Meets}
-use Rattle.pp_macros.specs.inner.OpenBlocks.{BlockChange, facts_among, is_live_among}
+use Rattle.pp_macros.specs.inner.OpenBlocks.{facts_among, is_live_among}
 use Rattle.pp_macros.specs.inner.SourceMoves.{Note}
-use Rattle.pp_macros.specs.inner.Source.{Source, unreported_of}
+use Rattle.pp_macros.specs.inner.Source.{Source, offset_from, unreported_of}
 use Rattle.pp_macros.specs.inner.Unreported.{Unreported, Reports, IsMet, IsMetOrPassed}
 use Rattle.pp_directives.specs.inner.Skipping.{LeavesLine, IsSkipped, SkipsRest}
-use Rattle.pp_directives.specs.inner.SourceActs.{HasKept, Stops, DoesMove, SkipsAfter, GivesDirective, StepsDirective, word_move}
+use Rattle.pp_directives.specs.inner.SourceActs.{LineAct, HasLeft, FailsWith, Stops, DoesAct, SkipsAfter, GivesDirective, StepsDirective, word_act}
 use Rattle.pp_directives.specs.inner.DirectiveHalts.{placed_at, result_at, shown, unplaced_halt}
 use Rattle.pp_directives.specs.declared.given.Given.{Given}
 use Rattle.pp_directives.specs.declared.directive_halt.DirectiveHalt.{DirectiveHalt}
@@ -35,26 +35,85 @@ fewer_by false old = omega (arith, length-drop (line_length old) old)
 line_fewer : (old new : List Seen) → LeavesLine old new → length new ≤ length old
 line_fewer old new h = omega (arith, ap length h.rest, fewer_by h.over old)
 
-skipped_keeps : (old mid new : Source) → HasKept old mid → IsSkipped mid new → HasKept old new
-skipped_keeps old mid new kept skipped =
+skipped_keeps : (skips : Bool) (n : ℕ) (left : LineLeft) (old mid new : Source) → skips ≡ true → HasLeft false n left old mid → IsSkipped mid new → HasLeft skips n left old new
+skipped_keeps skips n left old mid new on kept skipped =
     let fewer = line_fewer mid.rest new.rest skipped.line in
     let same = skipped.others in
     record {
       rules = ap (λ (s : Source). s.rules) same ∙ kept.rules;
+      text = ap (λ (s : Source). s.text) same ∙ kept.text;
+      earlier = ap (λ (s : Source). s.earlier) same ∙ kept.earlier;
       around = ap (λ (s : Source). s.around) same ∙ kept.around;
-      left = omega (arith, kept.left, fewer, ap (λ (s : Source). length s.blocks) same);
-      names = ap (λ (s : Source). names_in s.definitions) same ∙ kept.names;
-      tokens = omega (arith, kept.tokens, ap (λ (s : Source). body_tokens s.definitions) same);
+      contents = ap (λ (s : Source). s.contents) same ∙ kept.contents;
+      has_text = ap (λ (s : Source). s.has_text) same ∙ kept.has_text;
+      rest = λ exact. let bad : true ≡ false = sym on ∙ exact in cc;
+      fewer = omega (arith, kept.fewer, fewer, ap (λ (s : Source). length s.blocks) same);
+      blocks = ap (λ (s : Source). s.blocks) same ∙ kept.blocks;
+      definitions = subst (IsUndefined left.undefined old.definitions) (sym (ap (λ (s : Source). s.definitions) same)) kept.definitions;
+      line_offset = ap (λ (s : Source). s.line_offset) same ∙ kept.line_offset;
+      has_directive = ap (λ (s : Source). s.has_directive) same ∙ kept.has_directive;
+      dead_for_good = ap (λ (s : Source). s.dead_for_good) same ∙ kept.dead_for_good;
       spent = ap (λ (s : Source). s.spent) same ∙ kept.spent;
     }
 
--- after a fault it is still known what was known
-pub rest_keeps : (old mid new : Source) → HasKept old mid → SkipsRest mid new → HasKept old new
-rest_keeps old mid new kept skips = go mid.rules.passes_dead_errors skips
+-- what was left is left if less has to be known
+still_left : (skips : Bool) (n : ℕ) (left : LineLeft) (old new : Source) → HasLeft false n left old new → HasLeft skips n left old new
+still_left skips n left old new h = record {
+  rules = h.rules;
+  text = h.text;
+  earlier = h.earlier;
+  around = h.around;
+  contents = h.contents;
+  has_text = h.has_text;
+  rest = λ exact. h.rest refl;
+  fewer = h.fewer;
+  blocks = h.blocks;
+  definitions = h.definitions;
+  line_offset = h.line_offset;
+  has_directive = h.has_directive;
+  dead_for_good = h.dead_for_good;
+  spent = h.spent;
+}
+
+-- after a fault it is still known what was known, but for the items that are left where the rest of a line is skipped
+pub rest_keeps : (n : ℕ) (left : LineLeft) (old mid new : Source) → HasLeft false n left old mid → SkipsRest mid new
+    → HasLeft old.rules.passes_dead_errors n left old new
+rest_keeps n left old mid new kept skips = go old.rules.passes_dead_errors refl
+    (subst (λ (by : Rules). MatchBool by.passes_dead_errors (IsSkipped mid new) (new ≡ mid)) kept.rules skips)
   where
-    go : (passes : Bool) → MatchBool passes (IsSkipped mid new) (new ≡ mid) → HasKept old new
-    go true skipped = skipped_keeps old mid new kept skipped
-    go false same = rw same kept
+    go : (passes : Bool) → old.rules.passes_dead_errors ≡ passes → MatchBool passes (IsSkipped mid new) (new ≡ mid) → HasLeft old.rules.passes_dead_errors n left old new
+    go true e skipped = skipped_keeps old.rules.passes_dead_errors n left old mid new e kept skipped
+    go false e same = subst (HasLeft old.rules.passes_dead_errors n left old) (sym same) (still_left old.rules.passes_dead_errors n left old mid kept)
+
+-- what a fault says of the source, whatever its effect is
+module _ {R : Type 0} (old : Source) (fault : PlacedFault) (P : Source → Type 0) (goes : (offset : ℤ) → P (record old { line_offset = offset }) → R) where
+  fails_give : (effect : Effect) → FailsWith effect old fault P → R
+  fails_give (gives token) h = absurd h
+  fails_give (gives_item item word) h = absurd h
+  fails_give (asks line) h = absurd h
+  fails_give (fails wanted) h = goes old.line_offset h.1
+  fails_give ends h = absurd h
+  fails_give passes h = absurd h
+  fails_give (defines named) h = goes old.line_offset h.1
+  fails_give (undefines name) h = absurd h
+  fails_give (tests asked name) h = absurd h
+  fails_give (decides word tokens) (found, condition, is, p) = goes old.line_offset p
+  fails_give (renumbers word tokens) (found, number, line, first, is, p) = goes (offset_from old word number) p
+
+module _ (old : Source) (fault : PlacedFault) (P Q : Source → Type 0)
+    (goes : (offset : ℤ) → P (record old { line_offset = offset }) → Q (record old { line_offset = offset })) where
+  fails_map : (effect : Effect) → FailsWith effect old fault P → FailsWith effect old fault Q
+  fails_map (gives token) h = absurd h
+  fails_map (gives_item item word) h = absurd h
+  fails_map (asks line) h = absurd h
+  fails_map (fails wanted) h = (h.0, goes old.line_offset h.1)
+  fails_map ends h = absurd h
+  fails_map passes h = absurd h
+  fails_map (defines named) h = (h.0, goes old.line_offset h.1)
+  fails_map (undefines name) h = absurd h
+  fails_map (tests asked name) h = absurd h
+  fails_map (decides word tokens) (found, condition, is, p) = (found, condition, is, goes old.line_offset p)
+  fails_map (renumbers word tokens) (found, number, line, first, is, p) = (found, number, line, first, is, goes (offset_from old word number) p)
 
 pub rest_passed : (fault : Fault) (old mid new : Source) → mid.rules ≡ old.rules → IsMet fault (unreported_of old) (unreported_of mid) → SkipsRest mid new
     → IsMetOrPassed old.rules.passes_dead_errors fault (unreported_of old) (unreported_of new)
@@ -67,13 +126,16 @@ rest_passed fault old mid new rules met skips = go old.rules.passes_dead_errors
     go false same = rw same (met_or_passed false fault (unreported_of old) (unreported_of mid) met)
 
 -- what a directive does is the same if what is left of its line is skipped
-pub skips_move : (note : Note) (change : BlockChange) (move : Move) (given : Result Given DirectiveHalt) (old mid new : Source)
-    → DoesMove (shown old.text) note change move old given mid → SkipsAfter (result_at old.text given) mid new → DoesMove (shown old.text) note change move old given new
-skips_move note change move (Ok token) old mid new does same = rw same does
-skips_move note change move (Err halt) old mid new does skips = go (placed_at old.text halt) does skips
+pub skips_move : (note : Note) (act : LineAct) (given : Result Given DirectiveHalt) (old mid new : Source)
+    → DoesAct (shown old.text) note false act old given mid → SkipsAfter (result_at old.text given) mid new
+    → DoesAct (shown old.text) note old.rules.passes_dead_errors act old given new
+skips_move note act (Ok token) old mid new does same = rw same does
+skips_move note act (Err halt) old mid new does skips = go (placed_at old.text halt) does skips
   where
-    go : (h : PlacedHalt) → Stops move old h mid → SkipsAfter (Err h) mid new → Stops move old h new
-    go (placed_halt.Fault fault) does skips = (does.0, rest_keeps old mid new does.1 skips)
+    go : (h : PlacedHalt) → Stops false act old h mid → SkipsAfter (Err h) mid new → Stops old.rules.passes_dead_errors act old h new
+    go (placed_halt.Fault fault) does skips =
+        fails_map old fault (λ from. HasLeft false act.taken act.left from mid) (λ from. HasLeft old.rules.passes_dead_errors act.taken act.left from new)
+        (λ offset kept. rest_keeps act.taken act.left (record old { line_offset = offset }) mid new kept skips) act.move.effect does
     go placed_halt.OutOfMemory does skips = tt
 
 -- memory ran out while it was skipped
@@ -91,19 +153,30 @@ refused_directive hash old new halt.OutOfMemory step only is = record {
 -- a fault with its text is met as it is met without
 pub placed_met : (passes : Bool) (text : ℕ) (h : DirectiveHalt) (fault : PlacedFault) (old new : Unreported) → placed_halt.Fault fault ≡ placed_at text h
     → Reports {A = Given} passes (Err (unplaced_halt h)) old new → IsMet (unplaced fault) old new
-placed_met passes text (directive_halt.Fault line) fault old new e met = let same : fault ≡ placed text line = cc in rw same met
-placed_met passes text (directive_halt.Expanded found) fault old new e met = let same : fault ≡ unasked found = cc in rw same met
-placed_met passes text directive_halt.OutOfMemory fault old new e met = cc
+placed_met by_rules text (directive_halt.Fault line) fault old new e met = let same : fault ≡ placed text line = cc in rw same met
+placed_met by_rules text (directive_halt.Expanded found) fault old new e met = let same : fault ≡ unasked found = cc in rw same met
+placed_met by_rules text directive_halt.OutOfMemory fault old new e met = cc
 
 -- so a directive with this fault keeps the rules, and meets the fault
 pub directive_met : (hash : Location) (old mid : Source) (h : DirectiveHalt) (fault : PlacedFault) → placed_halt.Fault fault ≡ placed_at old.text h
     → GivesDirective hash old (Err h) mid → (mid.rules ≡ old.rules) × IsMet (unplaced fault) (unreported_of old) (unreported_of mid)
-directive_met hash old mid h fault e gives = (
-  kept (word_move old.rules (is_live_among old.dead_for_good old.blocks) (facts_among old.blocks) (first_token hash old.rest) (drop 1 old.rest))
-      (placed_at old.text h) e gives.acts,
-  placed_met old.rules.passes_dead_errors old.text h fault (unreported_of old) (unreported_of mid) e gives.errors,
+directive_met hash old mid h fault e given = (
+  kept (word_act old.rules (is_live_among old.dead_for_good old.blocks) (facts_among old.blocks) hash old.rest) (placed_at old.text h) e given.acts,
+  placed_met old.rules.passes_dead_errors old.text h fault (unreported_of old) (unreported_of mid) e given.errors,
 )
   where
-    kept : (move : Move) (placed : PlacedHalt) → placed_halt.Fault fault ≡ placed → Stops move old placed mid → mid.rules ≡ old.rules
-    kept move (placed_halt.Fault found) e stops = stops.1.rules
-    kept move placed_halt.OutOfMemory e stops = cc
+    kept : (act : LineAct) (placed : PlacedHalt) → placed_halt.Fault fault ≡ placed → Stops false act old placed mid → mid.rules ≡ old.rules
+    kept act (placed_halt.Fault found) e stops =
+        fails_give {R = mid.rules ≡ old.rules} old found (λ from. HasLeft false act.taken act.left from mid) (λ offset h. h.rules) act.move.effect stops
+    kept act placed_halt.OutOfMemory e stops = cc
+
+-- and memory didn't run out
+pub directive_unspent : (hash : Location) (old mid : Source) (h : DirectiveHalt) (fault : PlacedFault) → placed_halt.Fault fault ≡ placed_at old.text h
+    → GivesDirective hash old (Err h) mid → mid.spent ≡ false
+directive_unspent hash old mid h fault e given =
+    kept (word_act old.rules (is_live_among old.dead_for_good old.blocks) (facts_among old.blocks) hash old.rest) (placed_at old.text h) e given.acts
+  where
+    kept : (act : LineAct) (placed : PlacedHalt) → placed_halt.Fault fault ≡ placed → Stops false act old placed mid → mid.spent ≡ false
+    kept act (placed_halt.Fault found) e stops =
+        fails_give {R = mid.spent ≡ false} old found (λ from. HasLeft false act.taken act.left from mid) (λ offset h. h.spent) act.move.effect stops
+    kept act placed_halt.OutOfMemory e stops = cc

@@ -1,5 +1,5 @@
 -- A directive acts after its word, and after its number sign.
-use Rattle.std.proofs.Common.{◌≡◌, ℕ, ◌+◌, ◌<◌, ◌≤◌, Bool, true, List, length, drop, Option, Some, None, Result, Ok, Err, inl, inr, refl, sym, ◌∙◌, ap, subst, arith}
+use Rattle.std.proofs.Common.{◌≡◌, ◌⊎◌, ℕ, ◌+◌, ◌<◌, ◌≤◌, Bool, true, false, List, [], ◌∷◌, length, take, drop, Option, Some, None, Result, Ok, Err, inl, inr, refl, sym, ◌∙◌, ap, subst, arith}
 use Rattle.std.specs.Prelude.{ℤ, ◌-ℤ◌, pos}
 use Rattle.std.specs.Result.{IsErrAnd}
 use Rattle.std.proofs.lemmas.List.{drop-drop}
@@ -12,23 +12,29 @@ use Rattle.pp_directives.specs.declared.given.Given.{Given}
 use Rattle.pp_directives.specs.declared.given.Given.TheVariants as given
 use Rattle.pp_directives.specs.declared.directive_halt.DirectiveHalt.{DirectiveHalt}
 use Rattle.pp_lexer.specs.declared.token.PreprocessorError.TheVariants.{UnknownDirective}
-use Rattle.pp_model.specs.Places.{Fault, PlacedFault, asking, placed}
+use Rattle.pp_model.specs.Places.{Fault, PlacedFault, asking, placed, unasked}
 use Rattle.pp_model.specs.Acts.{defined_in}
 use Rattle.pp_model.specs.Definitions.{Definition}
 use Rattle.pp_model.specs.declared.definition.Named.{Named}
 use Rattle.pp_model.specs.DefineLines.{defined_on}
 use Rattle.pp_model.specs.Lines.{line_length}
+use Rattle.pp_model.specs.Names.{Name}
+use Rattle.pp_model.specs.Faults.{is_shown}
 use Rattle.pp_model.specs.Reads.{numbered_line}
 use Rattle.pp_model.specs.declared.directive.Directive.TheVariants as d
 use Rattle.pp_model.specs.SourceReader.{Earlier}
 use Rattle.pp_macros.specs.inner.Defined.{Defined, meaning_of}
 use Rattle.pp_macros.specs.inner.OpenBlocks.{last_block, facts_among, BlockChange, unchanged}
 use Rattle.pp_macros.specs.declared.blocks.OpenBlock.{OpenBlock}
-use Rattle.pp_macros.specs.inner.Source.{SuspendedText, Source, unreported_of, IsAfter, IsAfterFault, Ends, DefinesOver, HasEffect, Decides, holds, faulty, Renumbers, numbers, unnumbered}
-use Rattle.pp_directives.specs.inner.ReadingLines.{ReadsLine}
-use Rattle.pp_directives.specs.inner.SourceActs.{HasKept, RedefinesWith, FailsWith, Stops, DoesMove, Acts, ActsNoted, define_move}
+use Rattle.pp_macros.specs.inner.Source.{SuspendedText, Source, unreported_of, IsAfter, Ends, DefinesOver, HasEffect, Decides, holds, faulty, Renumbers, numbers, unnumbered}
+use Rattle.pp_macros.specs.inner.Faults.{LineLeft, nothing_left, IsUndefined}
+use Rattle.pp_macros.specs.inner.LineReading.{FaultTakesSome, shown_on}
+use Rattle.pp_directives.specs.inner.ReadingLines.{ReadsPart, ReadsLine}
+use Rattle.pp_directives.proofs.ShownLemmas.{fails_shown}
+use Rattle.pp_directives.proofs.FaultTakenLemmas.{line_taken, line_effect, whole_taken, define_persists}
+use Rattle.pp_directives.specs.inner.SourceActs.{taken_after, HasLeft, FailsWith, Stops, DoesAct, Acts, directive_act, define_act}
 use Rattle.pp_macros.specs.inner.SourceLexed.{SourceLexed, unreported_at}
-use Rattle.pp_model.specs.Moves.{Effect, gives, gives_item, asks, fails, ends, passes, defines, undefines, tests, decides, renumbers, Move, line_move, directive_move}
+use Rattle.pp_model.specs.Moves.{Effect, gives, gives_item, asks, fails, ends, passes, defines, undefines, tests, decides, renumbers, Move, line_move}
 use Rattle.pp_macros.specs.inner.SourceMoves.{Note, unnoted}
 use Rattle.pp_macros.specs.declared.halt.Halt.{Halt}
 use Rattle.pp_macros.specs.declared.halt.Halt.TheVariants as halt
@@ -37,7 +43,6 @@ use Rattle.pp_macros.specs.declared.halt.PlacedHalt.TheVariants as placed_halt
 use Rattle.pp_macros.specs.declared.step.PlacedExit.TheVariants.{Error, Continue, Finished}
 use Rattle.pp_directives.proofs.LineReadingLemmas.{drop_fewer}
 use Rattle.pp_directives.proofs.UnreportedLemmas.{reports_after}
-use Rattle.pp_model.specs.Numbering.{list_numbering}
 
 -- an error that is known is the result
 pub err_result : {A E : Type 0} (r : Result A E) (h : E) → IsErrAnd r (λ e. e ≡ h) → r ≡ Err h
@@ -65,22 +70,72 @@ source_of l rules text earlier around definitions blocks line_offset has_text ha
       contents = contents;
     }
 
--- a line at fault, or without memory for it; the blocks that are open then are no more
-pub acts_failed : {A B : Type 0} (shows : A → B) (h : Halt) (change : BlockChange) (line : List Seen → Result B Fault)
-    (effect : B → Effect) (rules : Rules) (text : ℕ) (earlier : Earlier) (around : List SuspendedText) (definitions : List Defined) (blocks after : List OpenBlock) → length after ≤ length blocks
-    → (line_offset : ℤ) (has_text has_directive dead : Bool) (contents : ℕ) (old new : SourceLexed)
-    → ReadsLine shows line old (Err h) new → Acts change (line_move (line old.rest) effect old.rest)
-    (source_of old rules text earlier around definitions blocks line_offset has_text has_directive dead contents) (Err (of_line h))
-    (source_of new rules text earlier around definitions after line_offset has_text has_directive dead contents)
-acts_failed shows (halt.Fault fault) change line effect rules text earlier around definitions blocks after few line_offset has_text has_directive dead contents old new read =
+-- a fault of a part of a line, or no memory for it; what stays of the line was done already
+pub acts_failed : (passes : Bool) {A B : Type 0} (shows : A → B) (h : Halt) (part : List Seen → Result B Fault) (total taken : ℕ) (move : Move)
+    (change kept : BlockChange) (undefined : Option Name) (rules : Rules) (text : ℕ) (earlier : Earlier) (around : List SuspendedText)
+    (definitions later : List Defined) (blocks after : List OpenBlock) (line_offset : ℤ) (has_text has_directive dead : Bool) (contents : ℕ) (old new : SourceLexed)
+    → ((fault : Fault) → part old.rest ≡ Err fault → move.effect ≡ fails fault) → taken ≡ shown_on part old.rest → after ≡ kept None blocks
+    → IsUndefined undefined definitions later → length after ≤ length blocks + 1 → FaultTakesSome {A = A} (Err h) old new ⊎ (length after ≤ length blocks)
+    → ReadsPart passes shows (part old.rest) total (shown_on part old.rest) old (Err h) new
+    → Acts (record {
+      move = move;
+      change = change;
+      taken = taken;
+      left = record { change = kept; undefined = undefined; is_directive = false; is_dead = false };
+    }) (source_of old rules text earlier around definitions blocks line_offset has_text has_directive dead contents) (Err (of_line h))
+    (source_of new rules text earlier around later after line_offset has_text has_directive dead contents)
+acts_failed by_rules shows (halt.Fault fault) part total taken move change kept undefined rules text earlier around definitions later blocks after line_offset has_text has_directive dead contents old new is same_taken opened gone many few read =
+    let left : LineLeft = record { change = kept; undefined = undefined; is_directive = false; is_dead = false } in
+    let before = source_of old rules text earlier around definitions blocks line_offset has_text has_directive dead contents in
+    let behind = source_of new rules text earlier around later after line_offset has_text has_directive dead contents in
     let t = read.takes in
     record {
-      acts = rw read.is (refl, record { rules = refl; around = refl; left = omega (arith, t.rest, few); names = refl; tokens = omega arith; spent = t.spent });
+      acts = subst (λ (e : Effect). FailsWith e before (placed text fault) (λ from. HasLeft false taken left from behind)) (sym (is fault read.is)) (
+        refl,
+        record {
+          rules = refl;
+          text = refl;
+          earlier = refl;
+          around = refl;
+          contents = refl;
+          has_text = refl;
+          rest = λ exact. t.rest ∙ ap (λ n. drop n old.rest) (sym same_taken);
+          fewer = still_fewer old.rest new.rest (shown_on part old.rest) (length after) (length blocks) t.rest many few;
+          blocks = opened;
+          definitions = gone;
+          line_offset = refl;
+          has_directive = refl;
+          dead_for_good = refl;
+          spent = t.spent;
+        },
+      );
       holds = tt;
       errors = read.errors;
     }
-acts_failed shows halt.OutOfMemory change line effect rules text earlier around definitions blocks after few line_offset has_text has_directive dead contents old new read =
+  where
+    still_fewer : (rest next : List Seen) (n opened blocks : ℕ) → next ≡ drop n rest → opened ≤ blocks + 1
+        → (length next < length rest) ⊎ (opened ≤ blocks) → length next + opened ≤ length rest + blocks
+    still_fewer rest next n opened blocks e many (inl some) = omega (arith, some, many)
+    still_fewer rest next n opened blocks e many (inr few) = omega (arith, few, drop_fewer rest next n e)
+acts_failed by_rules shows halt.OutOfMemory part total taken move change kept undefined rules text earlier around definitions later blocks after line_offset has_text has_directive dead contents old new is same_taken opened gone many few read =
     record { acts = tt; holds = tt; errors = tt }
+
+-- so it is of a line that is read for a value
+pub line_failed : {A B : Type 0} (shows : A → B) (h : Halt) (part : List Seen → Result B Fault) (effect : List Seen → B → Effect) (change kept : BlockChange)
+    (rules : Rules) (text : ℕ) (earlier : Earlier) (around : List SuspendedText) (definitions : List Defined) (blocks after : List OpenBlock)
+    (line_offset : ℤ) (has_text has_directive dead : Bool) (contents : ℕ) (old new : SourceLexed)
+    → ((items : List Seen) (value : B) → is_shown (effect items value) ≡ false) → fails_shown (part []) ≡ false
+    → after ≡ kept None blocks → length after ≤ length blocks → ReadsLine shows part old (Err h) new
+    → Acts (record {
+      move = line_move (part old.rest) (effect old.rest) old.rest;
+      change = change;
+      taken = taken_after (λ items. (line_move (part items) (effect items) items).effect) (take (line_length old.rest) old.rest);
+      left = record { change = kept; undefined = None; is_directive = false; is_dead = false };
+    }) (source_of old rules text earlier around definitions blocks line_offset has_text has_directive dead contents) (Err (of_line h))
+    (source_of new rules text earlier around definitions after line_offset has_text has_directive dead contents)
+line_failed shows h part effect change kept rules text earlier around definitions blocks after line_offset has_text has_directive dead contents old new hides none opened few read =
+    acts_failed false shows h part (line_length old.rest) _ _ change kept None rules text earlier around definitions definitions blocks after line_offset has_text has_directive dead contents old new
+    (λ fault e. ap (λ found. (line_move found (effect old.rest) old.rest).effect) e) (line_taken part effect hides none old.rest) opened refl (omega (arith, few)) (inr few) read
 
 -- what a directive gives is no fault of its line, and not the end
 pub shown_no_fault : (text other : ℕ) (given : Given) (fault : Fault) → shown text given ≡ Err (Error (placed other fault)) → ⊥
@@ -88,6 +143,14 @@ shown_no_fault text other given.Nothing fault e = cc
 shown_no_fault text other (given.Item token) fault e = cc
 shown_no_fault text other (given.Include line) fault e =
     let same : (UnknownDirective, asking text line) ≡ placed other fault = cc in
+    let none : Some line.rest ≡ None = ap (λ (f : PlacedFault). f.1.asks) same in
+    cc
+
+pub shown_no_unasked : (text : ℕ) (given : Given) (fault : PlacedFault) → shown text given ≡ Err (Error (unasked fault)) → ⊥
+shown_no_unasked text given.Nothing fault e = cc
+shown_no_unasked text (given.Item token) fault e = cc
+shown_no_unasked text (given.Include line) fault e =
+    let same : (UnknownDirective, asking text line) ≡ unasked fault = cc in
     let none : Some line.rest ≡ None = ap (λ (f : PlacedFault). f.1.asks) same in
     cc
 
@@ -132,30 +195,18 @@ module _ (rules : Rules) (text : ℕ) (earlier : Earlier) (around : List Suspend
     after_both still_open new b = both_after old mid n more total sum taken rules text earlier around definitions blocks line_offset has_text has_directive dead contents note still_open new b
 
     module _ (given : Given) (new : Source) where
-      -- a fault after some items, and after some before them
-      fault_after : IsAfterFault (source_of mid rules text earlier around definitions blocks line_offset has_text has_directive dead contents) new
-          → IsAfterFault (source_of old rules text earlier around definitions blocks line_offset has_text has_directive dead contents) new
-      fault_after b = record {
-        rules = b.rules;
-        around = b.around;
-        fewer = omega (arith, b.fewer, drop_fewer old.rest mid.rest n taken);
-        names = b.names;
-        tokens = b.tokens;
-        spent = b.spent;
-      }
-
       defines_after : (named : Named) (before : Option Definition)
           → DefinesOver named before more note (source_of mid rules text earlier around definitions blocks line_offset has_text has_directive dead contents) (shown text given) new
           → DefinesOver named before total note (source_of old rules text earlier around definitions blocks line_offset has_text has_directive dead contents) (shown text given) new
       defines_after named None h = (h.0, after_both _ new h.1, h.2)
       defines_after named (Some before) (inl h) = inl (h.0, h.1, after_both _ new h.2, h.3)
-      defines_after named (Some before) (inr h) = inr (h.0, h.1, fault_after h.2)
+      defines_after named (Some before) (inr h) = absurd (shown_no_fault text text given _ h.1)
 
       decides_after : (word : Location) (tokens : List Token) (after : Bool → List OpenBlock)
           → Decides word tokens after more note (source_of mid rules text earlier around definitions blocks line_offset has_text has_directive dead contents) (shown text given) new
           → Decides word tokens after total note (source_of old rules text earlier around definitions blocks line_offset has_text has_directive dead contents) (shown text given) new
       decides_after word tokens after (holds value condition h) = holds value condition (h.0, after_both _ new h.1, h.2)
-      decides_after word tokens after (faulty fault condition failed left) = faulty fault condition failed (fault_after left)
+      decides_after word tokens after (faulty fault condition failed left) = absurd (shown_no_unasked text given fault failed)
 
       renumbers_after : (word : Location) (tokens : List Token)
           → Renumbers word tokens more note (source_of mid rules text earlier around definitions blocks line_offset has_text has_directive dead contents) (shown text given) new
@@ -167,14 +218,14 @@ module _ (rules : Rules) (text : ℕ) (earlier : Earlier) (around : List Suspend
                 (pos m -ℤ pos (numbered_line rules word.line)) has_text has_directive dead contents note blocks new h.1,
             h.2,
           )
-      renumbers_after word tokens (unnumbered fault number failed left) = unnumbered fault number failed (fault_after left)
+      renumbers_after word tokens (unnumbered fault first number found failed left) = absurd (shown_no_unasked text given fault failed)
 
       pub effect_after : (effect : Effect) → HasEffect effect more note change (source_of mid rules text earlier around definitions blocks line_offset has_text has_directive dead contents)
           (shown text given) new → HasEffect effect total note change (source_of old rules text earlier around definitions blocks line_offset has_text has_directive dead contents) (shown text given) new
       effect_after (gives token) h = (h.0, after_both _ new h.1, h.2)
       effect_after (gives_item item word) h = (h.0, after_both _ new h.1, h.2)
       effect_after (asks line) h = (h.0, after_both _ new h.1, h.2)
-      effect_after (fails fault) h = (h.0, fault_after h.1)
+      effect_after (fails fault) h = absurd (shown_no_fault text text given fault h.0)
       effect_after ends h = absurd (shown_not_ends text (last_block blocks) given _ new h)
       effect_after passes h = (h.0, after_both _ new h.1, h.2)
       effect_after (defines named) h = defines_after (defined_in text named) (meaning_of definitions named.name) h
@@ -183,71 +234,102 @@ module _ (rules : Rules) (text : ℕ) (earlier : Earlier) (around : List Suspend
       effect_after (decides word tokens) h = decides_after word tokens _ h
       effect_after (renumbers word tokens) h = renumbers_after word tokens h
 
-    kept_after : (new : Source) → HasKept (source_of mid rules text earlier around definitions blocks line_offset has_text has_directive dead contents) new
-        → HasKept (source_of old rules text earlier around definitions blocks line_offset has_text has_directive dead contents) new
-    kept_after new k = record { rules = k.rules; around = k.around; left = omega (arith, k.left, drop_fewer old.rest mid.rest n taken); names = k.names; tokens = k.tokens; spent = k.spent }
+-- a fault after some items, and after some before them
+module _ (rules : Rules) (text : ℕ) (earlier : Earlier) (around : List SuspendedText) (definitions : List Defined) (blocks : List OpenBlock)
+    (has_text has_directive dead : Bool) (contents : ℕ) (old mid : SourceLexed) where
+  pub left_after : (line_offset : ℤ) (skips : Bool) (more total : ℕ) (left : LineLeft) (new : Source) → length mid.rest ≤ length old.rest
+      → drop more mid.rest ≡ drop total old.rest
+      → HasLeft skips more left (source_of mid rules text earlier around definitions blocks line_offset has_text has_directive dead contents) new
+      → HasLeft skips total left (source_of old rules text earlier around definitions blocks line_offset has_text has_directive dead contents) new
+  left_after line_offset skips more total left new few same h = record {
+    rules = h.rules;
+    text = h.text;
+    earlier = h.earlier;
+    around = h.around;
+    contents = h.contents;
+    has_text = h.has_text;
+    rest = λ exact. h.rest exact ∙ same;
+    fewer = omega (arith, h.fewer, few);
+    blocks = h.blocks;
+    definitions = h.definitions;
+    line_offset = h.line_offset;
+    has_directive = h.has_directive;
+    dead_for_good = h.dead_for_good;
+    spent = h.spent;
+  }
 
-    stops_after : (effect : Effect) (h : PlacedHalt) (new : Source)
-        → Stops (record { effect = effect; taken = more }) (source_of mid rules text earlier around definitions blocks line_offset has_text has_directive dead contents) h new
-        → Stops (record { effect = effect; taken = total }) (source_of old rules text earlier around definitions blocks line_offset has_text has_directive dead contents) h new
-    stops_after effect (placed_halt.Fault fault) new h = (h.0, kept_after new h.1)
-    stops_after effect placed_halt.OutOfMemory new h = tt
+  -- an effect has the same fault there
+  module _ (line_offset : ℤ) (fault : PlacedFault) (P Q : Source → Type 0)
+      (goes : (offset : ℤ) → P (source_of mid rules text earlier around definitions blocks offset has_text has_directive dead contents)
+      → Q (source_of old rules text earlier around definitions blocks offset has_text has_directive dead contents)) where
+    pub fails_after : (effect : Effect)
+        → FailsWith effect (source_of mid rules text earlier around definitions blocks line_offset has_text has_directive dead contents) fault P
+        → FailsWith effect (source_of old rules text earlier around definitions blocks line_offset has_text has_directive dead contents) fault Q
+    fails_after (gives token) h = absurd h
+    fails_after (gives_item item word) h = absurd h
+    fails_after (asks line) h = absurd h
+    fails_after (fails wanted) h = (h.0, goes line_offset h.1)
+    fails_after ends h = absurd h
+    fails_after passes h = absurd h
+    fails_after (defines named) h = (h.0, goes line_offset h.1)
+    fails_after (undefines name) h = absurd h
+    fails_after (tests asked name) h = absurd h
+    fails_after (decides word tokens) (found, condition, is, p) = (found, condition, is, goes line_offset p)
+    fails_after (renumbers word tokens) (found, None, number, first, is, p) = (found, None, number, first, is, goes line_offset p)
+    fails_after (renumbers word tokens) (found, Some n, number, first, is, p) =
+        (found, Some n, number, first, is, goes (pos n -ℤ pos (numbered_line rules word.line)) p)
 
-    -- so does what a directive does
-    does_after : (effect : Effect) (result : Result (Unit {0}) DirectiveHalt) (new : Source)
-        → DoesMove (λ done. Err Continue) note change (record { effect = effect; taken = more })
-        (source_of mid rules text earlier around definitions blocks line_offset has_text has_directive dead contents) result new
-        → DoesMove (λ done. Err Continue) note change (record { effect = effect; taken = total })
-        (source_of old rules text earlier around definitions blocks line_offset has_text has_directive dead contents) result new
-    does_after effect (Ok done) new h = effect_after given.Nothing new effect h
-    does_after effect (Err halt) new h = stops_after effect (placed_at text halt) new h
-
-    pub acts_after : unreported_at mid ≡ unreported_at old → (effect : Effect) (result : Result (Unit {0}) DirectiveHalt) (new : Source)
-        → ActsNoted note change (record { effect = effect; taken = more }) (source_of mid rules text earlier around definitions blocks line_offset has_text has_directive dead contents) result new
-        → ActsNoted note change (record { effect = effect; taken = total }) (source_of old rules text earlier around definitions blocks line_offset has_text has_directive dead contents) result new
-    acts_after same effect result new h = record {
-      acts = does_after effect result new h.acts;
-      holds = h.holds;
-      errors = reports_after rules.passes_dead_errors (unplaced_result result) (unreported_at old) (unreported_at mid) (unreported_of new) same h.errors;
-    }
+drop_none : (rest : List Seen) → drop 0 rest ≡ rest
+drop_none [] = refl
+drop_none (s ∷ rest) = refl
 
 -- a `#define`, once its line is read
 pub define_acts : (rules : Rules) (text : ℕ) (earlier : Earlier) (around : List SuspendedText) (definitions : List Defined) (blocks : List OpenBlock) (line_offset : ℤ)
     (has_text has_directive dead : Bool) (contents : ℕ) (old new : SourceLexed) (word : Location) {A : Type 0} (shows : A → Named)
     (line : A) (result : Result (Unit {0}) DirectiveHalt) (after : Source) → ReadsLine shows (defined_on rules word) old (Ok line) new
-    → Acts unchanged (define_move (shows line))
-    (source_of new rules text earlier around definitions blocks line_offset has_text has_directive dead contents) result after
-    → Acts unchanged (directive_move rules true (facts_among blocks) d.Define word old.rest)
+    → Acts (define_act (shows line)) (source_of new rules text earlier around definitions blocks line_offset has_text has_directive dead contents) result after
+    → Acts (directive_act rules true (facts_among blocks) d.Define word old.rest)
     (source_of old rules text earlier around definitions blocks line_offset has_text has_directive dead contents) result after
 define_acts rules text earlier around definitions blocks line_offset has_text has_directive dead contents old new word shows line result after read acts =
-    let before = source_of old rules text earlier around definitions blocks line_offset has_text has_directive dead contents in
-    subst (λ (move : Move). Acts unchanged move before result after)
-    (sym (ap (λ found. line_move found defines old.rest) read.is))
-    (acts_after rules text earlier around definitions blocks line_offset has_text has_directive dead contents old new (line_length old.rest) 0
-    (line_length old.rest) (omega arith) read.takes.rest unnoted unchanged read.errors (defines (shows line)) result after acts)
+    record {
+      acts = subst (λ (found : Result Named Fault). DoesAct (λ done. Err Continue) unnoted false (record {
+        move = line_move found defines old.rest;
+        change = unchanged;
+        taken = taken;
+        left = nothing_left;
+      }) before result after) (sym read.is) (does result acts.acts);
+      holds = acts.holds;
+      errors = reports_after rules.passes_dead_errors (unplaced_result result) (unreported_at old) (unreported_at new) (unreported_of after) read.errors acts.errors;
+    }
+  where
+    before : Source
+    before = source_of old rules text earlier around definitions blocks line_offset has_text has_directive dead contents
 
--- a fault after something that was read
-module _ (rules : Rules) (text : ℕ) (earlier : Earlier) (around : List SuspendedText) (definitions : List Defined) (blocks : List OpenBlock)
-    (line_offset : ℤ) (has_text has_directive dead : Bool) (contents : ℕ) (old mid : SourceLexed) (new : Source) (fault : PlacedFault)
-    (fewer : length mid.rest < length old.rest) (kept : HasKept (source_of mid rules text earlier around definitions blocks line_offset has_text has_directive dead contents) new) where
-  further : IsAfterFault (source_of old rules text earlier around definitions blocks line_offset has_text has_directive dead contents) new
-  further = record { rules = kept.rules; around = kept.around; fewer = omega (arith, kept.left); names = kept.names; tokens = kept.tokens; spent = kept.spent }
+    between : Source
+    between = source_of new rules text earlier around definitions blocks line_offset has_text has_directive dead contents
 
-  redefines : (named : Named) (before : Option Definition) (taken : ℕ) (note : Note) → RedefinesWith text named before fault
-      → DefinesOver named before taken note (source_of old rules text earlier around definitions blocks line_offset has_text has_directive dead contents) (Err (Error fault)) new
-  redefines named None taken note h = absurd h
-  redefines named (Some before) taken note h = inr (h.0, ap (λ f. Err (Error f)) h.1, further)
+    effect : List Seen → Effect
+    effect items = (line_move (defined_on rules word items) defines items).effect
 
-  pub fault_makes : (effect : Effect) (taken : ℕ) (note : Note) (change : BlockChange) → FailsWith effect text (list_numbering rules line_offset) definitions fault
-      → HasEffect effect taken note change (source_of old rules text earlier around definitions blocks line_offset has_text has_directive dead contents) (Err (Error fault)) new
-  fault_makes (gives token) taken note change h = absurd h
-  fault_makes (gives_item item word) taken note change h = absurd h
-  fault_makes (asks line) taken note change h = absurd h
-  fault_makes (fails wanted) taken note change h = (ap (λ f. Err (Error f)) h, further)
-  fault_makes ends taken note change h = absurd h
-  fault_makes passes taken note change h = absurd h
-  fault_makes (defines named) taken note change h = redefines (defined_in text named) (meaning_of definitions named.name) taken note h
-  fault_makes (undefines name) taken note change h = absurd h
-  fault_makes (tests asked name) taken note change h = absurd h
-  fault_makes (decides word tokens) taken note change (found, condition, is) = faulty found condition (ap (λ f. Err (Error f)) is) further
-  fault_makes (renumbers word tokens) taken note change (found, number, is) = unnumbered found number (ap (λ f. Err (Error f)) is) further
+    taken : ℕ
+    taken = taken_after effect (take (line_length old.rest) old.rest)
+
+    taken_whole : drop 0 new.rest ≡ drop taken old.rest
+    taken_whole = drop_none new.rest ∙ read.takes.rest
+        ∙ sym (whole_taken (defined_on rules word) effect (define_persists rules word)
+        (λ items. line_effect (defined_on rules word items) defines items (λ named. refl)) refl old.rest (shows line) read.is)
+
+    stops : (h : PlacedHalt) → Stops false (define_act (shows line)) between h after
+        → Stops false (record { move = record { effect = defines (shows line); taken = line_length old.rest }; change = unchanged; taken = taken; left = nothing_left }) before h after
+    stops (placed_halt.Fault fault) h =
+        fails_after rules text earlier around definitions blocks has_text has_directive dead contents old new line_offset fault
+        (λ from. HasLeft false 0 nothing_left from after) (λ from. HasLeft false taken nothing_left from after)
+        (λ offset kept. left_after rules text earlier around definitions blocks has_text has_directive dead contents old new offset false 0 taken nothing_left after
+        (drop_fewer old.rest new.rest (line_length old.rest) read.takes.rest) taken_whole kept) (defines (shows line)) h
+    stops placed_halt.OutOfMemory h = tt
+
+    does : (result : Result (Unit {0}) DirectiveHalt) → DoesAct (λ done. Err Continue) unnoted false (define_act (shows line)) between result after
+        → DoesAct (λ done. Err Continue) unnoted false (record { move = record { effect = defines (shows line); taken = line_length old.rest }; change = unchanged; taken = taken; left = nothing_left }) before result after
+    does (Ok done) h = effect_after rules text earlier around definitions blocks line_offset has_text has_directive dead contents old new
+        (line_length old.rest) 0 (line_length old.rest) (omega arith) read.takes.rest unnoted unchanged given.Nothing after (defines (shows line)) h
+    does (Err halt) h = stops (placed_at text halt) h

@@ -1,12 +1,14 @@
 -- Definitions that only say how far a function's body has got: none of them has to be believed.
 pub mod Lined
 pub mod PlainText
+pub mod PlainConditions
 pub mod ReadNames
 pub mod LineEntries
 pub mod SourceActs
 pub mod SettingContent
 pub mod DirectiveHalts
 pub mod LineReads
+pub mod TokenLists
 pub mod LineItems
 pub mod DefineReading
 pub mod LineHalts

@@ -23,7 +23,7 @@ mod acting;
 mod blocks;
 mod plain_text;
 
-use crate::content::content_tokens;
+use crate::content::content_body;
 use crate::convert::placed_token;
 use crate::given::Given;
 use crate::lines::pass_rest;
@@ -184,7 +184,7 @@ impl<'a> DirectiveProcessor<'a> {
         ensures { SetsContent (chars name.now)
             (content_tokens (items_by rules content.now)) self.old result self.new }
     {
-        let body = content_tokens(self.alloc, content, rules)?;
+        let body = content_body(self.alloc, content, rules)?;
         let Some(text) = self.contents.checked_add(1) else {
             return Err(Halt::OutOfMemory);
         };

@@ -43,12 +43,12 @@ impl IfParser {
     pub fn new(
         alloc: Global,
         kind: LineKind,
-        tokens: LineReads,
+        tokens: &LineReads<'_>,
         scope: &Scope<'_>,
         counts: &mut SpareCounts,
     ) -> Result<IfParser, AllocError>
-        requires { AllHoldOrdinary tokens.tokens }
-        ensures { IfOk result (IsAtFront kind tokens.directive tokens.tokens scope.now.numbering
+        requires { AllHoldOrdinary tokens.now.tokens }
+        ensures { IfOk result (IsAtFront kind tokens.now.directive tokens.now.tokens scope.now.numbering
             scope.now.definitions.now) }
     {
         let levels = expansion_limit();

@@ -12,6 +12,7 @@ pub mod line_value;
 mod line_words;
 pub mod lines;
 pub mod parameters;
+mod plain_condition;
 pub mod source_lexer;
 pub mod source_reader;
 pub mod suspended;

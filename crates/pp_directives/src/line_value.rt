@@ -5,9 +5,11 @@ ghost use Rattle.pp_model.specs.LineValues.{IsCondition, IsLineNumber};
 ghost use Rattle.pp_macros.specs.inner.Defined.{meaning_of};
 ghost use Rattle.pp_macros.specs.Held.{AllHoldOrdinary};
 ghost use Rattle.pp_macros.specs.inner.Expander.{Satisfies};
-ghost use Rattle.pp_directives.specs.inner.LineHalts.{without_number};
+ghost use Rattle.pp_model.specs.Onward.{IsFirstNumber};
+ghost use Rattle.pp_directives.specs.inner.LineHalts.{without_number, GivesFirst};
 
 use crate::if_parser::IfParser;
+use crate::plain_condition::plain_condition;
 use crate::token_list::LineReads;
 use pp_lexer::token::PreprocessorError;
 use pp_macros::halt::PlacedHalt;
@@ -23,15 +25,18 @@ use std::alloc::{AllocError, Global};
 /// `OutOfMemory` if an allocation failed.
 pub fn condition(
     alloc: Global,
-    tokens: LineReads,
+    tokens: LineReads<'_>,
     scope: &Scope<'_>,
     counts: &mut SpareCounts,
 ) -> Result<bool, PlacedHalt>
     requires { AllHoldOrdinary tokens.tokens }
-    ensures { Satisfies result (IsCondition (answers_at expansion_limit) tokens.directive tokens.tokens
+    ensures { Satisfies result (IsCondition (answers_at expansion_limit) tokens.entry.directive tokens.entry.tokens
         scope.now.numbering (meaning_of scope.now.definitions.now)) }
 {
-    let mut parser = IfParser::new(alloc, LineKind::Condition, tokens, scope, counts)?;
+    if let Some(holds) = plain_condition(alloc, &tokens, scope)? {
+        return Ok(holds);
+    }
+    let mut parser = IfParser::new(alloc, LineKind::Condition, &tokens, scope, counts)?;
     let value = parser.evaluate_line()?;
     Ok(value != 0)
 }
@@ -46,10 +51,10 @@ pub struct LineHalt {
 }
 
 impl From<AllocError> for LineHalt {
-    ghost use Rattle.std.specs.Prelude.{◌≡◌};
+    ghost use Rattle.std.specs.Prelude.{◌≡◌, None};
     ghost use Rattle.pp_macros.specs.declared.halt.PlacedHalt.TheVariants.{OutOfMemory};
 
-    ghost from_gives = { λ error refused. refused.halt ≡ OutOfMemory };
+    ghost from_gives = { λ error refused. refused ≡ record { halt = OutOfMemory; number = None } };
 
     fn from(_error: AllocError) -> Self {
         LineHalt {
@@ -60,9 +65,9 @@ impl From<AllocError> for LineHalt {
 }
 
 impl From<PlacedHalt> for LineHalt {
-    ghost use Rattle.std.specs.Prelude.{◌≡◌};
+    ghost use Rattle.std.specs.Prelude.{◌≡◌, None};
 
-    ghost from_gives = { λ halt refused. refused.halt ≡ halt };
+    ghost from_gives = { λ halt refused. refused ≡ record { halt = halt; number = None } };
 
     fn from(halt: PlacedHalt) -> Self {
         LineHalt { halt, number: None }
@@ -75,16 +80,18 @@ impl From<PlacedHalt> for LineHalt {
 /// `OutOfMemory` if an allocation failed.
 pub fn line_number(
     alloc: Global,
-    tokens: LineReads,
+    tokens: LineReads<'_>,
     scope: &Scope<'_>,
     counts: &mut SpareCounts,
 ) -> Result<u32, LineHalt>
     requires { AllHoldOrdinary tokens.tokens }
-    ensures { Satisfies (without_number result) (IsLineNumber (answers_at expansion_limit) tokens.directive
-        tokens.tokens scope.now.numbering (meaning_of scope.now.definitions.now)) }
+    ensures is { Satisfies (without_number result) (IsLineNumber (answers_at expansion_limit) tokens.entry.directive
+        tokens.entry.tokens scope.now.numbering (meaning_of scope.now.definitions.now)) }
+    ensures first { GivesFirst result (IsFirstNumber (answers_at expansion_limit) tokens.entry.directive
+        tokens.entry.tokens scope.now.numbering (meaning_of scope.now.definitions.now)) }
 {
     let directive = tokens.directive();
-    let mut parser = IfParser::new(alloc, LineKind::LineNumber, tokens, scope, counts)?;
+    let mut parser = IfParser::new(alloc, LineKind::LineNumber, &tokens, scope, counts)?;
     let value = parser.evaluate_expression()?;
     let Some(number) = as_line_number(value) else {
         return Err(LineHalt::from(PlacedHalt::Fault((PreprocessorError::LineOverflow, directive))));

@@ -257,13 +257,13 @@ impl<'a> WordReader<'a> {
 pub fn line_words(
     alloc: Global,
     kind: LineKind,
-    tokens: LineReads,
+    tokens: &LineReads<'_>,
     scope: &Scope<'_>,
     levels: u32,
     counts: &mut SpareCounts,
 ) -> Result<Words, AllocError>
-    requires { AllHoldOrdinary tokens.tokens }
-    ensures { IfOk result (AreWordsOfLine kind tokens.directive levels tokens.tokens scope.now.numbering
+    requires { AllHoldOrdinary tokens.now.tokens }
+    ensures { IfOk result (AreWordsOfLine kind tokens.now.directive levels tokens.now.tokens scope.now.numbering
         scope.now.definitions.now) }
 {
     let reader = WordReader {
@@ -273,8 +273,8 @@ pub fn line_words(
         scope: *scope,
         levels,
     };
+    let mut reads = tokens.reads(alloc)?;
     let expander = MacroProcessor::with_counts(alloc, counts.take(alloc));
-    let mut reads = tokens.into_reads();
     let lexer = ListLexer::line(&mut reads, *scope);
     let mut line = LineExpander { expander, lexer };
     let words = reader.read_words(&mut line);

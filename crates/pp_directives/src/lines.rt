@@ -1,8 +1,8 @@
 //! The lines of directives, read token by token.
 
 ghost use Rattle.std.specs.Prelude.{◌≡◌, ◌≢◌, [], true, false, Some, Ok, IsTrue, All, IfOk, IfSome, OnOk};
+ghost use Rattle.std.specs.Prelude.{option_map};
 ghost use Rattle.pp_lexer.specs.Lexed.{comments_before};
-ghost use Rattle.pp_lexer.specs.TokenValue.{is_ordinary};
 ghost use Rattle.pp_model.specs.DefineLines.{is_attached_paren, definition_at, defined_on};
 ghost use Rattle.pp_model.specs.Lines.{first_token, first_name, ended_line, only_name, line_tokens};
 ghost use Rattle.pp_model.specs.Lines.{comments_before_end, line_length};
@@ -15,16 +15,18 @@ ghost use Rattle.pp_directives.specs.inner.ReadNames.{as_named, as_placed};
 ghost use Rattle.pp_directives.specs.inner.ReadingLines.{AreOrdinary, first_free_name, ReadsPart, ReadsNext};
 ghost use Rattle.pp_directives.specs.inner.ReadingLines.{ReadsLine, ReadsBy, ReadsTokens};
 ghost use Rattle.pp_directives.specs.inner.Skipping.{PassesRest};
+ghost use Rattle.pp_directives.specs.inner.TokenLists.{IsReadable, token_of};
 ghost use Rattle.pp_macros.specs.inner.ParameterReading.{function_at};
 
 use crate::parameters::parameters;
 use crate::source_lexer::SourceLexer;
-use crate::token_list::{LineReads, TokenList};
+use crate::token_list::{LineReads, LineToken, TokenList};
 use pp_lexer::lexer::{self, Form};
 use pp_lexer::rules::Rules;
-use pp_lexer::token::{Location, PreprocessorError, Punct, Text, Token, TokenValue, Tokens};
-use pp_macros::define::Define;
+use pp_lexer::token::{Location, PreprocessorError, Punct, Text, TokenValue, Tokens};
+use pp_macros::define::{Body, Define};
 use pp_macros::halt::Halt;
+use pp_macros::parameter_names::ParameterNames;
 use pp_model::conversion::{convert_lexer_token, refused_token};
 use pp_model::names::is_own_name;
 use pp_model::place::{Place, SOURCE_TEXT};
@@ -34,7 +36,6 @@ use std::alloc::Global;
 pub fn first_token(word: Location, lexer: &mut SourceLexer<'_>) -> Result<lexer::Token, Halt>
     requires { lexer.old.spent ≡ false }
     ensures reads { ReadsNext (λ t. t) (first_token word) lexer.old result lexer.new }
-    ensures one { spec.FaultTakesOne result lexer.old lexer.new }
     ensures left { IfOk result (λ token. spec.LeavesSome (Some token) lexer.new.rest) }
 {
     match lexer.next_token()? {
@@ -112,7 +113,6 @@ fn pass_token(lexer: &mut SourceLexer<'_>) -> Result<bool, Halt>
     requires { lexer.old.spent ≡ false }
     ensures reads { ReadsNext (λ t. t) spec.line_goes_on lexer.old result lexer.new }
     ensures fault { spec.FaultTakesSome result lexer.old lexer.new }
-    ensures one { spec.FaultTakesOne result lexer.old lexer.new }
 {
     if let Some(word) = lexer.peek_word() {
         lexer.pass_word(&word);
@@ -127,7 +127,7 @@ fn pass_token(lexer: &mut SourceLexer<'_>) -> Result<bool, Halt>
 // Passes a token or an error of the lexer. Returns whether the line continues after it.
 fn pass_item(lexer: &mut SourceLexer<'_>) -> Result<bool, Halt>
     requires { lexer.old.spent ≡ false }
-    ensures { ReadsPart true (λ t. t) (Ok (spec.item_goes_on lexer.old.rest)) 1 lexer.old result lexer.new }
+    ensures { ReadsPart true (λ t. t) (Ok (spec.item_goes_on lexer.old.rest)) 1 1 lexer.old result lexer.new }
 {
     match pass_token(lexer) {
         Err(Halt::Fault(fault)) => {
@@ -191,7 +191,7 @@ pub fn skip_line(passes: bool, lexer: &mut SourceLexer<'_>) -> Result<(), Halt>
 // where it begins. An error of the lexer is passed too, or else returned.
 fn pass_to_end(passes: bool, end: &mut u32, lexer: &mut SourceLexer<'_>) -> Result<bool, Halt>
     requires { lexer.old.spent ≡ false }
-    ensures reads { ReadsPart passes (λ t. t) (goes_on_by passes lexer.old.rest) 1 lexer.old result lexer.new }
+    ensures reads { ReadsPart passes (λ t. t) (goes_on_by passes lexer.old.rest) 1 1 lexer.old result lexer.new }
     ensures end { IfOk result (λ _. end.new ≡ first_end end.old lexer.old.rest) }
 {
     if let Some(word) = lexer.peek_word() {
@@ -221,7 +221,7 @@ fn pass_to_end(passes: bool, end: &mut u32, lexer: &mut SourceLexer<'_>) -> Resu
 pub fn line_end(passes: bool, from: u32, lexer: &mut SourceLexer<'_>) -> Result<u32, Halt>
     requires { lexer.old.spent ≡ false }
     ensures { ReadsPart passes (λ t. t) (passed_end passes from lexer.old.rest) (line_length lexer.old.rest)
-        lexer.old result lexer.new }
+        (spec.shown_on (passed_end passes from) lexer.old.rest) lexer.old result lexer.new }
 {
     let mut end = from;
     'line: while pass_to_end(passes, &mut end, lexer)? {}
@@ -246,32 +246,34 @@ pub fn endif_end(
 }
 
 // A token of the line, or `None` if the line ends.
-fn line_token(token: Option<lexer::Token>) -> Result<Option<Token>, Halt>
-    ensures is { spec.Meets (λ t. t) result (spec.line_token token) }
-    ensures ordinary { spec.IsOrdinaryIfOk result }
+fn line_token<'a>(token: Option<lexer::Token>) -> Result<Option<LineToken<'a>>, Halt>
+    ensures is { spec.Meets (option_map token_of) result (spec.line_token token) }
+    ensures readable { IfOk result (λ next. IfSome next IsReadable) }
     ensures within { IfOk result (λ next. IfSome next (λ t. spec.IsWithinLine token)) }
 {
     match token {
         Some(token) if !matches!(token.value, lexer::TokenValue::NewLine) => {
-            Ok(Some(convert_lexer_token(token)?))
+            Ok(Some(LineToken::Token(convert_lexer_token(token)?)))
         }
         _ => Ok(None),
     }
 }
 
-/// The next token of the line, or `None` if the line ends.
+// The next token of the line, or `None` if the line ends.
+#[tactic(auto, using(crate::proofs::PlainWordLemmas::word_of_line))]
 #[inline(always)]
-pub fn next_line_token(alloc: Global, lexer: &mut SourceLexer<'_>) -> Result<Option<Token>, Halt>
+fn next_line_token<'a>(lexer: &mut SourceLexer<'a>) -> Result<Option<LineToken<'a>>, Halt>
     requires { lexer.old.spent ≡ false }
-    ensures reads { ReadsNext (λ t. t) spec.next_line_token lexer.old result lexer.new }
-    ensures ordinary { spec.IsOrdinaryIfOk result }
+    ensures reads { ReadsNext (option_map token_of) spec.next_line_token lexer.old result lexer.new }
+    ensures readable { IfOk result (λ next. IfSome next IsReadable) }
     ensures comments { IfOk result (λ next. lexer.new.had_comments
         ≡ comments_before lexer.old.rest lexer.old.at_end) }
     ensures left { IfOk result (λ next. IfSome next (λ t. lexer.new.rest ≢ [])) }
 {
     if let Some(word) = lexer.peek_word() {
         if !matches!(word.form, Form::Hash) {
-            return Ok(Some(lexer.take_word(alloc, word)?));
+            lexer.pass_word(&word);
+            return Ok(Some(LineToken::Word(word)));
         }
     }
     line_token(lexer.next_token()?)
@@ -296,70 +298,59 @@ fn opens_parameters(token: &Option<lexer::Token>) -> bool
 
 // Reads the tokens of a line from its first one, which was read already, onto the list. There are none if the line was
 // empty.
-fn read_line<T: TokenList>(
+fn read_line<'a, T: TokenList<'a>>(
     alloc: Global,
-    first: Option<Token>,
-    lexer: &mut SourceLexer<'_>,
+    first: Option<LineToken<'a>>,
+    lexer: &mut SourceLexer<'a>,
     tokens: &mut T,
 ) -> Result<(), Halt>
     requires unspent { lexer.old.spent ≡ false }
-    requires ordinary { IfSome first (λ t. IsTrue (is_ordinary t.value)) }
+    requires readable { IfSome first IsReadable }
     requires left { IfSome first (λ t. lexer.old.rest ≢ []) }
     requires empty { T.tokens tokens.old ≡ [] }
-    ensures reads { ReadsTokens (λ _. T.tokens tokens.new) first lexer.old result lexer.new }
-    ensures directive { OnOk result (T.directive tokens.new ≡ T.directive tokens.old) }
+    ensures reads { ReadsTokens (λ _. T.tokens tokens.new) (option_map token_of first.entry)
+        lexer.old result lexer.new }
+    ensures kept { OnOk result (T.kept tokens.new ≡ T.kept tokens.old) }
 {
     let mut next = first;
     while let Some(token) = next {
-        tokens.put(token)?;
-        next = next_line_token(alloc, lexer)?;
+        tokens.put(alloc, token)?;
+        next = next_line_token(lexer)?;
     }
     Ok(())
 }
 
-/// The tokens of a line from its first one, which was read already, or none if the line was empty.
-pub fn line_tokens_from(
+// Reads the tokens of the rest of the line onto the list.
+fn read_rest<'a, T: TokenList<'a>>(
     alloc: Global,
-    first: Option<Token>,
-    lexer: &mut SourceLexer<'_>,
-) -> Result<Vec<Token>, Halt>
+    lexer: &mut SourceLexer<'a>,
+    tokens: &mut T,
+) -> Result<(), Halt>
     requires unspent { lexer.old.spent ≡ false }
-    requires ordinary { IfSome first (λ t. IsTrue (is_ordinary t.value)) }
-    requires left { IfSome first (λ t. lexer.old.rest ≢ []) }
-    ensures { ReadsTokens (λ tokens. tokens.items) first lexer.old result lexer.new }
-{
-    let room = if first.is_some() { 16 } else { 0 };
-    let mut tokens = Vec::with_capacity(alloc, room)?;
-    read_line(alloc, first, lexer, &mut tokens)?;
-    Ok(tokens)
-}
-
-/// The tokens of the rest of the line.
-pub fn rest_of_line(alloc: Global, lexer: &mut SourceLexer<'_>) -> Result<Vec<Token>, Halt>
-    requires { lexer.old.spent ≡ false }
-    ensures reads { ReadsLine (λ tokens. tokens.items) line_tokens lexer.old result lexer.new }
-    ensures comments { IfOk result (λ tokens. lexer.old.rest ≢ [] → lexer.new.had_comments
+    requires empty { T.tokens tokens.old ≡ [] }
+    ensures reads { ReadsLine (λ _. T.tokens tokens.new) line_tokens lexer.old result lexer.new }
+    ensures comments { OnOk result (lexer.old.rest ≢ [] → lexer.new.had_comments
         ≡ comments_before_end lexer.old.rest) }
-    ensures ordinary { IfOk result (λ tokens. AreOrdinary tokens.items) }
+    ensures ordinary { OnOk result (AreOrdinary (T.tokens tokens.new)) }
+    ensures kept { OnOk result (T.kept tokens.new ≡ T.kept tokens.old) }
 {
-    let first = next_line_token(alloc, lexer)?;
-    line_tokens_from(alloc, first, lexer)
+    let first = next_line_token(lexer)?;
+    read_line(alloc, first, lexer, tokens)
 }
 
 /// The tokens of the rest of the line, for an expander. `directive` is the place of the word before them.
-pub fn line_reads(
+pub fn line_reads<'a>(
     alloc: Global,
     directive: Place,
-    lexer: &mut SourceLexer<'_>,
-) -> Result<LineReads, Halt>
+    lexer: &mut SourceLexer<'a>,
+) -> Result<LineReads<'a>, Halt>
     requires { lexer.old.spent ≡ false }
     ensures reads { ReadsLine (λ line. line.tokens) line_tokens lexer.old result lexer.new }
     ensures directive { IfOk result (λ line. line.directive ≡ directive) }
     ensures ordinary { IfOk result (λ line. AreOrdinary line.tokens) }
 {
-    let first = next_line_token(alloc, lexer)?;
     let mut tokens = LineReads::new(alloc, directive)?;
-    read_line(alloc, first, lexer, &mut tokens)?;
+    read_rest(alloc, lexer, &mut tokens)?;
     Ok(tokens)
 }
 
@@ -373,8 +364,10 @@ pub fn line_tokens(alloc: Global, lexer: &mut SourceLexer<'_>) -> Result<Tokens,
     ensures ordinary { IfOk result
         (λ tokens. All (λ entry. IsTrue (is_ordinary_leaf entry.leaf)) tokens) }
 {
-    let first = next_line_token(alloc, lexer)?;
-    let mut tokens = line_tokens_from(alloc, first, lexer)?;
+    let first = next_line_token(lexer)?;
+    let room = if first.is_some() { 16 } else { 0 };
+    let mut tokens = Vec::with_capacity(alloc, room)?;
+    read_line(alloc, first, lexer, &mut tokens)?;
     tokens.shrink_to_fit();
     Ok(Tokens::from(tokens))
 }
@@ -397,8 +390,9 @@ fn function_after(
     ensures { ReadsLine (λ d. d) (function_at word) lexer.old result lexer.new }
 {
     let names = parameters(alloc, word, lexer)?;
-    let body = rest_of_line(alloc, lexer)?;
-    Ok(Define::function_like(alloc, SOURCE_TEXT, names, body)?)
+    let mut body = Body::new(alloc, names);
+    read_rest(alloc, lexer, &mut body)?;
+    Ok(Define::function_like(alloc, SOURCE_TEXT, body)?)
 }
 
 // The definition after a macro's name.
@@ -412,7 +406,8 @@ fn definition(alloc: Global, word: Location, lexer: &mut SourceLexer<'_>) -> Res
         return function_after(alloc, word, lexer);
     }
     let first = line_token(token)?;
-    let body = line_tokens_from(alloc, first, lexer)?;
+    let mut body = Body::new(alloc, ParameterNames::new(alloc));
+    read_line(alloc, first, lexer, &mut body)?;
     Ok(Define::object_like(alloc, SOURCE_TEXT, body)?)
 }
 

@@ -5,7 +5,7 @@ ghost use Rattle.pp_model.specs.DefineLines.{parameters};
 ghost use Rattle.pp_model.specs.Names.{is_in};
 ghost use Rattle.pp_macros.specs.inner.LineReading as spec;
 ghost use Rattle.pp_macros.specs.inner.ParameterReading.{ends_parameters, one_parameter, first_parameter, alone};
-ghost use Rattle.pp_macros.specs.inner.ParameterReading.{GoesOnInLine};
+ghost use Rattle.pp_macros.specs.inner.ParameterReading.{GoesOnInLine, ShowsOnLine};
 ghost use Rattle.pp_macros.specs.inner.SourceLexed.{unreported_at};
 ghost use Rattle.pp_macros.specs.inner.Unreported.{Reports};
 ghost use Rattle.pp_directives.specs.inner.ReadNames.{parameters_to};
@@ -82,6 +82,8 @@ pub fn parameters(
     ensures is { spec.Meets (λ names. parameters_to names lexer.new) result
         (parameters word lexer.old.rest) }
     ensures goes { GoesOnInLine result lexer.old lexer.new }
+    ensures shown { ShowsOnLine word result lexer.old lexer.new }
+    ensures fault { spec.IsShownOrLast result lexer.new }
     ensures errors { Reports false result (unreported_at lexer.old) (unreported_at lexer.new) }
 {
     let none = ParameterNames::new(alloc);

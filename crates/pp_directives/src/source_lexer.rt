@@ -32,7 +32,7 @@ pub struct SourceLexer<'a> {
 
 impl<'a> Model for SourceLexer<'a> {
     ghost use Rattle.std.specs.Prelude.{◌≡◌, false};
-    ghost use Rattle.pp_directives.specs.inner.Lined.{AreEnded};
+    ghost use Rattle.pp_directives.specs.inner.Lined.{AreEnded, ShowErrors};
     ghost use Rattle.pp_macros.specs.inner.SourceLexed.{SourceLexed, HavePlaces};
 
     ghost Value = { SourceLexed };
@@ -48,7 +48,7 @@ impl<'a> Model for SourceLexer<'a> {
     } };
 
     ghost invariant = { λ s. s.lexer.spent ≡ false → AreEnded s.lexer.rest
-        × HavePlaces s.lexer.rest s.lexer.places };
+        × ShowErrors s.lexer.rest × HavePlaces s.lexer.rest s.lexer.places };
 }
 
 impl<'a> SourceLexer<'a> {

@@ -12,9 +12,9 @@ use pp_lexer::lexer::{Form, PlainItem};
 use pp_lexer::token::Punct;
 use pp_macros::names::{Definitions, NameId};
 
-// Whether the name is `__LINE__`. Most have another length, and need no call.
+/// Whether the name is `__LINE__`. Most have another length, and need no call.
 #[inline(always)]
-fn is_line_name(name: &str) -> bool
+pub fn is_line_name(name: &str) -> bool
     requires { IsAscii name.now }
     ensures { result ≡ is_same_name name.now line_name }
 {

@@ -5,6 +5,7 @@ pub mod Plain
 pub mod Defined
 pub mod OpenBlocks
 pub mod SourceMoves
+pub mod Faults
 pub mod Source
 pub mod Reader
 pub mod Reading

@@ -1,15 +1,19 @@
 //! Macros.
 
-ghost use Rattle.std.specs.Prelude.{◌≡◌, ◌↔◌, ◌∷◌, ◌<◌, ◌^◌, true, List, [], IsTrue, All};
-ghost use Rattle.std.specs.Prelude.{IfOk, IfSome, MatchOption, drop, length, map};
+ghost use Rattle.std.specs.Prelude.{◌≡◌, ◌↔◌, ◌∷◌, ◌<◌, ◌^◌, true, false, List, [], IsTrue, if◌then◌else◌};
+ghost use Rattle.std.specs.Prelude.{IfOk, IfSome, OnOk, MatchOption, drop, length, map};
+ghost use Rattle.std.specs.Str.{chars};
 ghost use Rattle.pp_lexer.specs.declared.token.Token.{Token};
+ghost use Rattle.pp_lexer.specs.declared.token.TokenValue.TheVariants.{Ident};
 ghost use Rattle.pp_lexer.specs.TokenValue.{is_ordinary};
 ghost use Rattle.pp_lexer.specs.Spelling.{values_of};
 ghost use Rattle.pp_model.specs.Names.{Name};
 ghost use Rattle.pp_model.specs.Definitions.{IsSameDefinition, object_like};
 ghost use Rattle.pp_macros.specs.inner.Defined.{AreNumbered, names_in};
-ghost use Rattle.pp_macros.specs.inner.Bodies.{AreEntries, AreSeen, IsEntry, IsEntryAt, body_of, is_same_entry};
-ghost use Rattle.pp_macros.specs.inner.Bodies.{token_of, unnumbered, noted_at, noted_in};
+ghost use Rattle.pp_macros.specs.inner.Bodies.{AreEntries, AreFound, AreSeen, IsEntry, IsEntryAt, IsFound};
+ghost use Rattle.pp_macros.specs.inner.Bodies.{body_of, is_same_entry, token_of, unnumbered, noted_at, noted_in};
+ghost use Rattle.pp_macros.specs.inner.Bodies.{with_token};
+ghost use Rattle.pp_macros.specs.declared.define.BodyEntry.TheVariants.{Parameter};
 
 use crate::names::{Definitions, NameId};
 use crate::parameter_names::ParameterNames;
@@ -122,58 +126,127 @@ fn are_same_names(old: &[Text], new: &[Text]) -> bool
     old == new
 }
 
-// The entry for a token before the rest of its body. `seen` marks the parameters that the rest has, and afterwards that
-// of the token too.
-fn entry_before(parameters: &ParameterNames, token: Token, seen: &mut [bool]) -> BodyEntry
-    requires { length seen.old ≡ length parameters.now }
-    ensures token { token_of parameters.now result ≡ token }
-    ensures entry { (rest : List Token) → AreSeen parameters.now rest seen.old → IsTrue (is_ordinary token.value)
-        → IsEntry parameters.now result rest }
-    ensures bare { noted_at result ≡ [] }
-    ensures seen { (rest : List Token) → AreSeen parameters.now rest seen.old
-        → AreSeen parameters.now (token ∷ rest) seen.new }
+/// The body of a macro that is being read: the macro's parameters, and the entries of the tokens so far. Contracts see
+/// the parameters and the tokens.
+#[derive(Drop)]
+pub struct Body {
+    parameters: ParameterNames,
+    // no parameter is marked as the last yet
+    entries: Vec<BodyEntry>,
+}
+
+impl Model for Body {
+    ghost use Rattle.std.specs.Prelude.{◌≡◌, []};
+    ghost use Rattle.pp_macros.specs.inner.Bodies.{AreFound, BodyTokens, body_of, noted_in};
+
+    ghost Value = { BodyTokens };
+
+    ghost view = { λ b. record { parameters = b.parameters; tokens = body_of b.parameters b.entries.items } };
+
+    ghost invariant = { λ b. AreFound b.parameters b.entries.items × (noted_in b.entries.items ≡ []) };
+}
+
+// The parameter with this position, where the body has its name. It isn't marked as the last.
+fn parameter_at(position: usize, location: Location) -> BodyEntry
+    ensures { result ≡ Parameter position location false }
 {
-    let Some(position) = parameters.position_of(&token.value) else {
-        return BodyEntry::Token(token, None);
-    };
-    let location = token.location;
-    let is_last = !seen[position];
-    seen[position] = true;
     BodyEntry::Parameter {
         position,
         location,
-        is_last,
+        is_last: false,
     }
 }
 
-// Gives back room of a long list, if more of it is free than used.
-fn give_back_room(tokens: &mut Vec<Token>)
-    ensures { tokens.new.items ≡ tokens.old.items }
+impl Body {
+    /// The body of a macro with these parameters before its first token. It allocates nothing.
+    pub fn new(alloc: Global, parameters: ParameterNames) -> Body
+        ensures { result ≡ record { parameters = parameters; tokens = [] } }
+    {
+        Body {
+            parameters,
+            entries: Vec::new(alloc),
+        }
+    }
+
+    /// Puts a token after the others.
+    pub fn push(&mut self, token: Token) -> Result<(), AllocError>
+        requires { IsTrue (is_ordinary token.value) }
+        ensures { OnOk result (self.new ≡ with_token self.old token) }
+    {
+        match self.parameters.position_of(&token.value) {
+            Some(position) => self.put(parameter_at(position, token.location)),
+            None => self.put(BodyEntry::Token(token, None)),
+        }
+    }
+
+    /// Puts the parameter of this name after the others, and returns whether there is one. If there is none, nothing
+    /// changes.
+    pub fn push_parameter(&mut self, name: &str, location: Location) -> Result<bool, AllocError>
+        ensures { IfOk result (λ is_parameter. self.new ≡ (if is_parameter
+            then with_token self.old (record { value = Ident (chars name.now); location = location }) else self.old)) }
+    {
+        let Some(position) = self.parameters.position(name) else {
+            return Ok(false);
+        };
+        self.put(parameter_at(position, location))?;
+        Ok(true)
+    }
+
+    // Puts an entry after the others. With the first comes room for a short body: 14 entries take 1,008 bytes; glibc
+    // keeps blocks of up to 1,032 at hand.
+    #[inline(always)]
+    fn put(&mut self, entry: BodyEntry) -> Result<(), AllocError>
+        requires found { IsFound self.old.parameters entry }
+        requires bare { noted_at entry ≡ [] }
+        ensures { OnOk result (self.new ≡ with_token self.old (token_of self.old.parameters entry)) }
+    {
+        if self.entries.is_empty() {
+            self.entries.reserve(14)?;
+        }
+        self.entries.push(entry)?;
+        Ok(())
+    }
+}
+
+// Marks a parameter as the last if the rest of its body hasn't it. `seen` marks the parameters that the rest has,
+// and afterwards that of the entry too.
+fn mark_entry(parameters: &ParameterNames, entry: &mut BodyEntry, seen: &mut [bool])
+    requires found { IsFound parameters.now entry.old }
+    requires as_parameters { length seen.old ≡ length parameters.now }
+    ensures token { token_of parameters.now entry.new ≡ token_of parameters.now entry.old }
+    ensures entry { (rest : List Token) → AreSeen parameters.now rest seen.old
+        → IsEntry parameters.now entry.new rest }
+    ensures bare { noted_at entry.new ≡ noted_at entry.old }
+    ensures seen { (rest : List Token) → AreSeen parameters.now rest seen.old
+        → AreSeen parameters.now (token_of parameters.now entry.new ∷ rest) seen.new }
 {
-    if tokens.capacity() / 2 > tokens.len() + 1024 {
-        tokens.shrink_to_fit();
+    if let BodyEntry::Parameter {
+        position,
+        is_last,
+        ..
+    } = entry
+    {
+        *is_last = !seen[*position];
+        seen[*position] = true;
     }
 }
 
-// The entries for the tokens of a body.
-fn entries_of(
+// Marks each parameter that the rest of the body hasn't again.
+fn mark_last(
     alloc: Global,
     parameters: &ParameterNames,
-    mut body: Vec<Token>,
-) -> Result<Vec<BodyEntry>, AllocError>
-    requires { All (λ token. IsTrue (is_ordinary token.value)) body.items }
-    ensures entries { IfOk result (λ entries. AreEntries parameters.now entries.items) }
-    ensures body { IfOk result (λ entries. body_of parameters.now entries.items ≡ body.items) }
-    ensures bare { IfOk result (λ entries. noted_in entries.items ≡ []) }
+    entries: &mut [BodyEntry],
+) -> Result<(), AllocError>
+    requires { AreFound parameters.now entries.old }
+    ensures entries { OnOk result (AreEntries parameters.now entries.new) }
+    ensures body { OnOk result (body_of parameters.now entries.new ≡ body_of parameters.now entries.old) }
+    ensures noted { OnOk result (noted_in entries.new ≡ noted_in entries.old) }
 {
     let mut seen = vec![in alloc; false; parameters.len()]?;
-    let mut entries = Vec::with_capacity(alloc, body.len())?;
-    while let Some(token) = body.pop() {
-        entries.push(entry_before(parameters, token, &mut seen))?;
-        give_back_room(&mut body);
+    for index in (0..entries.len()).rev() {
+        mark_entry(parameters, &mut entries[index], &mut seen);
     }
-    entries.reverse();
-    Ok(entries)
+    Ok(())
 }
 
 // Notes the numbers of the names in a body.
@@ -290,38 +363,49 @@ impl Macro {
 
 impl Define {
     /// A macro without parameters, whose body is of this text.
-    pub fn object_like(alloc: Global, text: u32, body: Vec<Token>) -> Result<Define, AllocError>
-        requires { All (λ token. IsTrue (is_ordinary token.value)) body.items }
-        ensures { IfOk result (λ define. define ≡ object_like text body.items) }
+    pub fn object_like(alloc: Global, text: u32, body: Body) -> Result<Define, AllocError>
+        requires { body.parameters ≡ [] }
+        ensures { IfOk result (λ define. define ≡ object_like text body.tokens) }
     {
-        let parameters = ParameterNames::new(alloc);
-        Ok(Define {
-            function_like: false,
-            body: entries_of(alloc, &parameters, body)?,
-            parameters: parameters.into_names(),
-            text,
-        })
+        Define::of_kind(alloc, false, text, body)
     }
 
-    /// A macro with these parameters, whose body is of this text.
-    pub fn function_like(
-        alloc: Global,
-        text: u32,
-        parameters: ParameterNames,
-        body: Vec<Token>,
-    ) -> Result<Define, AllocError>
-        requires { All (λ token. IsTrue (is_ordinary token.value)) body.items }
+    /// A macro with the body's parameters, whose body is of this text.
+    pub fn function_like(alloc: Global, text: u32, body: Body) -> Result<Define, AllocError>
         ensures { IfOk result (λ define. define ≡ record {
           function_like = true;
-          parameters = parameters;
-          body = body.items;
+          parameters = body.parameters;
+          body = body.tokens;
           text = text;
         }) }
     {
+        Define::of_kind(alloc, true, text, body)
+    }
+
+    // A macro with or without parameters.
+    fn of_kind(
+        alloc: Global,
+        function_like: bool,
+        text: u32,
+        body: Body,
+    ) -> Result<Define, AllocError>
+        ensures { IfOk result (λ define. define ≡ record {
+          function_like = function_like;
+          parameters = body.parameters;
+          body = body.tokens;
+          text = text;
+        }) }
+    {
+        let Body {
+            parameters,
+            mut entries,
+        } = body;
+        mark_last(alloc, &parameters, &mut entries)?;
+        entries.shrink_to_fit();
         Ok(Define {
-            function_like: true,
-            body: entries_of(alloc, &parameters, body)?,
+            function_like,
             parameters: parameters.into_names(),
+            body: entries,
             text,
         })
     }

@@ -8,12 +8,14 @@ use Rattle.pp_macros.specs.declared.step.PlacedExit.{PlacedExit}
 use Rattle.pp_macros.specs.declared.step.PlacedExit.TheVariants.{Continue, Finished}
 use Rattle.pp_macros.specs.inner.Source.{Source, SuspendedText, had_text, had_directive, resumed}
 use Rattle.pp_macros.specs.inner.SourceLexed.{SourceLexed, HavePlaces}
-use Rattle.pp_directives.specs.inner.Lined.{AreEnded}
+use Rattle.pp_directives.specs.inner.Lined.{AreEnded, ShowErrors}
 
--- memory didn't run out, each line that is left ends, and each item that is left has a place
+-- memory didn't run out, each line that is left ends, no error is that of the end, and each item that is left has a
+-- place
 pub record IsReadable (l : Lexed) : Type 0 where
   pub unspent : l.spent ≡ false
   pub ended : AreEnded l.rest
+  pub shown : ShowErrors l.rest
   pub placed : HavePlaces l.rest l.places
 
 -- a source's lexer that reads what this one gives

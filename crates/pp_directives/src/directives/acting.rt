@@ -1,17 +1,16 @@
 //! What the lines of directives do, in live and in dead text.
 
-ghost use Rattle.std.specs.Prelude.{◌≡◌, ◌≢◌, [], drop, false, true, pos, ◌-ℤ◌};
-ghost use Rattle.pp_model.specs.Lines.{line_tokens, comments_before_end, first_token};
-ghost use Rattle.pp_model.specs.DefineLines.{undefined_on};
+ghost use Rattle.std.specs.Prelude.{◌≡◌, ◌≢◌, [], false, true, pos, ◌-ℤ◌};
+ghost use Rattle.pp_model.specs.Lines.{first_token};
 ghost use Rattle.pp_model.specs.Reads.{numbered_line};
-ghost use Rattle.pp_model.specs.Blocks.{part_of};
 ghost use Rattle.pp_model.specs.declared.directive.Directive.TheVariants as d;
 ghost use Rattle.pp_directives.specs.inner.ReadNames.{as_named};
-ghost use Rattle.pp_macros.specs.inner.OpenBlocks.{facts_among, unchanged, block_change};
+ghost use Rattle.pp_macros.specs.inner.OpenBlocks.{facts_among};
 ghost use Rattle.pp_macros.specs.inner.Source.{had_text, is_first_directive};
-ghost use Rattle.pp_directives.specs.inner.LineEntries.{entries_move};
+ghost use Rattle.pp_directives.specs.inner.LineEntries.{entries_move, version_move};
 ghost use Rattle.pp_directives.specs.inner.SourceActs.{Acts, GivesDirective, ActsAsItem, ActsNoted, Gives, GivesNoted};
-ghost use Rattle.pp_directives.specs.inner.SourceActs.{without_item, word_change, word_move, word_note, define_move};
+ghost use Rattle.pp_directives.specs.inner.SourceActs.{without_item, plain_act, directive_act, word_act, word_note};
+ghost use Rattle.pp_directives.specs.inner.SourceActs.{define_act, is_item};
 ghost use Rattle.pp_model.specs.Moves as moves;
 
 use crate::directive_halt::DirectiveHalt;
@@ -32,13 +31,14 @@ use pp_model::directive::{Directive, directive_of};
 use pp_model::outcome::IncludeLine;
 use pp_model::place::Place;
 
-// Whether the directive is an item in live text by these rules, or an `#include` line that asks for its text.
-fn is_item(rules: Rules, directive: Directive) -> bool {
-    match directive {
-        Directive::Version | Directive::Extension | Directive::Pragma => true,
-        Directive::Include => rules.asks_includes,
-        _ => false,
-    }
+// Whether the directive is an item in live text.
+fn is_item(directive: Directive) -> bool
+    ensures { result ≡ is_item directive }
+{
+    matches!(
+        directive,
+        Directive::Version | Directive::Extension | Directive::Pragma
+    )
 }
 
 // The result of a directive that gives nothing, as that of one that may give something.
@@ -53,7 +53,7 @@ impl<'a> DirectiveProcessor<'a> {
     // Defines a name as its line says. If the name has the same definition already, the old one stays.
     fn add(&mut self, line: DefineLine) -> Result<(), DirectiveHalt>
         requires { self.old.spent ≡ false }
-        ensures { Acts unchanged (define_move (as_named line)) self.old result self.new }
+        ensures { Acts (define_act (as_named line)) self.old result self.new }
     {
         let DefineLine {
             name,
@@ -76,8 +76,8 @@ impl<'a> DirectiveProcessor<'a> {
     // Acts on a `#define` line, after its word.
     fn define(&mut self, word: Location) -> Result<(), DirectiveHalt>
         requires { self.old.spent ≡ false }
-        ensures { Acts unchanged (moves.directive_move self.old.rules true
-            (facts_among self.old.blocks) d.Define word self.old.rest) self.old result self.new }
+        ensures { Acts (directive_act self.old.rules true (facts_among self.old.blocks) d.Define word self.old.rest)
+            self.old result self.new }
     {
         let line = define_line(self.alloc, self.rules, word, &mut self.lexer)?;
         self.add(line)
@@ -86,8 +86,8 @@ impl<'a> DirectiveProcessor<'a> {
     // Acts on an `#undef` line, after its word. A name that is followed by more tokens is undefined too.
     fn undef(&mut self, word: Location) -> Result<(), DirectiveHalt>
         requires { self.old.spent ≡ false }
-        ensures { Acts unchanged (moves.line_move (undefined_on self.old.rules word self.old.rest)
-            moves.undefines self.old.rest) self.old result self.new }
+        ensures { Acts (directive_act self.old.rules true (facts_among self.old.blocks) d.Undef word self.old.rest)
+            self.old result self.new }
     {
         let first = free_name(self.rules, word, &mut self.lexer)?;
         self.definitions.remove(first.name.as_str());
@@ -109,8 +109,8 @@ impl<'a> DirectiveProcessor<'a> {
     // follows that number has a fault.
     fn number_lines(&mut self, word: Location) -> Result<(), DirectiveHalt>
         requires { self.old.spent ≡ false }
-        ensures { Acts unchanged (moves.line_move (line_tokens self.old.rest)
-            (moves.renumbers word) self.old.rest) self.old result self.new }
+        ensures { Acts (directive_act self.old.rules true (facts_among self.old.blocks) d.Line word self.old.rest)
+            self.old result self.new }
     {
         let place = Place::in_text(self.text, word);
         let tokens = line_reads(self.alloc, place, &mut self.lexer)?;
@@ -136,7 +136,7 @@ impl<'a> DirectiveProcessor<'a> {
     // Skips the line.
     fn skip(&mut self) -> Result<(), DirectiveHalt>
         requires { self.old.spent ≡ false }
-        ensures { Acts unchanged (moves.skip_move self.old.rules self.old.rest) self.old result self.new }
+        ensures { Acts (plain_act (moves.skip_move self.old.rules) self.old.rest) self.old result self.new }
     {
         skip_line(self.rules.passes_dead_errors, &mut self.lexer)?;
         Ok(())
@@ -160,7 +160,7 @@ impl<'a> DirectiveProcessor<'a> {
     // An `#include` line, after its word: it asks for its text, if the rules say so. What is on it isn't read.
     fn include_line(&mut self, word: Location) -> Result<Given, DirectiveHalt>
         requires { self.old.spent ≡ false }
-        ensures { Gives unchanged (moves.include_move self.old.rules word self.old.rest) self.old result self.new }
+        ensures { Gives (plain_act (moves.include_move self.old.rules word) self.old.rest) self.old result self.new }
     {
         if !self.rules.asks_includes {
             return Err(DirectiveHalt::Fault((PreprocessorError::UnknownDirective, word)));
@@ -178,7 +178,7 @@ impl<'a> DirectiveProcessor<'a> {
     // word.
     fn skip_include(&mut self) -> Result<(), DirectiveHalt>
         requires { self.old.spent ≡ false }
-        ensures { Acts unchanged (moves.dead_include_move self.old.rules self.old.rest) self.old result self.new }
+        ensures { Acts (plain_act (moves.dead_include_move self.old.rules) self.old.rest) self.old result self.new }
     {
         if self.rules.asks_includes {
             self.skip()
@@ -191,9 +191,7 @@ impl<'a> DirectiveProcessor<'a> {
     fn version(&mut self, word: Location) -> Result<Token, DirectiveHalt>
         requires unspent { self.old.spent ≡ false }
         requires left { self.old.rest ≢ [] }
-        ensures { ActsAsItem
-            (entries_move (moves.version_item (comments_before_end self.old.rest)) word self.old.rest)
-            self.old result self.new }
+        ensures { ActsAsItem (plain_act (version_move word) self.old.rest) self.old result self.new }
     {
         let tokens = line_tokens(self.alloc, &mut self.lexer)?;
         let value = TokenValue::Version(Version {
@@ -211,8 +209,8 @@ impl<'a> DirectiveProcessor<'a> {
     fn extension(&mut self, word: Location) -> Result<Token, DirectiveHalt>
         requires unspent { self.old.spent ≡ false }
         requires left { self.old.rest ≢ [] }
-        ensures { ActsAsItem
-            (entries_move moves.extension_item word self.old.rest) self.old result self.new }
+        ensures { ActsAsItem (plain_act (entries_move moves.extension_item word) self.old.rest)
+            self.old result self.new }
     {
         let tokens = line_tokens(self.alloc, &mut self.lexer)?;
         let value = TokenValue::Extension(Extension {
@@ -229,8 +227,8 @@ impl<'a> DirectiveProcessor<'a> {
     fn pragma(&mut self, word: Location) -> Result<Token, DirectiveHalt>
         requires unspent { self.old.spent ≡ false }
         requires left { self.old.rest ≢ [] }
-        ensures { ActsAsItem
-            (entries_move moves.pragma_item word self.old.rest) self.old result self.new }
+        ensures { ActsAsItem (plain_act (entries_move moves.pragma_item word) self.old.rest)
+            self.old result self.new }
     {
         let tokens = line_tokens(self.alloc, &mut self.lexer)?;
         Ok(Token {
@@ -243,8 +241,8 @@ impl<'a> DirectiveProcessor<'a> {
     fn act_live(&mut self, directive: Directive, word: Location) -> Result<Given, DirectiveHalt>
         requires unspent { self.old.spent ≡ false }
         requires left { self.old.rest ≢ [] }
-        ensures { Gives (block_change (part_of directive) word) (moves.directive_move self.old.rules true
-            (facts_among self.old.blocks) directive word self.old.rest) self.old result self.new }
+        ensures { Gives (directive_act self.old.rules true (facts_among self.old.blocks) directive word self.old.rest)
+            self.old result self.new }
     {
         match directive {
             Directive::Define => without_item(self.define(word)),
@@ -274,8 +272,8 @@ impl<'a> DirectiveProcessor<'a> {
     // Acts on a directive in dead text, after its word.
     fn act_dead(&mut self, directive: Directive, word: Location) -> Result<(), DirectiveHalt>
         requires { self.old.spent ≡ false }
-        ensures { Acts (block_change (part_of directive) word) (moves.directive_move self.old.rules false
-            (facts_among self.old.blocks) directive word self.old.rest) self.old result self.new }
+        ensures { Acts (directive_act self.old.rules false (facts_among self.old.blocks) directive word self.old.rest)
+            self.old result self.new }
     {
         match directive {
             Directive::If | Directive::Ifdef | Directive::Ifndef => self.open_unread(word),
@@ -295,13 +293,12 @@ impl<'a> DirectiveProcessor<'a> {
     }
 
     // What a directive gives in live text, after its number sign. A number sign alone on its line gives nothing. A line
-    // that would be an item, or would ask for its text, counts as a directive even if it has a fault.
+    // that would be an item counts as a directive even if it has a fault.
     fn read_live(&mut self, hash: Location) -> Result<Given, DirectiveHalt>
         requires { self.old.spent ≡ false }
         ensures { GivesNoted (word_note true (first_token hash self.old.rest))
-            (word_change (first_token hash self.old.rest))
-            (word_move self.old.rules true (facts_among self.old.blocks) (first_token hash self.old.rest)
-            (drop 1 self.old.rest)) self.old result self.new }
+            (word_act self.old.rules true (facts_among self.old.blocks) hash self.old.rest)
+            self.old result self.new }
     {
         let token = first_token(hash, &mut self.lexer)?;
         let word = token.location;
@@ -315,7 +312,7 @@ impl<'a> DirectiveProcessor<'a> {
                         Ok(given)
                     }
                     Err(halt) => {
-                        self.has_directive |= is_item(self.rules, directive);
+                        self.has_directive |= is_item(directive);
                         Err(halt)
                     }
                 }
@@ -333,9 +330,8 @@ impl<'a> DirectiveProcessor<'a> {
     fn read_dead(&mut self, hash: Location) -> Result<(), DirectiveHalt>
         requires { self.old.spent ≡ false }
         ensures { ActsNoted (word_note false (first_token hash self.old.rest))
-            (word_change (first_token hash self.old.rest))
-            (word_move self.old.rules false (facts_among self.old.blocks) (first_token hash self.old.rest)
-            (drop 1 self.old.rest)) self.old result self.new }
+            (word_act self.old.rules false (facts_among self.old.blocks) hash self.old.rest)
+            self.old result self.new }
     {
         let token = match first_token(hash, &mut self.lexer) {
             Ok(token) => token,

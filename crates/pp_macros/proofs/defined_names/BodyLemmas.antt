@@ -1,12 +1,12 @@
 -- What the entries of a macro's body stand for.
-use Rattle.std.proofs.Common.{◌≡◌, ◌∙◌, ℕ, zero, suc, ◌+◌, ◌<◌, ◌≤◌, Bool, List, [], ◌∷◌, ◌++◌, length, drop, map, reverse, set, get_or, refl, sym, ap, Option, Some, None, Bor, append_assoc, arith, tests}
+use Rattle.std.proofs.Common.{◌≡◌, ◌∙◌, ℕ, zero, suc, ◌+◌, ◌<◌, ◌≤◌, Bool, false, List, [], ◌∷◌, ◌++◌, length, drop, map, set, get_or, refl, sym, ap, Option, Some, None, Bor, arith, tests}
 use Rattle.std.specs.Prelude.{◌↔◌, IsTrue, MatchOption, slice_index_or}
 use Rattle.std.specs.Bool.{Decides}
 use Rattle.std.specs.Slice.{IsItemAt}
 use Rattle.std.specs.List.{zip, list_all}
 use Rattle.std.proofs.Math.Seq.{map-set_same}
 use Rattle.std.proofs.lemmas.Bool.Decides.{Decides-and, Decides-like, Decides-eqb}
-use Rattle.std.proofs.lemmas.List.{drop-map, drop_all, drop_more, reverse-append}
+use Rattle.std.proofs.lemmas.List.{drop-map, drop-set, drop_all, drop_more}
 use Rattle.std.proofs.lemmas.List.Quantifiers.{position-Some}
 use Rattle.pp_lexer.specs.Spelling.{values_of}
 use Rattle.pp_lexer.specs.declared.token.Token.{Token}
@@ -18,7 +18,10 @@ use Rattle.pp_model.specs.SpliceList.{parameter_of}
 use Rattle.pp_macros.specs.declared.define.BodyEntry.{BodyEntry}
 use Rattle.pp_macros.specs.declared.define.BodyEntry.TheVariants as entry
 use Rattle.pp_lexer.proofs.values.EqualityLemmas.{value_decides}
-use Rattle.pp_macros.specs.inner.Bodies.{AreEntries, IsEntry, IsEntryAt, body_of, is_same_entry, token_of, unnumbered}
+use Rattle.pp_macros.specs.inner.Bodies.{AreEntries, AreFound, IsEntry, IsEntryAt, IsFound, body_of, is_same_entry, token_of, unnumbered, noted_at, noted_in}
+use Rattle.pp_macros.specs.inner.Defined.{Numbered}
+use Rattle.pp_lexer.specs.declared.token.Location.{Location}
+use Rattle.std.proofs.lemmas.List.Elements.{All-push}
 use Rattle.pp_macros.proofs.defined_names.NameKeysLemmas.{names_same}
 
 -- the value that names a parameter is the identifier of its name
@@ -28,16 +31,67 @@ parameter_named parameters (Ident name) k e =
     ap Ident (sym (names_same name (slice_index_or parameters k []) (position-Some (is_same_name name) parameters k [] e).1))
 parameter_named parameters value k e = cc
 
--- one more entry at the end of a list from behind is the first
-pub reverse_push : {X : Type 0} (xs : List X) (x : X) → reverse (xs ++ x ∷ []) ≡ x ∷ reverse xs
-reverse_push xs x = reverse-append xs (x ∷ [])
+-- where the body has the name of a parameter, that is an entry for it
+pub parameter_found : (parameters : List Name) (value : TokenValue) (k : ℕ) (location : Location) → parameter_of parameters value ≡ Some k
+    → IsFound parameters (entry.Parameter k location false)
+    × (token_of parameters (entry.Parameter k location false) ≡ record { value = value; location = location })
+parameter_found parameters value k location e =
+    let named = parameter_named parameters value k e in
+    (ap (parameter_of parameters) named ∙ e, ap (λ (v : TokenValue). record { value = v; location = location }) named)
 
--- the last of the tokens that are left has its entry
-pub one_more : (parameters : List Name) (left : List Token) (token : Token) (entries : List BodyEntry) (e : BodyEntry)
-    → token_of parameters e ≡ token
-    → left ++ body_of parameters (reverse (entries ++ e ∷ [])) ≡ (left ++ token ∷ []) ++ body_of parameters (reverse entries)
-one_more parameters left token entries e is =
-    rw (reverse_push entries e, is) (sym (append_assoc left (token ∷ []) (body_of parameters (reverse entries))))
+-- an entry that is right before what follows is right before that is known
+entry_is_found : (parameters : List Name) (e : BodyEntry) (rest : List Token) → IsEntry parameters e rest → IsFound parameters e
+entry_is_found parameters (entry.Token token number) rest is = is
+entry_is_found parameters (entry.Parameter k location is_last) rest is = is.0
+
+append_empty : (xs ys : List Numbered) → xs ++ ys ≡ [] → (xs ≡ []) × (ys ≡ [])
+append_empty [] ys e = (refl, e)
+append_empty (x ∷ xs) ys e = cc
+
+noted_more : (entries : List BodyEntry) (e : BodyEntry) → noted_in entries ≡ [] → noted_at e ≡ [] → noted_in (entries ++ e ∷ []) ≡ []
+noted_more [] e none bare = rw bare refl
+noted_more (x ∷ xs) e none bare =
+    let both = append_empty (noted_at x) (noted_in xs) none in
+    rw (both.0) (noted_more xs e both.1 bare)
+
+-- one more entry of a body that is being read
+pub found_more : (parameters : List Name) (entries : List BodyEntry) (e : BodyEntry) → AreFound parameters entries × (noted_in entries ≡ [])
+    → IsFound parameters e → noted_at e ≡ [] → AreFound parameters (entries ++ e ∷ []) × (noted_in (entries ++ e ∷ []) ≡ [])
+found_more parameters entries e before found bare =
+    (All-push (IsFound parameters) entries e before.0 found, noted_more entries e before.1 bare)
+
+noted_set : (entries : List BodyEntry) (i : ℕ) (d e : BodyEntry) → noted_at e ≡ noted_at (get_or entries i d)
+    → noted_in (set entries i e) ≡ noted_in entries
+noted_set [] i d e same = refl
+noted_set (x ∷ xs) zero d e same = rw same refl
+noted_set (x ∷ xs) (suc i) d e same = ap (λ (later : List Numbered). noted_at x ++ later) (noted_set xs i d e same)
+
+found_set : (parameters : List Name) (entries : List BodyEntry) (i : ℕ) (e : BodyEntry) → AreFound parameters entries → IsFound parameters e
+    → AreFound parameters (set entries i e)
+found_set parameters [] i e all found k d within = all k d within
+found_set parameters (x ∷ xs) zero e all found zero d within = found
+found_set parameters (x ∷ xs) zero e all found (suc k) d within = all (suc k) d within
+found_set parameters (x ∷ xs) (suc i) e all found zero d within = all zero d (omega arith)
+found_set parameters (x ∷ xs) (suc i) e all found (suc k) d within =
+    found_set parameters xs i e (λ j other inside. all (suc j) other (omega (arith, inside))) found k d (omega (arith, within))
+
+-- one more entry, from behind, is marked: before what follows it is right, and all else is as it was
+pub record MarksOne (parameters : List Name) (entries : List BodyEntry) (i : ℕ) (e : BodyEntry) : Type 0 where
+  pub body : body_of parameters (set entries i e) ≡ body_of parameters entries
+  pub noted : noted_in (set entries i e) ≡ noted_in entries
+  pub found : AreFound parameters (set entries i e)
+  pub marked : AreEntries parameters (drop i (set entries i e))
+
+pub marks_one : (parameters : List Name) (entries : List BodyEntry) (i : ℕ) (d e : BodyEntry) → i < length entries
+    → token_of parameters e ≡ token_of parameters (get_or entries i d) → noted_at e ≡ noted_at (get_or entries i d)
+    → IsEntry parameters e (body_of parameters (drop (i + 1) entries)) → AreFound parameters entries → AreEntries parameters (drop (i + 1) entries)
+    → MarksOne parameters entries i e
+marks_one parameters entries i d e within token noted is found marked = record {
+  body = map-set_same (token_of parameters) entries i e d token;
+  noted = noted_set entries i d e noted;
+  found = found_set parameters entries i e found (entry_is_found parameters e _ is);
+  marked = rw (drop-set entries i e within) (is, marked);
+}
 
 -- the entries from a position on
 are_dropped : (parameters : List Name) (entries : List BodyEntry) (k : ℕ) → AreEntries parameters entries → AreEntries parameters (drop k entries)

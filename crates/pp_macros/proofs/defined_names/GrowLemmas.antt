@@ -13,10 +13,11 @@ use Rattle.pp_model.specs.declared.read.Read.{Read}
 use Rattle.pp_macros.specs.Item.{PlacedStep, wants_memory}
 use Rattle.pp_macros.specs.inner.Defined.{GrowAtEnd, meaning_of, names_in}
 use Rattle.pp_macros.specs.inner.OpenBlocks.{last_block, BlockChange, block_change_at}
+use Rattle.pp_macros.specs.inner.Faults.{IsUndefined}
 use Rattle.pp_macros.specs.inner.Reader as reader
 use Rattle.pp_macros.specs.inner.Reader.{Reader, of_source, of_list, Reads, ReadsFlat, none_read, read_more, ReadsOnto, ReadsRun, definitions_of}
 use Rattle.pp_macros.specs.inner.Reading.{unpainted_step}
-use Rattle.pp_macros.specs.inner.Source.{Source, IsAfterFault, DefinesOver, Ends, Decides, holds, faulty, Renumbers, numbers, unnumbered, HasEffect, MakesMove, IsRefusedStep, StepsSource}
+use Rattle.pp_macros.specs.inner.Source.{Source, left_of_line, IsAfterFault, DefinesOver, Ends, Decides, holds, faulty, Renumbers, numbers, unnumbered, HasEffect, MakesMove, IsRefusedStep, StepsSource}
 use Rattle.pp_macros.specs.inner.SourceMoves.{Note, move_of, note_of}
 use Rattle.pp_macros.specs.declared.blocks.OpenBlock.{OpenBlock}
 use Rattle.pp_macros.specs.declared.step.PlacedExit.TheVariants.{Finished}
@@ -38,8 +39,12 @@ module _ (old new : Source) where
   stays : new.definitions ≡ old.definitions → Grows
   stays same = same_grow (names_in old.definitions) (names_in new.definitions) (ap names_in same)
 
+  undefined_grows : (name : Option Name) → IsUndefined name old.definitions new.definitions → Grows
+  undefined_grows None same = stays same
+  undefined_grows (Some name) h = h.kept
+
   fault_grows : IsAfterFault old new → Grows
-  fault_grows after = same_grow (names_in old.definitions) (names_in new.definitions) after.names
+  fault_grows after = undefined_grows (left_of_line old).undefined after.definitions
 
   define_grows : (named : Named) (o : Option Definition) (taken : ℕ) (note : Note) (step : PlacedStep Token) → DefinesOver named o taken note old step new → Grows
   define_grows named None taken note step h = h.2.kept
@@ -48,7 +53,7 @@ module _ (old new : Source) where
 
   end_grows : (last : Option OpenBlock) (step : PlacedStep Token) → Ends last old step new → Grows
   end_grows None step h = stays (ap (λ (s : Source). s.definitions) h.1)
-  end_grows (Some block) step h = stays h.1.definitions
+  end_grows (Some block) step h = stays (ap (λ (s : Source). s.definitions) h.1)
 
   decide_grows : (word : Location) (tokens : List Token) (blocks : Bool → List OpenBlock) (taken : ℕ) (note : Note) (step : PlacedStep Token)
       → Decides word tokens blocks taken note old step new → Grows
@@ -58,7 +63,7 @@ module _ (old new : Source) where
   renumber_grows : (word : Location) (tokens : List Token) (taken : ℕ) (note : Note) (step : PlacedStep Token)
       → Renumbers word tokens taken note old step new → Grows
   renumber_grows word tokens taken note step (numbers n number h) = stays h.2
-  renumber_grows word tokens taken note step (unnumbered fault number failed left) = fault_grows left
+  renumber_grows word tokens taken note step (unnumbered fault first number found failed left) = undefined_grows (left_of_line old).undefined left.definitions
 
   effect_grows : (effect : Effect) (taken : ℕ) (note : Note) (change : BlockChange) (step : PlacedStep Token)
       → HasEffect effect taken note change old step new → Grows

@@ -32,7 +32,7 @@ decides_on word tokens blocks taken note old new (faulty fault condition failed 
 renumbers_on : (word : Location) (tokens : List Token) (taken : ℕ) (note : Note) (old new : Source)
     → Renumbers word tokens taken note old (Err Finished) new → ⊥
 renumbers_on word tokens taken note old new (numbers n number h) = let e = h.0 in cc
-renumbers_on word tokens taken note old new (unnumbered fault number failed left) = cc
+renumbers_on word tokens taken note old new (unnumbered fault first number found failed left) = cc
 
 pub finished_ends : (effect : Effect) (taken : ℕ) (note : Note) (change : BlockChange) (old new : Source) → HasEffect effect taken note change old (Err Finished) new
     → is_end_effect effect ≡ true

@@ -1,19 +1,21 @@
 -- A step of a source shrinks it: fewer items and open blocks are left, and no more names or tokens are defined than were left or defined before.
-use Rattle.std.proofs.Common.{◌≡◌, ◌≢◌, ◌∙◌, ℕ, ◌+◌, ◌-◌, ◌<◌, ◌≤◌, ◌⊎◌, Bool, true, false, List, length, length-drop, refl, sym, ap, arith, Option, Some, None, Err, MatchBool, inl, inr}
-use Rattle.std.proofs.lemmas.List.{length-map, length-take}
+use Rattle.std.proofs.Common.{◌≡◌, ◌≢◌, ◌∙◌, ℕ, ◌+◌, ◌-◌, ◌<◌, ◌≤◌, ◌⊎◌, Bool, true, false, List, length, length-drop, refl, ap, arith, Option, Some, None, Err, MatchBool, inl, inr}
+use Rattle.std.proofs.lemmas.List.{length-take}
 use Rattle.std.proofs.lemmas.Option.{slice_get_within}
 use Rattle.std.specs.Prelude.{pos, ◌-ℤ◌}
 use Rattle.pp_lexer.specs.declared.token.Location.{Location}
 use Rattle.pp_lexer.specs.declared.token.Token.{Token}
 use Rattle.pp_model.specs.Acts.{defined_in}
 use Rattle.pp_model.specs.Definitions.{Definition}
+use Rattle.pp_model.specs.Names.{Name}
 use Rattle.pp_model.specs.Reads.{numbered_line}
 use Rattle.pp_model.specs.declared.definition.Named.{Named}
-use Rattle.pp_macros.specs.inner.Defined.{Defined, names_in, meaning_of, body_tokens}
+use Rattle.pp_macros.specs.inner.Defined.{Defined, meaning_of, body_tokens}
 use Rattle.pp_macros.specs.Item.{PlacedStep}
+use Rattle.pp_macros.specs.inner.Faults.{IsUndefined}
 use Rattle.pp_macros.specs.inner.OpenBlocks.{last_block, BlockChange, block_change_at}
 use Rattle.pp_macros.specs.declared.blocks.OpenBlock.{OpenBlock}
-use Rattle.pp_macros.specs.inner.Source.{Source, IsAfter, IsAfterFault, IsAfterBlock, DefinesOver, Ends, HasEffect, MakesMove, IsRefusedStep, StepsSource, Decides, holds, faulty, Renumbers, numbers, unnumbered}
+use Rattle.pp_macros.specs.inner.Source.{Source, left_of_line, IsAfter, IsAfterFault, IsAfterBlock, DefinesOver, Ends, HasEffect, MakesMove, IsRefusedStep, StepsSource, Decides, holds, faulty, Renumbers, numbers, unnumbered, offset_from}
 use Rattle.pp_model.specs.Moves.{Effect, gives, gives_item, asks, fails, ends, passes, defines, undefines, tests, decides, renumbers, Move}
 use Rattle.pp_model.specs.Sights.{sight_of}
 use Rattle.pp_model.specs.declared.sight.Sight.{Sight}
@@ -29,9 +31,14 @@ pub record Shrinks (old new : Source) : Type 0 where
   pub names : most_names new ≤ most_names old
   pub steps : most_steps new ≤ most_steps old
 
--- as many names with numbers
-as_many : (old new : List Defined) → names_in new ≡ names_in old → length new ≡ length old
-as_many old new same = sym (length-map new (λ (d : Defined). d.name)) ∙ ap length same ∙ length-map old (λ (d : Defined). d.name)
+-- where a name may have been undefined there are no more names and no more tokens
+undefined_names : (name : Option Name) (old new : List Defined) → IsUndefined name old new → length new ≤ length old
+undefined_names None old new same = omega (arith, ap length same)
+undefined_names (Some name) old new h = let few = h.names in omega (arith, few)
+
+undefined_tokens : (name : Option Name) (old new : List Defined) → IsUndefined name old new → body_tokens new ≤ body_tokens old
+undefined_tokens None old new same = omega (arith, ap body_tokens same)
+undefined_tokens (Some name) old new h = let few = h.tokens in omega (arith, few)
 
 module _ (old new : Source) where
   after_shrinks : (taken adds : ℕ) (note : Note) (blocks : List OpenBlock) → IsAfter taken note blocks old new
@@ -59,13 +66,21 @@ module _ (old new : Source) where
 
   fault_shrinks : IsAfterFault old new → Shrinks old new
   fault_shrinks after =
-      let names : length new.definitions ≡ length old.definitions = as_many old.definitions new.definitions after.names in
+      let undefined = (left_of_line old).undefined in
+      let names = undefined_names undefined old.definitions new.definitions after.definitions in
+      let tokens = undefined_tokens undefined old.definitions new.definitions after.definitions in
       let around : reads_around new.around ≡ reads_around old.around = ap reads_around after.around in
-      record { shorter = omega (arith, after.fewer); names = omega (arith, after.fewer, names); steps = omega (arith, after.fewer, after.tokens) }
+      record { shorter = omega (arith, after.fewer); names = omega (arith, after.fewer, names); steps = omega (arith, after.fewer, tokens) }
 
   block_shrinks : IsAfterBlock old new → length old.rest + (length old.blocks - 1) < length old.rest + length old.blocks → Shrinks old new
   block_shrinks after low =
-      stays_shrinks after.definitions (omega (arith, ap reads_around after.around, ap length after.rest, ap length after.blocks, length-take (length old.blocks - 1) old.blocks))
+      stays_shrinks (ap (λ (s : Source). s.definitions) after) (omega (
+        arith,
+        ap (λ (s : Source). reads_around s.around) after,
+        ap (λ (s : Source). length s.rest) after,
+        ap (λ (s : Source). length s.blocks) after,
+        length-take (length old.blocks - 1) old.blocks,
+      ))
 
   define_shrinks : (named : Named) (o : Option Definition) (taken : ℕ) (note : Note) (step : PlacedStep Token)
       → length old.rest - taken + length old.blocks + length named.definition.body < length old.rest + length old.blocks
@@ -87,7 +102,9 @@ renumbers_shrinks : (old new : Source) (word : Location) (tokens : List Token) (
 renumbers_shrinks old new word tokens taken note step low (numbers n number h) =
     let k = passed_shrinks (record old { line_offset = pos n -ℤ pos (numbered_line old.rules word.line) }) new taken 0 note old.blocks h.1 h.2 low (omega arith) in
     record { shorter = k.shorter; names = k.names; steps = k.steps }
-renumbers_shrinks old new word tokens taken note step low (unnumbered fault number failed left) = fault_shrinks old new left
+renumbers_shrinks old new word tokens taken note step low (unnumbered fault first number found failed left) =
+    let k = fault_shrinks (record old { line_offset = offset_from old word first }) new left in
+    record { shorter = k.shorter; names = k.names; steps = k.steps }
 
 module _ (old new : Source) where
   end_shrinks : (last : Option OpenBlock) → last_block old.blocks ≡ last → (step : PlacedStep Token) → Ends last old step new → step ≢ Err Finished

@@ -1,5 +1,5 @@
 -- The body of a macro as a list of entries, each a token or a parameter.
-use Rattle.std.specs.Prelude.{◌≡◌, ⊤, ℕ, ◌==◌, ◌+◌, ◌||◌, Bool, false, not, IsTrue, List, [], ◌∷◌, ◌++◌, map, drop}
+use Rattle.std.specs.Prelude.{◌≡◌, ⊤, ℕ, ◌==◌, ◌+◌, ◌||◌, Bool, false, not, IsTrue, All, List, [], ◌∷◌, ◌++◌, map, drop}
 use Rattle.std.specs.Prelude.{Option, Some, None, slice_index_or}
 use Rattle.pp_lexer.specs.TokenValue.{is_ordinary}
 use Rattle.pp_lexer.specs.contracts.token.TokenValuePartialEq.TheImpl.{eq-value as value_eq}
@@ -47,6 +47,27 @@ IsEntry parameters (entry.Parameter k location is_last) rest =
 abbrev pub AreEntries : List Name → List BodyEntry → Type 0
 AreEntries parameters [] = ⊤
 AreEntries parameters (entry ∷ rest) = IsEntry parameters entry (body_of parameters rest) × AreEntries parameters rest
+
+-- An entry is right before it is known what follows: a token is ordinary and no parameter, and a parameter has the
+-- position of its name.
+abbrev pub IsFound : List Name → BodyEntry → Type 0
+IsFound parameters (entry.Token token number) =
+    IsTrue (is_ordinary token.value) × (parameter_of parameters token.value ≡ None)
+IsFound parameters (entry.Parameter k location is_last) =
+    parameter_of parameters (Ident (slice_index_or parameters k [])) ≡ Some k
+
+-- each entry is
+abbrev pub AreFound : List Name → List BodyEntry → Type 0
+AreFound parameters entries = All (IsFound parameters) entries
+
+-- the body of a macro that is being read: the macro's parameters and the tokens so far
+pub record BodyTokens : Type 0 where
+  pub parameters : List Name
+  pub tokens : List Token
+
+-- the body with one more token
+abbrev pub with_token : BodyTokens → Token → BodyTokens
+with_token body token = record { parameters = body.parameters; tokens = body.tokens ++ token ∷ [] }
 
 -- an entry of the body of a definition, and the tokens from its position on
 pub record IsEntryAt (definition : Definition) (k : ℕ) (entry : BodyEntry) : Type 0 where

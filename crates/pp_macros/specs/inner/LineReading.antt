@@ -1,6 +1,6 @@
 -- What reading a part of a line gives, and how far the lexer is after it.
-use Rattle.std.specs.Prelude.{◌≡◌, ◌≢◌, ℕ, ◌≤◌, ◌<◌, Bool, false, if◌then◌else◌, not, List, [], ◌∷◌, length, drop}
-use Rattle.std.specs.Prelude.{Option, Some, None, Result, Ok, Err, ⊤, IsTrue, IfOk, IfSome}
+use Rattle.std.specs.Prelude.{◌≡◌, ◌≢◌, ◌⊎◌, ℕ, ◌≤◌, ◌<◌, Bool, true, false, if◌then◌else◌, not, List, [], ◌∷◌}
+use Rattle.std.specs.Prelude.{length, take, drop, Option, Some, None, Result, Ok, Err, ⊤, IsTrue, IfOk, IfSome}
 use Rattle.pp_lexer.specs.Lexed.{Seen}
 use Rattle.pp_lexer.specs.Items.{Lexeme}
 use Rattle.pp_lexer.specs.TokenValue.{is_ordinary}
@@ -8,6 +8,9 @@ use Rattle.pp_lexer.specs.declared.lexer.item.Token.{Token as LexerToken}
 use Rattle.pp_lexer.specs.declared.token.Location.{Location}
 use Rattle.pp_lexer.specs.declared.token.Token.{Token}
 use Rattle.pp_model.specs.Places.{Fault}
+use Rattle.pp_model.specs.Moves.{Effect, fails}
+use Rattle.pp_model.specs.Moves as moves
+use Rattle.pp_model.specs.Faults.{is_shown, shown_length}
 use Rattle.pp_model.specs.Conversions.{is_newline, conversion}
 use Rattle.pp_model.specs.inner.Emitting.{token_before}
 use Rattle.pp_model.specs.Lines.{line_tokens, line_length, line_fault, comments_before_end, ended_line, ends_line}
@@ -27,28 +30,41 @@ pub record HasTaken (taken : ℕ) (old new : SourceLexed) : Type 0 where
   pub rest : new.rest ≡ drop taken old.rest
   pub spent : new.spent ≡ false
 
--- no more items are left than before, and memory didn't run out: all that is known after a fault
+-- no more items are left than before, and memory didn't run out
 pub record HasGoneOn (old new : SourceLexed) : Type 0 where
   pub rest : length new.rest ≤ length old.rest
   pub spent : new.spent ≡ false
 
--- a value takes `taken` items
-abbrev pub TakesItems : {A : Type 0} → ℕ → SourceLexed → Result A Halt → SourceLexed → Type 0
-TakesItems taken old (Ok value) new = HasTaken taken old new
-TakesItems taken old (Err (halt.Fault fault)) new = HasGoneOn old new
-TakesItems taken old (Err halt.OutOfMemory) new = ⊤
+-- what a part of a line does, if it only has a fault or has none
+abbrev pub effect_of : {A : Type 0} → Result A Fault → Effect
+effect_of (Ok value) = moves.passes
+effect_of (Err fault) = fails fault
+
+-- how many of these items show the fault of a part, or else all
+abbrev pub shown_by : {A : Type 0} → (List Seen → Result A Fault) → List Seen → ℕ
+shown_by part items = shown_length (λ front. effect_of (part front)) items
+
+-- the same of the line
+abbrev pub shown_on : {A : Type 0} → (List Seen → Result A Fault) → List Seen → ℕ
+shown_on part rest = shown_by part (take (line_length rest) rest)
+
+-- a value takes `taken` items, and a fault `shown`
+abbrev pub TakesItems : {A : Type 0} → ℕ → ℕ → SourceLexed → Result A Halt → SourceLexed → Type 0
+TakesItems taken shown old (Ok value) new = HasTaken taken old new
+TakesItems taken shown old (Err (halt.Fault fault)) new = HasTaken shown old new
+TakesItems taken shown old (Err halt.OutOfMemory) new = ⊤
+
+-- a fault isn't that of the end, unless nothing is left
+abbrev pub IsShownOrLast : {A : Type 0} → Result A Halt → SourceLexed → Type 0
+IsShownOrLast (Ok value) new = ⊤
+IsShownOrLast (Err (halt.Fault fault)) new = (is_shown (fails fault) ≡ true) ⊎ (new.rest ≡ [])
+IsShownOrLast (Err halt.OutOfMemory) new = ⊤
 
 -- a fault takes at least one item
 abbrev pub FaultTakesSome : {A : Type 0} → Result A Halt → SourceLexed → SourceLexed → Type 0
 FaultTakesSome (Ok value) old new = ⊤
 FaultTakesSome (Err (halt.Fault fault)) old new = length new.rest < length old.rest
 FaultTakesSome (Err halt.OutOfMemory) old new = ⊤
-
--- a fault takes the item in front, if there is one
-abbrev pub FaultTakesOne : {A : Type 0} → Result A Halt → SourceLexed → SourceLexed → Type 0
-FaultTakesOne (Ok value) old new = ⊤
-FaultTakesOne (Err (halt.Fault fault)) old new = HasTaken 1 old new
-FaultTakesOne (Err halt.OutOfMemory) old new = ⊤
 
 -- memory runs out only if something is left
 abbrev pub RefusedWithin : {A : Type 0} → Result A Halt → List Seen → Type 0
@@ -99,6 +115,10 @@ tokens_after (Some token) rest = token_before token (line_tokens rest)
 abbrev pub length_after : Option Token → List Seen → ℕ
 length_after None rest = 0
 length_after (Some token) rest = line_length rest
+
+-- how many items show a fault of a line whose first token was read
+abbrev pub shown_after : Option Token → List Seen → ℕ
+shown_after first rest = shown_by (tokens_after first) (take (length_after first rest) rest)
 
 abbrev pub unless_fault : {A : Type 0} → Option Fault → Result A Fault → Result A Fault
 unless_fault (Some fault) line = Err fault

@@ -1,5 +1,6 @@
 -- The parameters of a macro, as the code reads them.
-use Rattle.std.specs.Prelude.{false, true, Bool, if◌then◌else◌, List, [], ◌∷◌, Option, Some, None, Result, Ok, Err, ⊤}
+use Rattle.std.specs.Prelude.{◌≡◌, false, true, Bool, if◌then◌else◌, List, [], ◌∷◌, drop, Option, Some, None, Result}
+use Rattle.std.specs.Prelude.{Ok, Err, ⊤}
 use Rattle.pp_lexer.specs.Lexed.{Seen}
 use Rattle.pp_lexer.specs.declared.lexer.item.Token.{Token as LexerToken}
 use Rattle.pp_lexer.specs.declared.token.Location.{Location}
@@ -11,7 +12,7 @@ use Rattle.pp_model.specs.Lines.{first_token, line_tokens}
 use Rattle.pp_expression.specs.Answers.{◌>>=◌}
 use Rattle.pp_model.specs.Definitions.{Definition}
 use Rattle.pp_model.specs.Names.{Name}
-use Rattle.pp_macros.specs.inner.LineReading.{HasGoneOn}
+use Rattle.pp_macros.specs.inner.LineReading.{HasGoneOn, shown_on}
 use Rattle.pp_macros.specs.inner.SourceLexed.{SourceLexed}
 use Rattle.pp_macros.specs.declared.halt.Halt.{Halt}
 use Rattle.pp_macros.specs.declared.halt.Halt.TheVariants as halt
@@ -57,3 +58,11 @@ GoesOnInLine (Err halt.OutOfMemory) old new = ⊤
 abbrev pub function_at : Location → List Seen → Result Definition Fault
 function_at word rest = parameters word rest >>= λ list. line_tokens list.after >>= λ body.
     Ok (record { function_like = true; parameters = list.names; body = body; text = source_text })
+
+-- A fault among the parameters takes the items of the line that show it. After a value those that show one of the
+-- definition end where those do that show one of what is left of the line.
+abbrev pub ShowsOnLine : {A : Type 0} → Location → Result A Halt → SourceLexed → SourceLexed → Type 0
+ShowsOnLine word (Ok value) old new =
+    drop (shown_on (function_at word) old.rest) old.rest ≡ drop (shown_on line_tokens new.rest) new.rest
+ShowsOnLine word (Err (halt.Fault fault)) old new = new.rest ≡ drop (shown_on (function_at word) old.rest) old.rest
+ShowsOnLine word (Err halt.OutOfMemory) old new = ⊤

@@ -1,6 +1,6 @@
 -- What the reader of a source keeps, and one step of it.
-use Rattle.std.specs.Prelude.{◌≡◌, ◌≢◌, ℕ, ◌+◌, ◌<◌, ◌≤◌, ◌⊎◌, Bool, false, not, ◌||◌, is_some, List, []}
-use Rattle.std.specs.Prelude.{length, drop, Option, Some, None, Result, Ok, Err, MatchBool, ℤ, pos, ◌-ℤ◌}
+use Rattle.std.specs.Prelude.{◌≡◌, ◌≢◌, ℕ, ◌+◌, ◌<◌, ◌⊎◌, Bool, false, not, ◌||◌, is_some, List, []}
+use Rattle.std.specs.Prelude.{length, take, drop, Option, Some, None, Result, Ok, Err, MatchBool, ℤ, pos, ◌-ℤ◌}
 use Rattle.pp_lexer.specs.Lexed.{Seen}
 use Rattle.pp_lexer.specs.declared.rules.Rules.{Rules}
 use Rattle.pp_lexer.specs.declared.token.PreprocessorError.TheVariants.{DefineRedefined, UnfinishedBlock}
@@ -11,13 +11,16 @@ use Rattle.pp_model.specs.Places.{PlacedFault, asking, in_text, placed, unasked}
 use Rattle.pp_model.specs.Acts.{defined_in}
 use Rattle.pp_model.specs.Definitions.{Definition, IsSameDefinition}
 use Rattle.pp_model.specs.Emitting.{answers_at, expansion_limit}
+use Rattle.pp_model.specs.Lines.{line_length}
 use Rattle.pp_model.specs.LineValues.{IsCondition, IsLineNumber}
+use Rattle.pp_model.specs.Onward.{IsFirstNumber}
 use Rattle.pp_model.specs.Reads.{numbered_line}
 use Rattle.pp_model.specs.SourceReader.{Earlier}
 use Rattle.pp_model.specs.declared.definition.Named.{Named}
 use Rattle.pp_model.specs.declared.place.Place.{Place}
 use Rattle.pp_macros.specs.Item.{PlacedStep, no_memory}
-use Rattle.pp_macros.specs.inner.Defined.{Defined, meaning_of, names_in, body_tokens, IsChanged}
+use Rattle.pp_macros.specs.inner.Defined.{Defined, meaning_of, IsChanged}
+use Rattle.pp_macros.specs.inner.Faults.{takes_line, fault_taken, LineLeft, left_of, IsUndefined}
 use Rattle.pp_macros.specs.inner.OpenBlocks.{last_block, outer_blocks, BlockChange, block_change_at}
 use Rattle.pp_macros.specs.declared.blocks.OpenBlock.{OpenBlock}
 use Rattle.pp_model.specs.Moves.{Effect, gives, gives_item, asks, fails, ends, passes, defines, undefines, tests}
@@ -108,24 +111,36 @@ pub record IsAfter (taken : ℕ) (note : Note) (still_open : List OpenBlock) (ol
   pub dead_for_good : new.dead_for_good ≡ old.dead_for_good
   pub contents : new.contents ≡ old.contents
 
--- All that is known after a fault: the rules are the same, fewer items and open blocks are left, the same names have
--- numbers, no more tokens of bodies are defined, and memory didn't run out.
+-- what a fault of what is in front takes, and what stays
+abbrev pub fault_taken_of : Source → ℕ
+fault_taken_of s = fault_taken s.rules s.dead_for_good s.blocks s.rest
+
+abbrev pub left_of_line : Source → LineLeft
+left_of_line s = left_of s.rules s.dead_for_good s.blocks s.rest
+
+-- After a fault of what is in front: what it took is gone as if it had never been there, but for what stays of its
+-- line. How much of a directive's line GLSL's rules skip isn't said exactly: the lexer's contracts don't tell whether
+-- the line is over if an error comes next. Fewer items and open blocks are left.
 pub record IsAfterFault (old new : Source) : Type 0 where
   pub rules : new.rules ≡ old.rules
+  pub text : new.text ≡ old.text
+  pub earlier : new.earlier ≡ old.earlier
   pub around : new.around ≡ old.around
+  pub contents : new.contents ≡ old.contents
+  pub has_text : new.has_text ≡ old.has_text
+  pub rest : takes_line old.rules (take (line_length old.rest) old.rest) ≡ false
+      → new.rest ≡ drop (fault_taken_of old) old.rest
   pub fewer : length new.rest + length new.blocks < length old.rest + length old.blocks
-  pub names : names_in new.definitions ≡ names_in old.definitions
-  pub tokens : body_tokens new.definitions ≤ body_tokens old.definitions
+  pub blocks : new.blocks ≡ (left_of_line old).change None old.blocks
+  pub definitions : IsUndefined (left_of_line old).undefined old.definitions new.definitions
+  pub line_offset : new.line_offset ≡ old.line_offset
+  pub has_directive : new.has_directive ≡ ((left_of_line old).is_directive || old.has_directive)
+  pub dead_for_good : new.dead_for_good ≡ ((left_of_line old).is_dead || old.dead_for_good)
   pub spent : new.spent ≡ false
 
 -- after the innermost block was reported at the end: the outer blocks are still open
-pub record IsAfterBlock (old new : Source) : Type 0 where
-  pub rules : new.rules ≡ old.rules
-  pub around : new.around ≡ old.around
-  pub rest : new.rest ≡ old.rest
-  pub definitions : new.definitions ≡ old.definitions
-  pub blocks : new.blocks ≡ outer_blocks old.blocks
-  pub spent : new.spent ≡ false
+abbrev pub IsAfterBlock : Source → Source → Type 0
+IsAfterBlock old new = new ≡ record old { blocks = outer_blocks old.blocks }
 
 -- a `#define` of a name that had this definition, or none
 abbrev pub DefinesOver : Named → Option Definition → ℕ → Note → Source → PlacedStep Token → Source → Type 0
@@ -176,18 +191,28 @@ pub data Decides (word : Location) (tokens : List Token) (blocks : Bool → List
       → IsAfterFault old new
       → Decides word tokens blocks taken note old step new
 
--- a `#line`: the lines after it are numbered from there
+-- what `#line` adds to a line after a `#line` with this word and this first number, if it has one
+abbrev pub offset_from : Source → Location → Option ℕ → ℤ
+offset_from s word None = s.line_offset
+offset_from s word (Some n) = pos n -ℤ pos (numbered_line s.rules word.line)
+
+-- the number of the first expression of a `#line` with this word and these tokens, if it has one
+abbrev pub FirstNumber : Place → List Token → Numbering → List Defined → Option ℕ → Type 0
+FirstNumber word tokens numbering definitions number =
+    IsFirstNumber (answers_at expansion_limit) word tokens numbering (meaning_of definitions) number
+
+-- a `#line`: the lines after it are numbered from there; with a fault they are numbered from its first number
 pub data Renumbers (word : Location) (tokens : List Token) (taken : ℕ) (note : Note) (old : Source)
     (step : PlacedStep Token) (new : Source) : Type 0 where
   numbers : (n : ℕ)
       → LineNumber (in_text old.text word) tokens (list_numbering old.rules old.line_offset) old.definitions (Ok n)
-      → Pauses taken note old.blocks
-      (record old { line_offset = pos n -ℤ pos (numbered_line old.rules word.line) }) step new
+      → Pauses taken note old.blocks (record old { line_offset = offset_from old word (Some n) }) step new
       → Renumbers word tokens taken note old step new
-  unnumbered : (fault : PlacedFault)
+  unnumbered : (fault : PlacedFault) (number : Option ℕ)
       → LineNumber (in_text old.text word) tokens (list_numbering old.rules old.line_offset) old.definitions (Err fault)
+      → FirstNumber (in_text old.text word) tokens (list_numbering old.rules old.line_offset) old.definitions number
       → step ≡ Err (Error (unasked fault))
-      → IsAfterFault old new
+      → IsAfterFault (record old { line_offset = offset_from old word number }) new
       → Renumbers word tokens taken note old step new
 
 -- what an effect means for the step, and for the source after it, if its line does this to the open blocks

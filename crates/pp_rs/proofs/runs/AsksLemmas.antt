@@ -70,7 +70,7 @@ module _ (old new : Source) (step : PlacedStep Token) where
   renumbers_ask : (word : Location) (tokens : List Token) (taken : ℕ) (note : Note) → Renumbers word tokens taken note old step new
       → StepAsks old.rules step
   renumbers_ask word tokens taken note (numbers n number h) = rw h.0 tt
-  renumbers_ask word tokens taken note (unnumbered fault number is left) = rw is (λ wants. none_asked wants)
+  renumbers_ask word tokens taken note (unnumbered fault first number found is left) = rw is (λ wants. none_asked wants)
 
   -- what an effect gives asks if the effect does
   effect_asks : (effect : Effect) (taken : ℕ) (note : Note) (change : BlockChange) → AsksBy old.rules effect

@@ -65,7 +65,7 @@ module _ {old : Source} {r : SourceReader} (s : StandsForReader old r) (e : sigh
     end_simulates (Some kept) found outermost h =
         let i = block_here old r s kept found in
         fails_here s move new (ended_here (Some i.block) (innermost_here old r s kept found)) refl
-        (h.0 ∙ ap (λ place. Err (Error (UnfinishedBlock, in_text old.text place))) (sym i.stands.word)) h.1.around
+        (h.0 ∙ ap (λ place. Err (Error (UnfinishedBlock, in_text old.text place))) (sym i.stands.word)) (ap (λ (x : Source). x.around) h.1)
 
   -- at the end of an included text reading goes on in the text around it
   pub leaving_simulates : last_block old.blocks ≡ None → (outer : SuspendedText) (around : List SuspendedText) (new : Source)

@@ -157,7 +157,7 @@ module _ {old : Source} {r : SourceReader} (s : StandsForReader old r) (move : P
         steps = steps_by (step.LineNumber word tokens) None (after_line_number r word n) there (Ok n, rw (s.here.text, s.definitions, s.rules, s.here.line_offset) number, (refl, refl));
         stands = line_stays (stands_with old r s old.definitions r.definitions old.contents r.contents (offset old.rules) (offset r.rules) s.definitions s.contents (ap offset s.rules)) e its pauses.1 pauses.2;
       })
-  number_simulates its tokens a (faulty_number fault number failed left) =
+  number_simulates its tokens a (faulty_number fault first number found failed left) =
       let there = line_here s (λ n. record { step = step.LineNumber word tokens; after = advanced_by n r }) a in
       rw failed (faulty_here s move new r refl
       (steps_by (step.LineNumber word tokens) _ r there (Err fault, rw (s.here.text, s.definitions, s.rules, s.here.line_offset) number, (refl, refl))) refl left.around)

@@ -47,7 +47,11 @@ module _ (old new : Source) where
 
   end_still : (last : Option OpenBlock) (step : PlacedStep Token) → Ends last old step new → IsStill old new
   end_still None step h = nothing_changes h.1
-  end_still (Some block) step h = still h.1.rules h.1.around h.1.spent
+  end_still (Some block) step h = record {
+    rules = ap (λ (s : Source). s.rules) h.1;
+    around = ap (λ (s : Source). s.around) h.1;
+    unspent = λ before. ap (λ (s : Source). s.spent) h.1 ∙ before;
+  }
 
   decide_still : (word : Location) (tokens : List Token) (blocks : Bool → List OpenBlock) (taken : ℕ) (note : Note) (step : PlacedStep Token)
       → Decides word tokens blocks taken note old step new → IsStill old new
@@ -57,7 +61,7 @@ module _ (old new : Source) where
   renumber_still : (word : Location) (tokens : List Token) (taken : ℕ) (note : Note) (step : PlacedStep Token)
       → Renumbers word tokens taken note old step new → IsStill old new
   renumber_still word tokens taken note step (numbers n number h) = still h.1.rules h.1.around h.1.spent
-  renumber_still word tokens taken note step (unnumbered fault number failed left) = still left.rules left.around left.spent
+  renumber_still word tokens taken note step (unnumbered fault first number found failed left) = still left.rules left.around left.spent
 
   effect_still : (effect : Effect) (taken : ℕ) (note : Note) (change : BlockChange) (step : PlacedStep Token)
       → HasEffect effect taken note change old step new → IsStill old new

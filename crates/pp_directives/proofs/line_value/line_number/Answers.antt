@@ -43,16 +43,16 @@ module _ (directive : Place) (tokens : List Token) (numbering : Numbering) (defi
         (subst (λ (place : Place). IsAlone {A = ℤ} place after.words (λ value. value) (Err fault)) (takes.place ∙ at_front.place) second));
   }
 
-pub returns-then-is_none : goal.returns-then-is_none
-returns-then-is_none c =
+pub returns-then-is_none-clause-is : goal.returns-then-is_none-clause-is
+returns-then-is_none-clause-is c =
     let fits : FitsSigned w64 c.in_ok-value.value = search rules in
     let some = rw (to_z-of_z w64 c.in_ok-value.value fits) at (sym c.as_line_number.ensures ∙ c.in-Some.is) in
     let last = ap is_none (sym c.peek.ensures) ∙ none_copied c.peek.result ∙ ap not c.is_none.ensures ∙ ap (λ (b : Bool). not (not b)) c.if-is_none.true in
     alone c.args.tokens.directive c.args.tokens.tokens c.args.scope.now.numbering c.args.scope.now.definitions.now c.in_ok-parser.parser _ c.in_ok-parser.ensures c.in_ok-value.value c.in-Some.number
     c.in_ok-value.ensures.takes some last
 
-pub returns : goal.returns
-returns c =
+pub returns-clause-is : goal.returns-clause-is
+returns-clause-is c =
     let fits : FitsSigned w64 c.in_ok-value.value = search rules in
     let some = rw (to_z-of_z w64 c.in_ok-value.value fits) at (sym c.as_line_number.ensures ∙ c.in-Some.is) in
     let more = ap is_none (sym c.peek.ensures) ∙ none_copied c.peek.result ∙ ap not c.is_none.ensures ∙ ap (λ (b : Bool). not (not b)) c.if-is_none.false in

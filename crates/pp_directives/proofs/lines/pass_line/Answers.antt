@@ -29,5 +29,6 @@ returns c =
         rest = passed_end c.line.lexer.rest c.pass_item.new.lexer.rest _ p.is c.if-branch.false p.takes.rest ∙ before.place;
         spent = p.takes.spent;
       };
+      fault = tt;
       errors = none_then true _ _ _ before.errors p.errors;
     }

@@ -5,4 +5,4 @@ pub returns-in-Err-Fault-clause-reads : goal.returns-in-Err-Fault-clause-reads
 returns-in-Err-Fault-clause-reads c =
     let e = rw c.in-Err-Fault.field-0-is at c.in-Err-Fault.ensures in
     error_on c.args.passes c.in-Err-Fault.fault c.args.lexer.now c.peek_word.new.self c.next_token.new.self c.take_error_place.new.self
-    c.if-passes.true c.peek_word.ensures.same e.is e.one e.errors c.take_error_place.ensures.others
+    c.if-passes.true c.peek_word.ensures.same e.is e.takes e.errors c.take_error_place.ensures.others

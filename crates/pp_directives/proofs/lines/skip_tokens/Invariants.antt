@@ -9,6 +9,8 @@ abbrev pub invariant-line : goal.invariant-line
 invariant-line l = record {
   whole : spec.skipped_line l.lexer.rest ≡ spec.skipped_line l.initial.lexer.rest;
   place : drop (line_length l.lexer.rest) l.lexer.rest ≡ drop (line_length l.initial.lexer.rest) l.initial.lexer.rest;
+  shown : drop (spec.shown_on spec.skipped_line l.lexer.rest) l.lexer.rest
+      ≡ drop (spec.shown_on spec.skipped_line l.initial.lexer.rest) l.initial.lexer.rest;
   fewer : length l.lexer.rest ≤ length l.initial.lexer.rest;
   unspent : l.lexer.spent ≡ false;
   errors : unreported_at l.lexer ≡ unreported_at l.initial.lexer;

@@ -3,7 +3,7 @@ use Rattle.std.proofs.lemmas.Result.{err_from_is_err_and}
 use Rattle.pp_macros.specs.inner.ParameterReading.{alone}
 use Rattle.pp_macros.proofs.work.ParameterLemmas.{meets_first, meets_refused}
 use Rattle.pp_directives.proofs.LineReadingLemmas.{drop_fewer}
-use Rattle.pp_directives.proofs.ParametersLemmas.{none_first, one_first, names_end, one_more, no_more}
+use Rattle.pp_directives.proofs.ParametersLemmas.{none_first, one_first, names_end, one_more, no_more, none_shown, first_name_shown, end_shown, more_shown, first_fault_shown, end_fault_shown, one_fault_shown}
 use Rattle.pp_directives.proofs.parameters.parameters.Goals as goal
 
 pub returns-in_err-first-clause-is : goal.returns-in_err-first-clause-is
@@ -27,6 +27,7 @@ parameters-init c =
     let e = c.in_ok-first.ensures in
     record {
       whole = one_first c.args.word _ _ _ c.args.lexer.now.rest _ _ e.is c.in-Some.is c.new-none.ensures c.in_ok-names.ensures e.takes.rest;
+      shown = first_name_shown c.args.word _ _ _ c.args.lexer.now.rest _ _ e.is c.in-Some.is c.new-none.ensures c.in_ok-names.ensures e.takes.rest;
       fewer = omega (arith, drop_fewer c.args.lexer.now.rest c.first_parameter.new.lexer.rest 1 e.takes.rest);
       unspent = e.takes.spent;
       errors = e.errors;
@@ -47,6 +48,8 @@ parameters-preserved c =
     record {
       whole = one_more _ _ _ _ _ _ _ _ _ _ before.whole n.is c.if-not-branch.true n.takes.rest refl o.is
           c.in_ok-names-2.ensures o.takes.rest;
+      shown = more_shown _ _ _ _ _ c.parameters.lexer.rest _ _ _ _ before.shown n.is c.if-not-branch.true n.takes.rest refl o.is
+          c.in_ok-names-2.ensures o.takes.rest;
       fewer = omega (
         arith,
         drop_fewer c.parameters.lexer.rest c.ends_parameters.new.lexer.rest 1 n.takes.rest,
@@ -62,3 +65,30 @@ pub returns-clause-is : goal.returns-clause-is
 returns-clause-is c =
     let n = c.in_ok-ends_parameters.ensures in
     names_end _ _ _ _ _ _ c.parameters.invariant.whole n.is c.if-not-branch.false n.takes.rest
+
+pub returns-in_err-first-clause-shown : goal.returns-in_err-first-clause-shown
+returns-in_err-first-clause-shown c =
+    let e = err_from_is_err_and c.from_residual.result c.from_residual.ensures.1 in
+    first_fault_shown _ c.in_err-first.field-0.0 c.args.word _ _ (e.1 ∙ ap Err e.2) c.in_err-first.ensures
+
+pub returns-in_err-ends_parameters-clause-shown : goal.returns-in_err-ends_parameters-clause-shown
+returns-in_err-ends_parameters-clause-shown c =
+    let e = err_from_is_err_and c.from_residual-in_err-ends_parameters.result c.from_residual-in_err-ends_parameters.ensures.1 in
+    end_fault_shown _ c.in_err-ends_parameters.field-0.0 _ _ _ _ _ (e.1 ∙ ap Err e.2) c.parameters.invariant.shown c.in_err-ends_parameters.ensures
+
+pub returns-in_default-clause-shown : goal.returns-in_default-clause-shown
+returns-in_default-clause-shown c =
+    let e = c.in_ok-first.ensures in
+    none_shown c.args.word c.args.lexer.now.rest _ _ e.is c.in_default.is e.takes.rest
+
+pub returns-in_err-name-clause-shown : goal.returns-in_err-name-clause-shown
+returns-in_err-name-clause-shown c =
+    let e = err_from_is_err_and c.from_residual-in_err-name.result c.from_residual-in_err-name.ensures.1 in
+    let n = c.in_ok-ends_parameters.ensures in
+    one_fault_shown _ c.in_err-name.field-0.0 _ _ _ _ c.parameters.lexer c.ends_parameters.new.lexer _ _ (e.1 ∙ ap Err e.2) c.parameters.invariant.shown n.is c.if-not-branch.true n.takes.rest
+    refl c.in_err-name.ensures.reads
+
+pub returns-clause-shown : goal.returns-clause-shown
+returns-clause-shown c =
+    let n = c.in_ok-ends_parameters.ensures in
+    end_shown c.args.word c.parameters.names c.parameters.lexer.rest _ _ _ c.parameters.invariant.shown n.is c.if-not-branch.false n.takes.rest

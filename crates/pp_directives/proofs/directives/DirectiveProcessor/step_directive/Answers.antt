@@ -2,7 +2,7 @@ use Rattle.std.proofs.Common.{◌∙◌, ap, sym, Err}
 use Rattle.pp_macros.specs.Halting.{exit_of, placed_halt_of}
 use Rattle.pp_macros.specs.declared.halt.PlacedHalt.{PlacedHalt}
 use Rattle.pp_directives.proofs.PassedErrorsLemmas.{none_met}
-use Rattle.pp_directives.proofs.SkippingLemmas.{refused_directive, rest_passed, directive_met}
+use Rattle.pp_directives.proofs.SkippingLemmas.{refused_directive, rest_passed, directive_met, directive_unspent}
 use Rattle.pp_directives.proofs.directives.DirectiveProcessor.step_directive.Goals as goal
 use Rattle.pp_model.specs.Places.{unplaced}
 use Rattle.pp_macros.specs.inner.Source.{unreported_of}
@@ -33,3 +33,8 @@ pub returns-in-Ok-Include-clause-errors : goal.returns-in-Ok-Include-clause-erro
 returns-in-Ok-Include-clause-errors c = λ reported.
     let gives = rw c.in-Ok-Include.is at c.read_directive.ensures in
     none_met c.args.self.now.rules.passes_dead_errors _ (unreported_of c.args.self.now) (unreported_of c.read_directive.new.self) gives.errors
+
+pub skip_faulty_line-requires : goal.skip_faulty_line-requires
+skip_faulty_line-requires c =
+    let found = sym c.in-Fault.is ∙ rw c.text-text.ensures at c.placed_at.ensures in
+    directive_unspent c.args.hash c.args.self.now c.read_directive.new.self c.in-Err.halt c.in-Fault.fault found (rw c.in-Err.is at c.read_directive.ensures)

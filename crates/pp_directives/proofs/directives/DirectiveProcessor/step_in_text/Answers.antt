@@ -22,5 +22,5 @@ returns-then-matches-clause-reads c =
     ] in
     rw (← c.self.view_is)
     (step_directive p.rules p.text (record { text = p.earlier_text; directive = p.earlier_directive }) (reverse p.around.items) p.definitions p.blocks p.line_offset p.has_text p.has_directive p.dead_for_good p.contents p.lexer c.pass_word.new.self (token_of word)
-    (sym c.is_spent.ensures ∙ c.if-is_spent.false) h.is h.takes c.step_directive.result c.step_directive.new.self
-    (hash_value word.form word.spelling.now is_hash) c.if-not-word.false h.left c.step_directive.ensures.reads)
+    (sym c.is_spent.ensures ∙ c.if-is_spent.false) h.is h.takes c.step_directive.new.self
+    (hash_value word.form word.spelling.now is_hash) c.if-not-word.false h.left c.step_directive.result c.step_directive.ensures.reads)

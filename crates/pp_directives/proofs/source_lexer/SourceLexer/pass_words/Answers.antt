@@ -14,5 +14,5 @@ returns c =
     rw (← c.self.view_is) (
       taken.more,
       others_each (suc taken.more) c.self.inside.lexer c.pass_words.new.self c.self.inside.error_place taken.unspent
-          (c.self.invariant taken.unspent).1 taken.taken,
+          (c.self.invariant taken.unspent).2 taken.taken,
     )

@@ -5,4 +5,5 @@ use Rattle.pp_macros.proofs.defined_names.ParameterNamesLemmas.{is_some-position
 use Rattle.pp_macros.proofs.parameter_names.ParameterNames.contains.Goals as goal
 
 pub returns : goal.returns
-returns c = c.is_some.ensures ∙ ap is_some c.position.ensures ∙ is_some-position (is_same_name c.args.name.now) c.args.self.now
+returns c =
+    rw (← c.as_str.ensures) (c.is_some.ensures ∙ ap is_some c.position.ensures ∙ is_some-position (is_same_name _) c.args.self.now)
