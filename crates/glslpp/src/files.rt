@@ -2,6 +2,7 @@
 
 use glslpp_parts::arguments::STANDARD_INPUT;
 use glslpp_parts::failure::{Failure, failure_of};
+use std::alloc::Global;
 use std::fs::{File, Metadata};
 use std::io::{ErrorKind, Read, Write};
 use std::os::unix::fs::MetadataExt;
@@ -9,18 +10,33 @@ use std::{fs, io};
 
 /// Returns the failure for a command line that can't be read, which names the first word that isn't UTF-8.
 pub(crate) fn unread_words(rt: &HostRuntime, error: io::Error) -> Failure {
-    let Ok(line) = fs::read(rt, COMMAND_LINE) else {
-        return failure_of(rt.alloc(), "the command line", error);
+    let line = match fs::read(rt, COMMAND_LINE) {
+        Ok(line) => line,
+        Err(_) => Vec::new(rt.alloc()),
     };
-    for word in line.as_slice().split(|byte| *byte == 0) {
+    let failure = match unread_word(line.as_slice()) {
+        Some(word) => unread(rt.alloc(), word),
+        None => failure_of(rt.alloc(), "the command line", error),
+    };
+    drop(line);
+    failure
+}
+
+// The first word that isn't UTF-8.
+fn unread_word(line: &[u8]) -> Option<&[u8]> {
+    for word in line.split(|byte| *byte == 0) {
         if str::from_utf8(word).is_err() {
-            return match String::from_utf8_lossy(rt.alloc(), word) {
-                Ok(name) => failure_of(rt.alloc(), name.as_str(), "the word isn't UTF-8"),
-                Err(_) => Failure::OutOfMemory,
-            };
+            return Some(word);
         }
     }
-    failure_of(rt.alloc(), "the command line", error)
+    None
+}
+
+fn unread(alloc: Global, word: &[u8]) -> Failure {
+    match String::from_utf8_lossy(alloc, word) {
+        Ok(name) => failure_of(alloc, name.as_str(), "the word isn't UTF-8"),
+        Err(_) => Failure::OutOfMemory,
+    }
 }
 
 // What Linux gives of the words of this process, each with a zero behind it.
@@ -72,15 +88,22 @@ pub(crate) fn write(rt: &HostRuntime, file: &str, output: &str) -> io::Result<()
         Some(_) => fs::canonicalize(rt, file)?.into_string(),
         None => String::from_str(rt.alloc(), file)?,
     };
-    let (name, temporary) = create_beside(rt, target.as_str())?;
-    let end = fill(rt, temporary, old, output).and_then(|_| fs::rename(
-        rt,
-        name.as_str(),
-        target.as_str(),
-    ));
+    let end = replace(rt, target.as_str(), old, output);
+    drop(target);
+    end
+}
+
+// Writes a new file, which is then renamed to this.
+fn replace(rt: &HostRuntime, target: &str, old: Option<Metadata>, output: &str) -> io::Result<()> {
+    let (name, temporary) = create_beside(rt, target)?;
+    let end = match fill(rt, temporary, old, output) {
+        Ok(()) => fs::rename(rt, name.as_str(), target),
+        Err(error) => Err(error),
+    };
     if end.is_err() {
         let _ = fs::remove_file(rt, name.as_str());
     }
+    drop(name);
     end
 }
 

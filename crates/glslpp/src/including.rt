@@ -3,6 +3,7 @@
 ghost use Rattle.std.specs.Prelude.{◌≡◌, IfOk, length};
 
 use bumpalo::Bump;
+use glslpp_parts::changes::Definition;
 use glslpp_parts::failure::Failure;
 use glslpp_parts::include_line::Header;
 use glslpp_parts::include_path::{folders_for, not_found};
@@ -14,7 +15,7 @@ use glslpp_parts::texts::File;
 use pp_rs::SOURCE_LIMIT;
 use std::alloc::{AllocError, Global};
 use std::fs::{self, Metadata};
-use std::io::ErrorKind;
+use std::io::{self, ErrorKind};
 use std::os::unix::fs::MetadataExt;
 use std::path::Path;
 
@@ -127,6 +128,14 @@ impl<'x> Library<'x> {
         self.arena.try_alloc_str(text)
     }
 
+    /// Keeps definitions in the arena.
+    pub(crate) fn keep_definitions(
+        &self,
+        definitions: &[Definition<'x>],
+    ) -> Result<&'x [Definition<'x>], AllocError> {
+        Ok(self.arena.try_alloc_slice_copy(definitions)?)
+    }
+
     /// The lines that come before the source, if they aren't taken.
     pub(crate) fn before(&self) -> Option<File<'x>> {
         self.before
@@ -144,15 +153,14 @@ impl<'x> Library<'x> {
         self.before.take()
     }
 
-    /// The names of the files that were read, the source first, but for the standard input.
-    pub(crate) fn names(&self) -> Result<Vec<String>, AllocError> {
-        let mut names = Vec::new(self.rt.alloc());
+    /// Appends the names of the files that were read, the source first, but for the standard input.
+    pub(crate) fn push_names(&self, names: &mut Vec<String>) -> Result<(), AllocError> {
         for kept in self.kept.as_slice() {
             if kept.identity.is_some() {
                 names.push(String::from_str(self.rt.alloc(), kept.file.name)?)?;
             }
         }
-        Ok(names)
+        Ok(())
     }
 
     /// Reads a file no more that has this number.
@@ -168,50 +176,62 @@ impl<'x> Library<'x> {
         header: Header<'_>,
         includer: &str,
     ) -> Result<Answer<'x>, Failure> {
-        let alloc = self.rt.alloc();
-        let folders = folders_for(alloc, header, includer, self.folders)?;
+        let folders = folders_for(self.rt.alloc(), header, includer, self.folders)?;
+        let answer = self.find_in(folders.as_slice(), header);
+        drop(folders);
+        answer
+    }
+
+    // Looks for a file in these folders.
+    fn find_in(&mut self, folders: &[&str], header: Header<'_>) -> Result<Answer<'x>, Failure> {
         let mut is_folder = false;
-        for folder in folders.as_slice() {
-            let path = Path::new(folder).join(alloc, header.name)?;
-            match self.look_at(path.as_str())? {
+        for folder in folders {
+            match self.look_in(folder, header.name)? {
                 Look::Answer(answer) => return Ok(answer),
                 Look::Folder => is_folder = true,
                 Look::Nothing => {}
             }
         }
-        if is_folder {
-            let message = format!(in alloc; "`{}` is a folder", header.name)?;
-            return Ok(Answer::Refused(message));
-        }
-        let message = not_found(alloc, header, folders.as_slice())?;
-        Ok(Answer::Refused(message))
+        let alloc = self.rt.alloc();
+        Ok(Answer::Refused(if is_folder {
+            format!(in alloc; "`{}` is a folder", header.name)?
+        } else {
+            not_found(alloc, header, folders)?
+        }))
+    }
+
+    fn look_in(&mut self, folder: &str, name: &str) -> Result<Look<'x>, Failure> {
+        let path = Path::new(folder).join(self.rt.alloc(), name)?;
+        let look = self.look_at(path.as_str());
+        drop(path);
+        look
     }
 
     // Looks at what has a name. A folder is passed, and so is what isn't there; what can't be read is refused.
     fn look_at(&mut self, path: &str) -> Result<Look<'x>, Failure> {
-        let found = match fs::metadata(self.rt, path) {
-            Ok(found) if found.is_dir() => return Ok(Look::Folder),
-            Ok(found) if !found.is_file() => {
-                let message = format!(in self.rt.alloc(); "`{path}` isn't a regular file")?;
-                return Ok(Look::Answer(Answer::Refused(message)));
-            }
-            Ok(found) => found,
-            Err(error) if is_absence(error.kind()) => return Ok(Look::Nothing),
-            Err(error) => {
-                let message = format!(in self.rt.alloc(); "`{path}` can't be read: {error}")?;
-                return Ok(Look::Answer(Answer::Refused(message)));
-            }
-        };
-        let identity = Identity::of(&found);
-        let answer = match self.kept_with(identity) {
-            Some(kept) if kept.is_once => Answer::Nothing,
-            Some(kept) => Answer::Text(File {
+        match fs::metadata(self.rt, path) {
+            Ok(found) if found.is_dir() => Ok(Look::Folder),
+            Ok(found) => Ok(Look::Answer(self.answer(path, &found)?)),
+            Err(error) if is_absence(error.kind()) => Ok(Look::Nothing),
+            Err(error) => Ok(Look::Answer(self.unread(path, error)?)),
+        }
+    }
+
+    // What there is under a name that isn't a folder's.
+    fn answer(&mut self, path: &str, found: &Metadata) -> Result<Answer<'x>, Failure> {
+        if !found.is_file() {
+            let message = format!(in self.rt.alloc(); "`{path}` isn't a regular file")?;
+            return Ok(Answer::Refused(message));
+        }
+        let identity = Identity::of(found);
+        match self.kept_with(identity) {
+            Some(kept) if kept.is_once => Ok(Answer::Nothing),
+            Some(kept) => Ok(Answer::Text(File {
                 name: self.arena.try_alloc_str(path)?,
                 ..kept.file
-            }),
-            None => self.read(path, identity)?,
-        };
-        Ok(Look::Answer(answer))
+            })),
+            None => self.read(path, identity),
+        }
     }
 
     fn kept_with(&self, identity: Identity) -> Option<Kept<'x>> {
@@ -225,15 +245,31 @@ impl<'x> Library<'x> {
 
     // Reads a file, and keeps it.
     fn read(&mut self, path: &str, identity: Identity) -> Result<Answer<'x>, Failure> {
-        let alloc = self.rt.alloc();
-        let bytes = match fs::read(self.rt, path) {
-            Ok(bytes) => bytes,
-            Err(error) => {
-                let message = format!(in alloc; "`{path}` can't be read: {error}")?;
-                return Ok(Answer::Refused(message));
+        match fs::read(self.rt, path) {
+            Ok(bytes) => {
+                let source = Source::from_bytes(self.rt.alloc(), bytes)?;
+                let answer = self.keep_source(path, identity, &source);
+                drop(source);
+                Ok(answer?)
             }
-        };
-        let source = Source::from_bytes(alloc, bytes)?;
+            Err(error) => Ok(self.unread(path, error)?),
+        }
+    }
+
+    // Why a file isn't read.
+    fn unread(&self, path: &str, error: io::Error) -> Result<Answer<'x>, AllocError> {
+        let message = format!(in self.rt.alloc(); "`{path}` can't be read: {error}")?;
+        Ok(Answer::Refused(message))
+    }
+
+    // Keeps a file that was read, unless it is too long.
+    fn keep_source(
+        &mut self,
+        path: &str,
+        identity: Identity,
+        source: &Source,
+    ) -> Result<Answer<'x>, AllocError> {
+        let alloc = self.rt.alloc();
         if source.text().len() >= SOURCE_LIMIT {
             let message = format!(in alloc; "`{path}` is too long")?;
             return Ok(Answer::Refused(message));

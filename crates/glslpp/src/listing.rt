@@ -36,16 +36,36 @@ impl Pages {
     /// Takes the page of the source with this name, in a file.
     pub(crate) fn push(&mut self, name: &str, file: &str, summary: &str) -> Result<(), AllocError> {
         self.pages.push(Page {
-            name: String::from_str(self.alloc, name)?,
-            file: String::from_str(self.alloc, file)?,
-            summary: String::from_str(self.alloc, summary)?,
+            name: String::new(self.alloc),
+            file: String::new(self.alloc),
+            summary: String::new(self.alloc),
         })?;
-        Ok(())
+        match self.pages.last_mut() {
+            Some(page) => {
+                page.name.push_str(name)?;
+                page.file.push_str(file)?;
+                page.summary.push_str(summary)
+            }
+            None => Ok(()),
+        }
     }
 
     /// Writes the index.
     pub(crate) fn write(&self, rt: &HostRuntime, folder: &str) -> Result<(), Failure> {
+        let text = self.text(rt, folder)?;
+        let file = index_in(self.alloc, folder)?;
+        write_output(rt, Some(file.as_str()), text.as_str())
+    }
+
+    // The text of the index.
+    fn text(&self, rt: &HostRuntime, folder: &str) -> Result<String, AllocError> {
+        let command = command_line(rt)?;
         let mut entries = Vec::new(self.alloc);
+        self.push_entries(&mut entries)?;
+        overview(self.alloc, folder, command.as_str(), entries.as_slice())
+    }
+
+    fn push_entries<'p>(&'p self, entries: &mut Vec<Entry<'p>>) -> Result<(), AllocError> {
         for page in self.pages.as_slice() {
             entries.push(Entry {
                 name: page.name.as_str(),
@@ -53,10 +73,7 @@ impl Pages {
                 note: page.summary.as_str(),
             })?;
         }
-        let command = command_line(rt)?;
-        let text = overview(self.alloc, folder, command.as_str(), entries.as_slice())?;
-        let file = index_in(self.alloc, folder)?;
-        write_output(rt, Some(file.as_str()), text.as_str())
+        Ok(())
     }
 }
 

@@ -1,8 +1,13 @@
 //! Preprocesses GLSL files, and reports their errors as compilers do.
+
+// What owns much has one end, before which it is dropped by name: that is a call, and so it is proved far sooner than a
+// drop that is written out at each end.
+
 #![tactic(auto)]
 
 mod depending;
 mod files;
+mod folder;
 mod foreign;
 mod including;
 mod listing;
@@ -15,23 +20,21 @@ mod word_files;
 use bumpalo::Bump;
 use clap::ArgMatches;
 use depending::{take_rule, write_rules};
+use folder::preprocess_into;
 use foreign::refusal_of;
-use glslpp_parts::arguments::{
-    Arguments, Colours, Form, STANDARD_INPUT, STANDARD_INPUT_NAME, command,
-};
+use glslpp_parts::arguments::{Arguments, Colours, Form, STANDARD_INPUT, command};
 use glslpp_parts::definitions::{check_changes, check_included};
 use glslpp_parts::extensions::check_extensions;
 use glslpp_parts::failure::{Failure, failure_of};
 use glslpp_parts::long_options::lengthen_options;
-use glslpp_parts::output_folder::outputs_in;
 use glslpp_parts::report::{Reporter, Style};
 use glslpp_parts::source::Source;
 use glslpp_parts::standard::{lengthen_standards, version_without_line};
 use glslpp_parts::version::Version;
 use glslpp_parts::warning::check_warnings;
 use including::{Identity, Library, identity_of, source_of};
-use listing::{Pages, index_in};
 use preprocess::{Found, preprocess};
+use std::alloc::Global;
 use std::io::IsTerminal;
 use std::process::ExitCode;
 use std::{env, io};
@@ -63,12 +66,24 @@ fn report(rt: &HostRuntime, failure: &Failure) {
 
 // Reads the command line, and does what it asks for. Returns the exit status.
 fn work(rt: &HostRuntime) -> Result<u8, Failure> {
+    let mut words = given_words(rt)?;
+    let end = work_on(rt, &mut words);
+    drop(words);
+    end
+}
+
+// The words of the command line.
+fn given_words(rt: &HostRuntime) -> Result<Vec<String>, Failure> {
+    match env::args(rt) {
+        Ok(words) => Ok(words.collect(rt.alloc())?),
+        Err(error) => Err(files::unread_words(rt, error)),
+    }
+}
+
+// Does what the words of the command line ask for.
+fn work_on(rt: &HostRuntime, words: &mut Vec<String>) -> Result<u8, Failure> {
     let alloc = rt.alloc();
-    let given: Vec<String> = match env::args(rt) {
-        Ok(words) => words.collect(alloc)?,
-        Err(error) => return Err(files::unread_words(rt, error)),
-    };
-    let mut words = expand_words(rt, given)?;
+    expand_words(rt, words)?;
     lengthen_standards(alloc, words.as_mut_slice())?;
     lengthen_options(alloc, words.as_mut_slice())?;
     refuse_foreign(rt, words.as_slice())?;
@@ -76,12 +91,27 @@ fn work(rt: &HostRuntime) -> Result<u8, Failure> {
         return Err(Failure::OutOfMemory);
     };
     match command.try_get_matches_from(words.as_slice()) {
-        Ok(matches) => preprocess_files(rt, &matches),
-        Err(error) => {
-            let _ = error.print(rt);
-            Ok(if error.use_stderr() { FAILED } else { 0 })
-        }
+        Ok(matches) => work_by(rt, matches),
+        Err(error) => Ok(answer(rt, error)),
     }
+}
+
+// Prints what there is to say in place of preprocessing: the help, or what is wrong with the words.
+fn answer(rt: &HostRuntime, error: clap::Error) -> u8 {
+    let _ = error.print(rt);
+    let is_refused = error.use_stderr();
+    drop(error);
+    if is_refused { FAILED } else { 0 }
+}
+
+// Does what the options ask for, which were matched.
+fn work_by(rt: &HostRuntime, matches: ArgMatches<'_>) -> Result<u8, Failure> {
+    let arguments = Arguments::from_matches(rt.alloc(), &matches);
+    drop(matches);
+    let arguments = arguments?;
+    let end = preprocess_files(rt, &arguments);
+    drop(arguments);
+    end
 }
 
 // Refuses options of other preprocessors, each by a sentence of its own.
@@ -97,21 +127,25 @@ fn refuse_foreign(rt: &HostRuntime, words: &[String]) -> Result<(), Failure> {
     Ok(())
 }
 
-// Preprocesses the files as the command line asks for.
-fn preprocess_files(rt: &HostRuntime, matches: &ArgMatches<'_>) -> Result<u8, Failure> {
-    let arguments = Arguments::from_matches(rt.alloc(), matches)?;
-    check_extensions(rt.alloc(), arguments.extensions.as_slice())?;
-    check_changes(rt.alloc(), arguments.changes.as_slice())?;
-    check_included(rt.alloc(), arguments.included.as_slice())?;
-    check_warnings(rt.alloc(), arguments.warning_words.as_slice())?;
+// Preprocesses the files as the command line asks for. Returns the exit status.
+fn preprocess_files(rt: &HostRuntime, arguments: &Arguments<'_>) -> Result<u8, Failure> {
+    check_words(rt.alloc(), arguments)?;
     let version = version_without_line(rt.alloc(), arguments.standard)?;
     let is_faultless = match arguments.output {
         Some(folder) if files::is_folder(rt, folder) => {
-            preprocess_into(rt, &arguments, version, folder)?
+            preprocess_into(rt, arguments, version, folder)?
         }
-        _ => preprocess_together(rt, &arguments, version)?,
+        _ => preprocess_together(rt, arguments, version)?,
     };
     Ok(if is_faultless { 0 } else { 1 })
+}
+
+// Fails if an extension, a macro, an included file or a warning can't be what the command line says.
+fn check_words(alloc: Global, arguments: &Arguments<'_>) -> Result<(), Failure> {
+    check_extensions(alloc, arguments.extensions.as_slice())?;
+    check_changes(alloc, arguments.changes.as_slice())?;
+    check_included(alloc, arguments.included.as_slice())?;
+    check_warnings(alloc, arguments.warning_words.as_slice())
 }
 
 // Preprocesses the files, and writes one output unless one of them has an error. Returns whether none has.
@@ -128,98 +162,34 @@ fn preprocess_together(
         return Err(failure_of(rt.alloc(), "--html", cause));
     }
     let mut found = Found::new(rt.alloc());
+    let end = write_together(rt, arguments, version, &mut found);
+    drop(found);
+    end
+}
+
+// Preprocesses the files into what was found, of which there is nothing yet, and writes that.
+fn write_together(
+    rt: &HostRuntime,
+    arguments: &Arguments<'_>,
+    version: Version,
+    found: &mut Found,
+) -> Result<bool, Failure> {
     for file in arguments.files.as_slice() {
-        preprocess_file(rt, arguments, version, file, &mut found)?;
+        preprocess_file(rt, arguments, version, file, found)?;
     }
     let source = match arguments.files.first() {
         Some(source) => *source,
         None => STANDARD_INPUT,
     };
     let mut rules = String::new(rt.alloc());
-    let is_faultless = write_found(rt, arguments, source, arguments.output, &found, &mut rules)?;
+    let is_faultless = write_found(rt, arguments, source, arguments.output, found, &mut rules)?;
     write_rules(rt, arguments, rules.as_str())?;
     Ok(is_faultless)
-}
-
-// Preprocesses the files, and writes the output of each that has no error to its file in the folder. Returns whether
-// none has.
-fn preprocess_into(
-    rt: &HostRuntime,
-    arguments: &Arguments<'_>,
-    version: Version,
-    folder: &str,
-) -> Result<bool, Failure> {
-    let outputs = outputs_of(rt, arguments, folder)?;
-    let mut is_faultless = true;
-    let mut rules = String::new(rt.alloc());
-    let mut pages = Pages::new(rt.alloc());
-    for (file, output) in arguments.files.as_slice().iter().zip(outputs.as_slice()) {
-        let mut found = Found::new(rt.alloc());
-        preprocess_file(rt, arguments, version, file, &mut found)?;
-        pages.push(
-            name_of(arguments, file),
-            output.as_str(),
-            found.summary.as_str(),
-        )?;
-        let output = Some(output.as_str());
-        if !write_found(rt, arguments, file, output, &found, &mut rules)? {
-            is_faultless = false;
-        }
-    }
-    if arguments.is_page {
-        pages.write(rt, folder)?;
-    }
-    write_rules(rt, arguments, rules.as_str())?;
-    Ok(is_faultless)
-}
-
-// The output of each file in the folder. None of them is one of the files.
-fn outputs_of(
-    rt: &HostRuntime,
-    arguments: &Arguments<'_>,
-    folder: &str,
-) -> Result<Vec<String>, Failure> {
-    let mut names = Vec::new(rt.alloc());
-    for file in arguments.files.as_slice() {
-        let name = name_of(arguments, file);
-        if name == STANDARD_INPUT_NAME {
-            return Err(failure_of(rt.alloc(), name, "its output needs a name: --stdin-name"));
-        }
-        names.push(name)?;
-    }
-    let mut outputs = outputs_in(rt.alloc(), folder, names.as_slice())?;
-    if arguments.is_page {
-        for output in outputs.iter_mut() {
-            output.push_str(".html")?;
-        }
-        check_index(rt, arguments, outputs.as_slice(), folder)?;
-    }
-    for output in outputs.as_slice() {
-        check_output(rt, arguments, output.as_str())?;
-    }
-    Ok(outputs)
-}
-
-// Fails if the index is one of the sources or their pages.
-fn check_index(
-    rt: &HostRuntime,
-    arguments: &Arguments<'_>,
-    outputs: &[String],
-    folder: &str,
-) -> Result<(), Failure> {
-    let index = index_in(rt.alloc(), folder)?;
-    check_output(rt, arguments, index.as_str())?;
-    for output in outputs {
-        if output.as_str() == index.as_str() {
-            return Err(failure_of(rt.alloc(), output.as_str(), "the page is also the index"));
-        }
-    }
-    Ok(())
 }
 
 // Writes what was found in sources, of which this is the first, if they have no error or the form shows these too.
 // Their rule is written too or appended to the rules, if one is asked for. Returns whether they have no error.
-fn write_found(
+pub(crate) fn write_found(
     rt: &HostRuntime,
     arguments: &Arguments<'_>,
     source: &str,
@@ -257,7 +227,11 @@ fn check_included_files(rt: &HostRuntime, found: &Found, output: &str) -> Result
 }
 
 // Fails if the output is one of the sources.
-fn check_output(rt: &HostRuntime, arguments: &Arguments<'_>, output: &str) -> Result<(), Failure> {
+pub(crate) fn check_output(
+    rt: &HostRuntime,
+    arguments: &Arguments<'_>,
+    output: &str,
+) -> Result<(), Failure> {
     for file in arguments.files.as_slice() {
         if *file != STANDARD_INPUT && files::is_same(rt, file, output) {
             return Err(failure_of(rt.alloc(), output, "the output is also a source"));
@@ -276,15 +250,32 @@ pub(crate) fn name_of<'a>(arguments: &Arguments<'a>, file: &'a str) -> &'a str {
 }
 
 // Preprocesses one file, which is of this version if it has no `#version`, and reports its errors.
-fn preprocess_file(
+pub(crate) fn preprocess_file(
     rt: &HostRuntime,
     arguments: &Arguments<'_>,
     version: Version,
     file: &str,
     found: &mut Found,
 ) -> Result<(), Failure> {
+    let source = read_source(rt, file, name_of(arguments, file))?;
+    let arena = Bump::new(rt.alloc());
+    let end = preprocess_source(rt, &arena, arguments, version, file, &source, found);
+    drop(arena);
+    drop(source);
+    end
+}
+
+// Preprocesses a source that was read from a file. What is made of it is kept in the arena.
+fn preprocess_source(
+    rt: &HostRuntime,
+    arena: &Bump,
+    arguments: &Arguments<'_>,
+    version: Version,
+    file: &str,
+    source: &Source,
+    found: &mut Found,
+) -> Result<(), Failure> {
     let name = name_of(arguments, file);
-    let source = read_source(rt, file, name)?;
     let text = source.text();
     if text.len() >= LIMIT {
         return Err(failure_of(rt.alloc(), name, "the source is too long"));
@@ -293,26 +284,27 @@ fn preprocess_file(
         style: style_of(rt, arguments),
         file: name,
     };
-    let arena = Bump::new(rt.alloc());
     let replaced = source.replaced.as_slice();
-    let file_text = source_of(rt.alloc(), &arena, arguments.rule_set, text, name, replaced)?;
-    let library = Library::new(
+    let file_text = source_of(rt.alloc(), arena, arguments.rule_set, text, name, replaced)?;
+    let mut library = Library::new(
         rt,
-        &arena,
+        arena,
         arguments.folders.as_slice(),
         file_text,
         identity_of_source(rt, file),
     )?;
-    let reports = preprocess(
+    let end = preprocess(
         rt.alloc(),
         reporter,
         arguments,
         version,
         file_text,
-        library,
+        &mut library,
         found,
-    )?;
-    let _ = rt.eprint(reports.as_str());
+    );
+    drop(library);
+    end?;
+    let _ = rt.eprint(found.reports.as_str());
     Ok(())
 }
 
@@ -327,10 +319,7 @@ fn identity_of_source(rt: &HostRuntime, file: &str) -> Option<Identity> {
 // Reads a file, or the standard input, as text.
 fn read_source(rt: &HostRuntime, file: &str, name: &str) -> Result<Source, Failure> {
     match files::read(rt, file) {
-        Ok(bytes) => {
-            let source = Source::from_bytes(rt.alloc(), bytes)?;
-            Ok(source)
-        }
+        Ok(bytes) => Ok(Source::from_bytes(rt.alloc(), bytes)?),
         Err(error) => Err(failure_of(rt.alloc(), name, error)),
     }
 }

@@ -11,6 +11,7 @@ mod verdicts;
 mod view;
 mod words;
 
+use crate::run::Ended;
 use glslpp_html::page::{File, Part, page};
 use glslpp_parts::changes::Definition;
 use glslpp_parts::texts::Texts;
@@ -39,25 +40,18 @@ pub(crate) struct Sight<'p, 'a> {
     view: &'p View,
 }
 
-/// A page, and what is said of it in an index.
-#[derive(Drop)]
-pub(crate) struct Made {
-    /// The page.
-    pub(crate) page: String,
-    /// How much of it is compiled, and how many messages it has.
-    pub(crate) summary: String,
-}
-
-/// Returns the page of a source and the files that it includes.
-pub(crate) fn page_of<'p, 'a>(
+/// Makes the page of a source and the files that it includes, and what is said of it in an index: how much of it is
+/// compiled, and how many messages it has.
+pub(crate) fn make_page<'a>(
     alloc: Global,
     rt: &HostRuntime,
-    texts: &'p Texts<'a>,
+    texts: &Texts<'a>,
     rules: Rules,
-    definitions: &'p [Definition<'a>],
-    conditions: &'p Conditions,
-    view: &'p View,
-) -> Result<Made, AllocError> {
+    definitions: &[Definition<'a>],
+    conditions: &Conditions,
+    view: &View,
+    ended: &mut Ended,
+) -> Result<(), AllocError> {
     let command = command_line(rt)?;
     let sheets = Sheets::of(alloc, texts)?;
     let sight = Sight {
@@ -69,7 +63,10 @@ pub(crate) fn page_of<'p, 'a>(
         conditions,
         view,
     };
-    sight.made(command.as_str())
+    let end = sight.make(command.as_str(), ended);
+    drop(sheets);
+    drop(command);
+    end
 }
 
 /// Returns the words of the command line, with a space between each two.
@@ -93,17 +90,12 @@ fn push_command_line(rt: &HostRuntime, command: &mut String) -> Result<(), Alloc
 }
 
 impl<'p, 'a> Sight<'p, 'a> {
-    // The page of this command.
-    fn made(&self, command: &str) -> Result<Made, AllocError> {
+    // Makes the page of this command.
+    fn make(&self, command: &str, ended: &mut Ended) -> Result<(), AllocError> {
         let mut total = Tally::nothing();
         let parts = self.arranged(&mut total)?;
-        let page = self.page(command, parts)?;
-        let mut made = Made {
-            page,
-            summary: String::new(self.alloc),
-        };
-        self.push_summary(&mut made.summary, total)?;
-        Ok(made)
+        ended.output = self.page(command, parts)?;
+        self.push_summary(&mut ended.summary, total)
     }
 
     fn page(&self, command: &str, parts: Vec<Part<'_>>) -> Result<String, AllocError> {

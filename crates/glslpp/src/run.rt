@@ -1,6 +1,6 @@
 //! A run over the items of a source and of the files that it includes.
 
-ghost use Rattle.std.specs.Prelude.{◌≡◌, ◌-◌, ◌^◌, ◌<◌, false, length};
+ghost use Rattle.std.specs.Prelude.{◌≡◌, ◌-◌, ◌^◌, ◌<◌, Some, false, length};
 ghost use Rattle.pp_rs.specs.Giving.{is_ordinary_token};
 ghost use Rattle.pp_rs.specs.TokenValue.{is_ordinary};
 
@@ -8,7 +8,7 @@ mod included;
 mod messages;
 
 use crate::including::Library;
-use crate::page::{MOST_MARKED, Made, View, page_of};
+use crate::page::{View, make_page};
 use glslpp_parts::arguments::{Arguments, Form};
 use glslpp_parts::diagnostic::Diagnostic;
 use glslpp_parts::explainer::Explainer;
@@ -20,14 +20,15 @@ use glslpp_parts::output::Output;
 use glslpp_parts::pragma::is_once;
 use glslpp_parts::report::Reporter;
 use glslpp_parts::rule_set::Setting;
-use glslpp_parts::texts::Texts;
+use glslpp_parts::texts::File;
 use glslpp_parts::undefined_names::Conditions;
 use glslpp_parts::version::has_version;
 use glslpp_parts::warning::Warnings;
 use pp_rs::SOURCE_LIMIT;
-use pp_rs::pp::{Preprocessor, SOURCE_TEXT};
-use pp_rs::token::{Location, PreprocessorError, Token, TokenValue};
+use pp_rs::pp::{Preprocessor, PreprocessorItem, SOURCE_TEXT};
+use pp_rs::token::{PreprocessorError, Token, TokenValue};
 use std::alloc::{AllocError, Global};
+use std::mem;
 
 /// How many texts there may be before a file is included.
 pub(crate) const MOST_TEXTS: u32 = 100_000;
@@ -56,19 +57,32 @@ pub(crate) struct Ended {
     pub(crate) files: Vec<String>,
 }
 
+impl Ended {
+    /// Nothing yet.
+    pub(crate) fn new(alloc: Global) -> Ended {
+        Ended {
+            output: String::new(alloc),
+            summary: String::new(alloc),
+            reports: String::new(alloc),
+            errors: 0,
+            files: Vec::new(alloc),
+        }
+    }
+}
+
 /// A run over one source and the files that it includes.
 #[derive(Drop)]
-pub(crate) struct Run<'a> {
+pub(crate) struct Run<'r, 'a> {
     alloc: Global,
     setting: Setting<'a>,
     warnings: Warnings,
-    library: Library<'a>,
+    library: &'r mut Library<'a>,
     explainer: Explainer,
     reporter: Reporter<'a>,
     is_first_error_alone: bool,
     // How many errors are reported at most.
     most_reports: usize,
-    output: Output<'a>,
+    output: &'r mut Output<'a>,
     reports: String,
     errors: usize,
     // The text and the byte offset of the last error, if it is in a file.
@@ -88,31 +102,25 @@ pub(crate) struct Run<'a> {
     // it.
     unused: Vec<Diagnostic<'a>>,
     // What was found in conditions.
-    conditions: Conditions,
+    conditions: &'r Conditions,
     // What a page shows, if one is made.
     view: Option<View>,
     // The source, and the files that are open in it, each included by the one before.
     readings: Vec<Reading<'a>>,
 }
 
-impl<'a> Run<'a> {
-    /// A run over a source, with these texts before it, that has read nothing yet.
+impl<'r, 'a> Run<'r, 'a> {
+    /// A run that has read nothing yet, with the texts of this output before the source.
     pub(crate) fn new(
         alloc: Global,
         reporter: Reporter<'a>,
         arguments: &Arguments<'_>,
         setting: Setting<'a>,
-        texts: Texts<'a>,
-        library: Library<'a>,
-        conditions: Conditions,
-    ) -> Result<Run<'a>, AllocError> {
-        let has_names = arguments.has_line_names;
-        let is_traced = arguments.is_page && texts.source.text.len() <= MOST_MARKED;
-        let mut output = Output::new(alloc, arguments.form, has_names, setting.rules, texts);
-        if is_traced {
-            output.begin_trace();
-        }
-        Ok(Run {
+        library: &'r mut Library<'a>,
+        conditions: &'r Conditions,
+        output: &'r mut Output<'a>,
+    ) -> Run<'r, 'a> {
+        Run {
             alloc,
             setting,
             warnings: arguments.warnings,
@@ -134,20 +142,35 @@ impl<'a> Run<'a> {
             unused: Vec::new(alloc),
             conditions,
             view: if arguments.is_page {
-                Some(View::new(alloc, arguments)?)
+                Some(View::new(alloc))
             } else {
                 None
             },
             readings: Vec::new(alloc),
-        })
+        }
     }
 
-    /// Takes all items of this source, and says what is left to be said.
-    pub(crate) fn read_to_end(
+    /// Reads a source, and gives what was found. Returns whether something else than the output of the tokens is
+    /// printed.
+    pub(crate) fn run(
         &mut self,
         items: &mut Preprocessor<'a>,
-        source: &str,
-    ) -> Result<(), Failure>
+        source: File<'a>,
+        arguments: &Arguments<'_>,
+        ended: &mut Ended,
+    ) -> Result<bool, Failure>
+        requires { length source.text.now < 2 ^ 32 - 1 }
+    {
+        if let Some(view) = &mut self.view {
+            view.take_changes(arguments.changes.as_slice())?;
+        }
+        self.open(source, SOURCE_TEXT, arguments.warnings)?;
+        self.read_to_end(items, source.text)?;
+        Ok(self.finish(ended)?)
+    }
+
+    // Takes all items of this source, and says what is left to be said.
+    fn read_to_end(&mut self, items: &mut Preprocessor<'a>, source: &str) -> Result<(), Failure>
         requires { length source.now < 2 ^ 32 - 1 }
     {
         if !has_version(self.alloc, source)? {
@@ -161,48 +184,46 @@ impl<'a> Run<'a> {
         Ok(())
     }
 
-    /// What the run gave.
-    pub(crate) fn finish(self) -> Result<Ended, AllocError> {
-        let Run {
-            alloc,
-            setting,
-            library,
-            mut output,
-            reports,
-            errors,
-            listed,
-            conditions,
-            view,
-            ..
-        } = self;
-        let files = library.names()?;
-        let made = match view {
-            Some(mut view) => {
-                view.trace = output.end_trace();
-                view.sort()?;
-                page_of(
-                    alloc,
-                    library.runtime(),
-                    output.texts(),
-                    setting.rules,
-                    setting.definitions,
-                    &conditions,
-                    &view,
-                )?
+    // Gives what the run found. Returns whether there is a page or a list, which is the output then.
+    fn finish(&mut self, ended: &mut Ended) -> Result<bool, AllocError> {
+        ended.errors = self.errors;
+        mem::swap(&mut ended.reports, &mut self.reports);
+        self.library.push_names(&mut ended.files)?;
+        if self.view.is_some() {
+            self.make_page(ended)?;
+            return Ok(true);
+        }
+        match &mut self.listed {
+            Some(listed) => {
+                mem::swap(&mut ended.output, listed);
+                Ok(true)
             }
-            None => Made {
-                page: text_of_output(listed, output)?,
-                summary: String::new(alloc),
-            },
+            None => Ok(false),
+        }
+    }
+
+    // Makes the page.
+    fn make_page(&mut self, ended: &mut Ended) -> Result<(), AllocError> {
+        let conditions = self.conditions;
+        let definitions = self.setting.definitions;
+        let runtime = self.library.runtime();
+        let Some(view) = &mut self.view else {
+            return Ok(());
         };
-        let Made { page, summary } = made;
-        Ok(Ended {
-            output: page,
-            summary,
-            reports,
-            errors,
-            files,
-        })
+        view.trace = self.output.end_trace();
+        view.sort()?;
+        let texts = self.output.texts();
+        let rules = self.setting.rules;
+        make_page(
+            self.alloc,
+            runtime,
+            texts,
+            rules,
+            definitions,
+            conditions,
+            &*view,
+            ended,
+        )
     }
 
     // Takes all items, or those up to the first error.
@@ -213,23 +234,9 @@ impl<'a> Run<'a> {
             let Some(item) = self.next_item(items) else {
                 return Ok(());
             };
-            match item {
-                Ok(token) => {
-                    self.take_directive(items, &token)?;
-                    if matches!(token.value, TokenValue::Version(_)) {
-                        self.begin_before(items)?;
-                    }
-                }
-                Err((PreprocessorError::OutOfMemory, _)) if items.is_over_budget() => {
-                    return self.end_over_budget(items);
-                }
-                Err((PreprocessorError::OutOfMemory, _)) => return Err(Failure::OutOfMemory),
-                Err((error, _)) => match items.include_line() {
-                    Some(line) => self.take_include(items, line)?,
-                    None => self.take_error(error, items.place(), items.origin())?,
-                },
-            }
-            if self.is_over() || self.is_too_deep {
+            let end = self.take_item(items, &item);
+            drop(item);
+            if !end? {
                 return Ok(());
             }
         }
@@ -237,13 +244,52 @@ impl<'a> Run<'a> {
     }
 
     // Takes the next tokens, up to what isn't one.
-    fn next_item(
-        &mut self,
-        items: &mut Preprocessor<'a>,
-    ) -> Option<Result<Token, (PreprocessorError, Location)>>
+    fn next_item(&mut self, items: &mut Preprocessor<'a>) -> Option<PreprocessorItem>
         ensures { is_ordinary_token result ≡ false }
     {
-        items.give_tokens(&mut self.output)
+        items.give_tokens(self.output)
+    }
+
+    // Takes what isn't an ordinary token. Returns whether more is read.
+    fn take_item(
+        &mut self,
+        items: &mut Preprocessor<'a>,
+        item: &PreprocessorItem,
+    ) -> Result<bool, Failure>
+        requires { is_ordinary_token (Some item.now) ≡ false }
+    {
+        match item {
+            Ok(token) => self.take_token(items, token)?,
+            Err((PreprocessorError::OutOfMemory, _)) => {
+                self.end_over_budget(items)?;
+                return Ok(false);
+            }
+            Err((error, _)) => self.take_refusal(items, error)?,
+        }
+        Ok(!self.is_over() && !self.is_too_deep)
+    }
+
+    // Takes a directive, and includes the lines that come behind a `#version`.
+    fn take_token(&mut self, items: &mut Preprocessor<'a>, token: &Token) -> Result<(), Failure>
+        requires { is_ordinary token.now.value ≡ false }
+    {
+        self.take_directive(items, token)?;
+        if matches!(token.value, TokenValue::Version(_)) {
+            self.begin_before(items)?;
+        }
+        Ok(())
+    }
+
+    // Takes what the library refuses: an `#include`, or an error.
+    fn take_refusal(
+        &mut self,
+        items: &mut Preprocessor<'a>,
+        error: &PreprocessorError,
+    ) -> Result<(), Failure> {
+        match items.include_line() {
+            Some(line) => self.take_include(items, line),
+            None => Ok(self.take_error(error, items.place(), items.origin())?),
+        }
     }
 
     // Lists the macros that are defined.
@@ -253,6 +299,13 @@ impl<'a> Run<'a> {
         let definitions = self.setting.definitions;
         let extensions = self.extensions.as_slice();
         let mut listing = Listing::of(self.alloc, rules, texts, definitions, extensions)?;
+        let end = self.fill(&mut listing, items);
+        drop(listing);
+        end
+    }
+
+    // Lists which of the names are defined.
+    fn fill(&mut self, listing: &mut Listing, items: &mut Preprocessor<'a>) -> Result<(), Failure> {
         let text = self.library.keep(listing.text.as_str())?;
         if text.len() >= SOURCE_LIMIT || items.include(text).is_err() {
             return Err(Failure::OutOfMemory);
@@ -261,11 +314,9 @@ impl<'a> Run<'a> {
             let Some(item) = items.next() else {
                 break;
             };
-            match item {
-                Ok(token) => listing.take_token(token.location.line),
-                Err((PreprocessorError::OutOfMemory, _)) => return Err(Failure::OutOfMemory),
-                Err((_error, _)) => listing.take_error(items.place().line),
-            }
+            let end = take_listed(listing, items.place().line, &item);
+            drop(item);
+            end?;
         }
         self.listed = Some(listing.finish()?);
         Ok(())
@@ -276,15 +327,18 @@ impl<'a> Run<'a> {
         self.is_first_error_alone && self.errors > 0
     }
 
+    // Says that the budget is spent, if it is, and not the memory.
     fn end_over_budget(&mut self, items: &Preprocessor<'_>) -> Result<(), Failure> {
+        if !items.is_over_budget() {
+            return Err(Failure::OutOfMemory);
+        }
         let steps = self.setting.budget.unwrap_or(u64::MAX);
         let text = self.output.last_text();
         let texts = self.output.texts();
         let fault = self
             .finder
             .over_budget(texts, text, steps, items.reached())?;
-        self.push_fault(&fault)?;
-        Ok(())
+        Ok(self.push_fault(fault)?)
     }
 
     // Takes a directive, or the error that it has and that the library lets pass, unless it is on the line of the last
@@ -318,26 +372,26 @@ impl<'a> Run<'a> {
         match self.finder.fault_of(self.output.texts(), text, token)? {
             Some(fault) => {
                 self.output.leave_out(text, token.location.line);
-                self.push_fault(&fault)
+                self.push_fault(fault)
             }
-            None if is_once(&token.value) && text != SOURCE_TEXT => {
-                self.read_once(text);
-                Ok(())
-            }
-            None => {
-                self.read_once_if(is_once(&token.value), text);
-                self.output.push_directive(text, token)
-            }
+            None => self.put_faultless(text, token),
         }
     }
 
-    // Reads the file of this text no more, if it is so.
-    fn read_once_if(&mut self, is_once: bool, text: u32) {
-        if is_once {
+    // Puts a directive that has no error, unless it is the `#pragma once` of a file that is included.
+    fn put_faultless(&mut self, text: u32, token: &Token) -> Result<(), AllocError>
+        requires { is_ordinary token.now.value ≡ false }
+    {
+        if is_once(&token.value) {
             self.read_once(text);
+            if text != SOURCE_TEXT {
+                return Ok(());
+            }
         }
+        self.output.push_directive(text, token)
     }
 
+    // Reads the file of this text no more.
     fn read_once(&mut self, text: u32) {
         if let Some(file) = self.output.texts().file(text) {
             self.library.read_once(file.number);
@@ -345,10 +399,16 @@ impl<'a> Run<'a> {
     }
 }
 
-// The list of macros if there is one, or else the output.
-fn text_of_output(listed: Option<String>, output: Output<'_>) -> Result<String, AllocError> {
-    match listed {
-        Some(listed) => Ok(listed),
-        None => output.finish(),
+// Takes what the text of a list gives at a line of it.
+fn take_listed(
+    listing: &mut Listing,
+    line: u32,
+    item: &PreprocessorItem,
+) -> Result<(), AllocError> {
+    match item {
+        Ok(token) => listing.take_token(token.location.line),
+        Err((PreprocessorError::OutOfMemory, _)) => return Err(AllocError),
+        Err(_) => listing.take_error(line),
     }
+    Ok(())
 }

@@ -4,13 +4,13 @@ use crate::including::{Answer, Library};
 use crate::run::MOST_TEXTS;
 use glslpp_parts::extensions::define_extension;
 use glslpp_parts::failure::Failure;
-use glslpp_parts::include_line::Asked;
+use glslpp_parts::include_line::{Asked, Header};
 use glslpp_parts::pragma::is_once;
 use glslpp_parts::rule_set::Setting;
 use glslpp_parts::texts::{File, Inclusion};
 use glslpp_parts::undefined_names::{Conditions, UndefinedNames};
 use pp_rs::SOURCE_LIMIT;
-use pp_rs::pp::{IncludeError, Preprocessor, SOURCE_TEXT};
+use pp_rs::pp::{IncludeError, Preprocessor, PreprocessorItem, SOURCE_TEXT};
 use pp_rs::token::{PreprocessorError, Token};
 use std::alloc::{AllocError, Global};
 
@@ -24,24 +24,28 @@ pub(crate) fn search_conditions<'x>(
     setting: Setting<'x>,
     is_explaining: bool,
 ) -> Result<Conditions, Failure> {
-    let names = UndefinedNames::new(alloc, setting.rules, source, is_explaining)?;
-    let text = library.keep(names.probe_text(SOURCE_TEXT))?;
-    if text.len() >= SOURCE_LIMIT {
-        return Ok(names.finish(false)?);
-    }
-    let mut items = setting.begin(alloc, text)?;
     let mut search = Search {
         library,
         setting,
-        names,
+        names: UndefinedNames::new(alloc, setting.rules, source, is_explaining)?,
     };
-    let end = search.run(&mut items);
-    drop(items);
+    let end = search.run(alloc);
     search.library.forget_once();
-    match end {
+    match is_whole(end) {
         Ok(is_whole) => Ok(search.names.finish(is_whole)?),
-        Err(Failure::Told(_)) => Ok(search.names.finish(false)?),
-        Err(Failure::OutOfMemory) => Err(Failure::OutOfMemory),
+        Err(error) => {
+            drop(search);
+            Err(Failure::from(error))
+        }
+    }
+}
+
+// Whether a search came to its end, if memory lasted.
+fn is_whole(end: Result<bool, Failure>) -> Result<bool, AllocError> {
+    match end {
+        Ok(is_whole) => Ok(is_whole),
+        Err(Failure::Told(_)) => Ok(false),
+        Err(Failure::OutOfMemory) => Err(AllocError),
     }
 }
 
@@ -54,8 +58,20 @@ struct Search<'l, 'x> {
 }
 
 impl<'l, 'x> Search<'l, 'x> {
+    // Asks of the source and what it includes. Returns whether the search came to the end.
+    fn run(&mut self, alloc: Global) -> Result<bool, Failure> {
+        let text = self.library.keep(self.names.probe_text(SOURCE_TEXT))?;
+        if text.len() >= SOURCE_LIMIT {
+            return Ok(false);
+        }
+        let mut items = self.setting.begin(alloc, text)?;
+        let end = self.read(&mut items);
+        drop(items);
+        end
+    }
+
     // Takes what the preprocessor gives for the questions. Returns whether it came to the end.
-    fn run(&mut self, items: &mut Preprocessor<'x>) -> Result<bool, Failure> {
+    fn read(&mut self, items: &mut Preprocessor<'x>) -> Result<bool, Failure> {
         self.names.define(items, self.setting.definitions)?;
         if let Some(before) = self.library.before() {
             let _ = self.include(items, before, None)?;
@@ -65,25 +81,31 @@ impl<'l, 'x> Search<'l, 'x> {
             let Some(item) = items.next() else {
                 return Ok(true);
             };
-            match item {
-                Ok(token) => self.take(items, &token)?,
-                Err((PreprocessorError::OutOfMemory, _)) if items.is_over_budget() => {
-                    return Ok(false);
-                }
-                Err((PreprocessorError::OutOfMemory, _)) => return Err(Failure::OutOfMemory),
-                Err((_error, _)) => {
-                    let is_told = if items.include_line().is_some() {
-                        self.take_include(items)?
-                    } else {
-                        self.names.take_error(items.place(), items.origin())
-                    };
-                    if !is_told {
-                        return Ok(false);
-                    }
-                }
+            let goes_on = self.take_item(items, &item);
+            drop(item);
+            if !goes_on? {
+                return Ok(false);
             }
         }
         Ok(false)
+    }
+
+    // Takes what the preprocessor gives, and returns whether what comes after it can be told.
+    fn take_item(
+        &mut self,
+        items: &mut Preprocessor<'x>,
+        item: &PreprocessorItem,
+    ) -> Result<bool, Failure> {
+        match item {
+            Ok(token) => {
+                self.take(items, token)?;
+                Ok(true)
+            }
+            Err((PreprocessorError::OutOfMemory, _)) if items.is_over_budget() => Ok(false),
+            Err((PreprocessorError::OutOfMemory, _)) => Err(Failure::OutOfMemory),
+            Err(_) if items.include_line().is_some() => self.take_include(items),
+            Err(_) => Ok(self.names.take_error(items.place(), items.origin())),
+        }
     }
 
     fn take(&mut self, items: &mut Preprocessor<'x>, token: &Token) -> Result<(), AllocError> {
@@ -107,10 +129,21 @@ impl<'l, 'x> Search<'l, 'x> {
             location: items.place(),
         };
         let text = inclusion.text;
-        let Some(Asked::File(header)) = self.names.asked(text, inclusion.location.line)? else {
-            return Ok(true);
-        };
-        match self.library.find(header, self.names.texts().name(text))? {
+        match self.names.asked(text, inclusion.location.line)? {
+            Some(Asked::File(header)) => self.include_found(items, header, inclusion),
+            Some(Asked::Refused(_)) | None => Ok(true),
+        }
+    }
+
+    // Includes the file that is found for this name.
+    fn include_found(
+        &mut self,
+        items: &mut Preprocessor<'x>,
+        header: Header<'_>,
+        inclusion: Inclusion,
+    ) -> Result<bool, Failure> {
+        let includer = self.names.texts().name(inclusion.text);
+        match self.library.find(header, includer)? {
             Answer::Text(file) => self.include(items, file, Some(inclusion)),
             Answer::Nothing | Answer::Refused(_) => Ok(true),
         }

@@ -24,9 +24,14 @@ fn push_marks(
     sight.push_branches(marks, sheet.number)?;
     sight.push_uses(marks, sheet)?;
     sight.push_inclusions(marks, sheet.number)?;
-    marks.sort_by_key(|mark| mark.start)?;
+    sort_marks(marks)?;
     sight.push_words(marks, sheet)?;
     push_comments(sight.alloc, marks, sheet.file.text)?;
+    sort_marks(marks)
+}
+
+// Puts marks in the order of the places where they begin.
+fn sort_marks(marks: &mut Vec<Mark>) -> Result<(), AllocError> {
     marks.sort_by_key(|mark| mark.start)
 }
 

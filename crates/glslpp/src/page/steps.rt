@@ -200,13 +200,9 @@ impl<'p, 'a> Sight<'p, 'a> {
         let Some(mut lexer) = Lexer::try_with_rules(self.alloc, text, self.rules) else {
             return Ok(None);
         };
-        let mut call = Call::new();
-        'words: while let Some(item) = lexer.next() {
-            if !call.goes_on(item)? {
-                return Ok(call.end);
-            }
-        }
-        Ok(None)
+        let end = Call::new().read(&mut lexer);
+        drop(lexer);
+        end
     }
 
     // Finds the definitions of the macros that a text names and that were not opened before, which are from now on.
@@ -220,6 +216,18 @@ impl<'p, 'a> Sight<'p, 'a> {
         let Some(mut lexer) = Lexer::try_with_rules(self.alloc, text, self.rules) else {
             return Ok(());
         };
+        let end = self.open_items(opened, &mut lexer, used);
+        drop(lexer);
+        end
+    }
+
+    // Takes the items of that text, up to one with an error.
+    fn open_items(
+        &self,
+        opened: &mut Opened,
+        lexer: &mut Lexer<'_>,
+        used: &MacroUsed,
+    ) -> Result<(), AllocError> {
         'words: while let Some(item) = lexer.next() {
             if !self.open_item(opened, item, used)? {
                 return Ok(());
@@ -235,9 +243,21 @@ impl<'p, 'a> Sight<'p, 'a> {
         item: LexerItem,
         used: &MacroUsed,
     ) -> Result<bool, AllocError> {
-        let Some(token) = token_of(item)? else {
-            return Ok(false);
+        let token = token_of(item)?;
+        let end = match &token {
+            Some(token) => self.open_token(opened, token, used),
+            None => Ok(false),
         };
+        drop(token);
+        end
+    }
+
+    fn open_token(
+        &self,
+        opened: &mut Opened,
+        token: &LexerToken,
+        used: &MacroUsed,
+    ) -> Result<bool, AllocError> {
         if let TokenValue::Ident(name) = &token.value {
             self.open_name(opened, name.as_str(), used)?;
         }
@@ -308,12 +328,25 @@ impl Call {
         }
     }
 
+    // Reads the call, and returns its end if it has one.
+    fn read(&mut self, lexer: &mut Lexer<'_>) -> Result<Option<usize>, AllocError> {
+        'words: while let Some(item) = lexer.next() {
+            if !self.goes_on(item)? {
+                return Ok(self.end);
+            }
+        }
+        Ok(None)
+    }
+
     // Takes the next item, and returns whether the call goes on.
     fn goes_on(&mut self, item: LexerItem) -> Result<bool, AllocError> {
-        match token_of(item)? {
-            Some(token) => Ok(self.goes_on_behind(&token)),
-            None => Ok(false),
-        }
+        let token = token_of(item)?;
+        let goes_on = match &token {
+            Some(token) => self.goes_on_behind(token),
+            None => false,
+        };
+        drop(token);
+        Ok(goes_on)
     }
 
     fn goes_on_behind(&mut self, token: &LexerToken) -> bool {
@@ -362,7 +395,9 @@ fn push_items(text: &mut String, items: &mut Preprocessor<'_>) -> Result<bool, A
         let Some(item) = items.next() else {
             return Ok(true);
         };
-        if !push_item(text, item)? {
+        let is_pushed = push_item(text, &item);
+        drop(item);
+        if !is_pushed? {
             return Ok(false);
         }
     }
@@ -370,10 +405,10 @@ fn push_items(text: &mut String, items: &mut Preprocessor<'_>) -> Result<bool, A
 }
 
 // Appends an item, and returns whether it is no error.
-fn push_item(text: &mut String, item: PreprocessorItem) -> Result<bool, AllocError> {
+fn push_item(text: &mut String, item: &PreprocessorItem) -> Result<bool, AllocError> {
     match item {
         Ok(token) => {
-            push_token(text, &token)?;
+            push_token(text, token)?;
             Ok(true)
         }
         Err(_) => Ok(false),

@@ -1,6 +1,5 @@
 //! What a run gives for a page: messages on lines, and what became of tokens.
 
-use glslpp_parts::arguments::Arguments;
 use glslpp_parts::changes::Change;
 use glslpp_parts::diagnostic::{Diagnostic, Severity};
 use glslpp_parts::trace::{PrintedLine, Trace};
@@ -39,19 +38,18 @@ pub(crate) struct View {
 }
 
 impl View {
-    /// Nothing yet, with these arguments.
-    pub(crate) fn new(alloc: Global, arguments: &Arguments<'_>) -> Result<View, AllocError> {
-        let mut view = View {
+    /// Nothing yet.
+    pub(crate) fn new(alloc: Global) -> View {
+        View {
             alloc,
             trace: Trace::new(alloc),
             said: Vec::new(alloc),
             given: Vec::new(alloc),
-        };
-        view.take_changes(arguments.changes.as_slice())?;
-        Ok(view)
+        }
     }
 
-    fn take_changes(&mut self, changes: &[Change<'_>]) -> Result<(), AllocError> {
+    /// Takes the macros of the command line.
+    pub(crate) fn take_changes(&mut self, changes: &[Change<'_>]) -> Result<(), AllocError> {
         for change in changes {
             if let Change::Define(name, _) = change {
                 self.given.push(String::from_str(self.alloc, name)?)?;
@@ -84,10 +82,10 @@ impl View {
 
     /// Puts the messages and what is printed in the order of their texts and lines.
     pub(crate) fn sort(&mut self) -> Result<(), AllocError> {
-        self.said.sort_by_key(|said| said.line)?;
-        self.said.sort_by_key(|said| said.text)?;
-        self.trace.lines.sort_by_key(|printed| printed.line)?;
-        self.trace.lines.sort_by_key(|printed| printed.text)
+        self.said.sort_by_key(|said| (said.text, said.line))?;
+        self.trace
+            .lines
+            .sort_by_key(|printed| (printed.text, printed.line))
     }
 
     /// Appends what is printed for a 1-based line of a text.

@@ -14,8 +14,15 @@ use std::alloc::{AllocError, Global};
 pub(crate) fn token_of(item: LexerItem) -> Result<Option<Token>, AllocError> {
     match item {
         Ok(token) => Ok(Some(token)),
-        Err((PreprocessorError::OutOfMemory, _)) => Err(AllocError),
-        Err((_error, _)) => Ok(None),
+        Err((error, _)) => {
+            let is_of_text = !matches!(error, PreprocessorError::OutOfMemory);
+            drop(error);
+            if is_of_text {
+                Ok(None)
+            } else {
+                Err(AllocError)
+            }
+        }
     }
 }
 
@@ -76,6 +83,12 @@ impl<'p, 'a> Sight<'p, 'a> {
         let Some(mut lexer) = Lexer::try_with_rules(self.alloc, text, self.rules) else {
             return Ok(());
         };
+        let end = self.take_items(words, &mut lexer);
+        drop(lexer);
+        end
+    }
+
+    fn take_items(&self, words: &mut Words<'_>, lexer: &mut Lexer<'_>) -> Result<(), AllocError> {
         'words: while let Some(item) = lexer.next() {
             self.take_item(words, item)?;
         }
@@ -83,13 +96,16 @@ impl<'p, 'a> Sight<'p, 'a> {
     }
 
     fn take_item(&self, words: &mut Words<'_>, item: LexerItem) -> Result<(), AllocError> {
-        match token_of(item)? {
-            Some(token) => self.take_token(words, &token),
+        let token = token_of(item)?;
+        let end = match &token {
+            Some(token) => self.take_token(words, token),
             None => {
                 words.hash = None;
                 Ok(())
             }
-        }
+        };
+        drop(token);
+        end
     }
 
     // Takes the next token, which may be the word of a directive.

@@ -7,20 +7,17 @@ use crate::run::{MOST_TEXTS, Reading, Run};
 use glslpp_parts::diagnostic::Diagnostic;
 use glslpp_parts::failure::Failure;
 use glslpp_parts::fault::{FaultKind, Refusal};
-use glslpp_parts::include_line::{Asked, asked_file};
+use glslpp_parts::include_line::{Asked, Header, asked_file};
 use glslpp_parts::inspection::inspect;
 use glslpp_parts::texts::{File, Inclusion};
-use glslpp_parts::undefined_names::UndefinedName;
 use glslpp_parts::used_names::UsedNames;
 use glslpp_parts::warning::{Warning, Warnings};
 use pp_rs::SOURCE_LIMIT;
 use pp_rs::pp::{IncludeError, Preprocessor};
-use pp_rs::rules::Rules;
 use pp_rs::token::Location;
-use std::alloc::{AllocError, Global};
-use std::mem;
+use std::alloc::AllocError;
 
-impl<'a> Run<'a> {
+impl<'r, 'a> Run<'r, 'a> {
     // Takes an `#include`, of which this is the line after its word.
     pub(super) fn take_include(
         &mut self,
@@ -33,55 +30,60 @@ impl<'a> Run<'a> {
         };
         let text = inclusion.text;
         self.go_back_to(text)?;
-        let header = match asked_file(self.alloc, self.output.texts().text(text), line)? {
-            Asked::File(header) => header,
-            Asked::Refused(refusal) => return Ok(self.refuse_include(text, refusal)?),
-        };
-        let refused = match self.library.find(header, self.output.texts().name(text))? {
-            Answer::Nothing => None,
-            Answer::Refused(message) => Some((FaultKind::MissingInclude, message)),
-            Answer::Text(file) => self.include(items, file, inclusion)?,
-        };
-        if let Some((kind, message)) = refused {
-            let location = header.location;
-            self.refuse_include(
-                text,
-                Refusal {
-                    kind,
-                    location,
-                    message,
-                },
-            )?;
+        match asked_file(self.alloc, self.output.texts().text(text), line)? {
+            Asked::File(header) => self.include_found(items, header, inclusion),
+            Asked::Refused(refusal) => Ok(self.refuse_include(text, refusal)?),
         }
-        Ok(())
     }
 
-    // Includes a file, or returns why it isn't included.
+    // Includes the file that is found for this name, or says why there is none.
+    fn include_found(
+        &mut self,
+        items: &mut Preprocessor<'a>,
+        header: Header<'_>,
+        inclusion: Inclusion,
+    ) -> Result<(), Failure> {
+        let (text, location) = (inclusion.text, header.location);
+        match self.library.find(header, self.output.texts().name(text))? {
+            Answer::Nothing => Ok(()),
+            Answer::Refused(message) => {
+                let refusal = Refusal {
+                    kind: FaultKind::MissingInclude,
+                    location,
+                    message,
+                };
+                Ok(self.refuse_include(text, refusal)?)
+            }
+            Answer::Text(file) => self.include(items, file, inclusion, location),
+        }
+    }
+
+    // Includes a file, whose name has this place, or says why it isn't included.
     fn include(
         &mut self,
         items: &mut Preprocessor<'a>,
         file: File<'a>,
         inclusion: Inclusion,
-    ) -> Result<Option<(FaultKind, String)>, Failure> {
+        location: Location,
+    ) -> Result<(), Failure> {
         if file.text.len() >= SOURCE_LIMIT || file.read.len() >= SOURCE_LIMIT {
-            let message = String::from_str(self.alloc, "the file is too long")?;
-            return Ok(Some((FaultKind::MissingInclude, message)));
+            let refusal = Refusal {
+                kind: FaultKind::MissingInclude,
+                location,
+                message: String::from_str(self.alloc, "the file is too long")?,
+            };
+            return Ok(self.refuse_include(inclusion.text, refusal)?);
         }
         if self.output.texts().count() > MOST_TEXTS {
-            self.is_too_deep = true;
             let message = format!(in self.alloc; "more than {MOST_TEXTS} files are included")?;
-            return Ok(Some((FaultKind::DeepInclude, message)));
+            return Ok(self.refuse_deep(inclusion.text, location, message)?);
         }
         match items.include(file.read) {
-            Ok(()) => {
-                self.begin(file, inclusion)?;
-                Ok(None)
-            }
+            Ok(()) => Ok(self.begin(file, inclusion)?),
             Err(IncludeError::OutOfMemory) => Err(Failure::OutOfMemory),
             Err(error) => {
-                self.is_too_deep = true;
                 let message = format!(in self.alloc; "{error}")?;
-                Ok(Some((FaultKind::DeepInclude, message)))
+                Ok(self.refuse_deep(inclusion.text, location, message)?)
             }
         }
     }
@@ -119,8 +121,8 @@ impl<'a> Run<'a> {
         Ok(())
     }
 
-    /// Begins with a file whose text has this number, in which these warnings are on.
-    pub(crate) fn open(
+    // Begins with a file whose text has this number, in which these warnings are on.
+    pub(super) fn open(
         &mut self,
         file: File<'a>,
         text: u32,
@@ -128,19 +130,42 @@ impl<'a> Run<'a> {
     ) -> Result<(), AllocError>
         requires { length file.text.now < 2 ^ 32 - 1 }
     {
+        let findings = Vec::new(self.alloc);
+        self.readings.push(Reading { text, findings })?;
         let undefined = self.conditions.undefined.as_slice();
         let rules = self.setting.rules;
-        let found = findings_backwards(self.alloc, file, text, warnings, rules, undefined)?;
-        let may_include = file.text.contains("include");
-        let mut findings = Vec::new(self.alloc);
-        for finding in found {
-            if may_include && finding.warning == Some(Warning::UnusedMacros) {
-                self.unused.push(finding)?;
-            } else {
-                findings.push(finding)?;
+        let mut found = inspect(self.alloc, file, text, warnings, rules, undefined)?;
+        let end = self.keep_findings(&mut found, file.text.contains("include"));
+        drop(found);
+        end
+    }
+
+    // Keeps what was found in the last file that is open, from its end to its start.
+    fn keep_findings(
+        &mut self,
+        found: &mut Vec<Diagnostic<'a>>,
+        may_include: bool,
+    ) -> Result<(), AllocError> {
+        for _ in 0..found.len() {
+            if let Some(finding) = found.pop() {
+                self.keep_finding(finding, may_include)?;
             }
         }
-        self.readings.push(Reading { text, findings })?;
+        Ok(())
+    }
+
+    // Keeps a finding until its line is passed. That a macro isn't used is said at the end, if a file that is included
+    // may use it.
+    fn keep_finding(
+        &mut self,
+        finding: Diagnostic<'a>,
+        may_include: bool,
+    ) -> Result<(), AllocError> {
+        let is_last = may_include && finding.warning == Some(Warning::UnusedMacros);
+        match self.readings.last_mut() {
+            Some(reading) if !is_last => reading.findings.push(finding)?,
+            _ => self.unused.push(finding)?,
+        }
         Ok(())
     }
 
@@ -149,38 +174,33 @@ impl<'a> Run<'a> {
         requires { length text.now < 2 ^ 32 - 1 }
     {
         let used = UsedNames::of(self.alloc, self.setting.rules, text)?;
-        let mut kept = Vec::new(self.alloc);
-        for finding in mem::replace(&mut self.unused, Vec::new(self.alloc)) {
-            if !is_of_used(&finding, &used) {
-                kept.push(finding)?;
-            }
-        }
-        self.unused = kept;
+        self.unused.retain(|finding| !is_of_used(finding, &used));
+        drop(used);
         Ok(())
+    }
+
+    // Says that an `#include` is too deep or one too many, and reads no more.
+    fn refuse_deep(
+        &mut self,
+        text: u32,
+        location: Location,
+        message: String,
+    ) -> Result<(), AllocError> {
+        self.is_too_deep = true;
+        let refusal = Refusal {
+            kind: FaultKind::DeepInclude,
+            location,
+            message,
+        };
+        self.refuse_include(text, refusal)
     }
 
     fn refuse_include(&mut self, text: u32, refusal: Refusal) -> Result<(), AllocError> {
         let fault = self
             .finder
             .refused_include(self.output.texts(), text, refusal);
-        self.push_fault(&fault)
+        self.push_fault(fault)
     }
-}
-
-// What the warnings find in a file whose text has this number, from its end to its start.
-fn findings_backwards<'a>(
-    alloc: Global,
-    file: File<'a>,
-    number: u32,
-    warnings: Warnings,
-    rules: Rules,
-    undefined: &[UndefinedName],
-) -> Result<Vec<Diagnostic<'a>>, AllocError>
-    requires { length file.text.now < 2 ^ 32 - 1 }
-{
-    let mut findings = inspect(alloc, file, number, warnings, rules, undefined)?;
-    findings.reverse();
-    Ok(findings)
 }
 
 // Whether a warning says that a macro isn't used that has one of these names.

@@ -9,81 +9,89 @@ use pp_rs::pp::{Origin, SOURCE_TEXT};
 use pp_rs::token::{Location, PreprocessorError};
 use std::alloc::AllocError;
 
-impl<'a> Run<'a> {
+impl<'r, 'a> Run<'r, 'a> {
     // Ends the files that were read behind this one, if it is open.
     pub(super) fn go_back_to(&mut self, text: u32) -> Result<(), AllocError> {
         if !self.readings.iter().any(|reading| reading.text == text) {
             return Ok(());
         }
         for _ in 0..self.readings.len() {
-            match self.readings.last() {
-                Some(last) if last.text != text => self.end_last()?,
-                _ => return Ok(()),
+            if self.open_text() == Some(text) {
+                return Ok(());
             }
+            self.end_last()?;
         }
         Ok(())
     }
 
+    // The text of the last file that is open.
+    fn open_text(&self) -> Option<u32> {
+        match self.readings.last() {
+            Some(last) => Some(last.text),
+            None => None,
+        }
+    }
+
     // Says what is left to be said of the last file that is open, which is ended.
     fn end_last(&mut self) -> Result<(), AllocError> {
-        let Some(text) = self.readings.last().map(|last| last.text) else {
+        let Some(text) = self.open_text() else {
             return Ok(());
         };
-        let from = if text == SOURCE_TEXT {
-            self.output.read().end as usize
-        } else {
-            0
-        };
-        if !self.is_over()
-            && let Some(location) = open_comment(self.output.texts().text(text), from)
-        {
-            let texts = self.output.texts();
-            let fault = self.finder.unterminated_comment(texts, text, location)?;
-            self.push_fault(&fault)?;
+        if !self.is_over() {
+            self.say_open_comment(text)?;
         }
         self.say_findings_before(u32::MAX)?;
-        self.readings.pop();
+        drop(self.readings.pop());
         if text == SOURCE_TEXT {
             self.say_unused()?;
         }
         Ok(())
     }
 
+    // Says that a text ends within a comment, if it does.
+    fn say_open_comment(&mut self, text: u32) -> Result<(), AllocError> {
+        let from = if text == SOURCE_TEXT {
+            self.output.read().end as usize
+        } else {
+            0
+        };
+        let texts = self.output.texts();
+        match open_comment(texts.text(text), from) {
+            Some(location) => {
+                let fault = self.finder.unterminated_comment(texts, text, location)?;
+                self.push_fault(fault)
+            }
+            None => Ok(()),
+        }
+    }
+
     // Says which macros of the source aren't used.
     fn say_unused(&mut self) -> Result<(), AllocError> {
         for _ in 0..self.unused.len() {
             if let Some(finding) = self.unused.pop() {
-                self.say_finding(&finding)?;
+                self.say_finding(finding)?;
             }
         }
         Ok(())
     }
 
     // Takes an error that the library let pass.
-    pub(super) fn push_fault(&mut self, fault: &Fault<'a>) -> Result<(), AllocError> {
-        self.push_error(
-            fault.kind.name(),
-            fault.text,
-            fault.location,
-            &fault.diagnostic,
-        )
+    pub(super) fn push_fault(&mut self, fault: Fault<'a>) -> Result<(), AllocError> {
+        let name = fault.kind.name();
+        let end = self.push_error(name, fault.text, fault.location, &fault.diagnostic);
+        drop(fault);
+        end
     }
 
     // Takes an error, unless it is on the line of the last one or only follows from another. If it comes from a macro,
     // its line is that on which the macro was used.
     pub(super) fn take_error(
         &mut self,
-        error: PreprocessorError,
+        error: &PreprocessorError,
         location: Location,
         origin: Origin,
     ) -> Result<(), AllocError> {
-        let used = MacroUse::of(self.alloc, self.output.texts(), origin)?;
-        let place = match &used {
-            Some(used) => Some((used.text, used.line)),
-            None if self.output.texts().is_file(origin.text) => Some((origin.text, location.line)),
-            None => None,
-        };
-        if let Some((text, line)) = place {
+        if let Some((text, line)) = self.line_of(location, origin) {
             self.go_back_to(text)?;
             if self.output.is_left_out(text, line) {
                 return Ok(());
@@ -91,13 +99,25 @@ impl<'a> Run<'a> {
             self.output.leave_out(text, line);
         }
         let texts = self.output.texts();
+        let used = MacroUse::of(self.alloc, texts, origin)?;
         let explained = self
             .explainer
-            .explain(texts, &error, origin.text, location, used)?;
-        let Some(diagnostic) = explained else {
-            return Ok(());
+            .explain(texts, error, origin.text, location, used)?;
+        let end = match &explained {
+            Some(diagnostic) => self.push_error(error.name(), origin.text, location, diagnostic),
+            None => Ok(()),
         };
-        self.push_error(error.name(), origin.text, location, &diagnostic)
+        drop(explained);
+        end
+    }
+
+    // The text and the line in it that has an item, or the call of the macro that gave it, if it is in a file.
+    fn line_of(&self, location: Location, origin: Origin) -> Option<(u32, u32)> {
+        match origin.call {
+            Some(call) => Some((call.text, call.line)),
+            None if self.output.texts().is_file(origin.text) => Some((origin.text, location.line)),
+            None => None,
+        }
     }
 
     // Takes an error with this name at a place in this text, after what the warnings found before its line.
@@ -108,9 +128,8 @@ impl<'a> Run<'a> {
         location: Location,
         diagnostic: &Diagnostic<'a>,
     ) -> Result<(), AllocError> {
-        let last = self.readings.last().map(|last| last.text);
         if let Some(line) = diagnostic.site.line()
-            && diagnostic.site.text() == last
+            && diagnostic.site.text() == self.open_text()
         {
             self.say_findings_before(line)?;
         }
@@ -129,7 +148,7 @@ impl<'a> Run<'a> {
             let Some(finding) = self.next_finding(line) else {
                 return Ok(());
             };
-            self.say_finding(&finding)?;
+            self.say_finding(finding)?;
         }
         Ok(())
     }
@@ -144,12 +163,19 @@ impl<'a> Run<'a> {
     }
 
     // Says what a warning found, unless it is at the place of the last error.
-    fn say_finding(&mut self, finding: &Diagnostic<'a>) -> Result<(), AllocError> {
+    fn say_finding(&mut self, finding: Diagnostic<'a>) -> Result<(), AllocError> {
+        let end = if self.is_over() || self.is_at_error(&finding) {
+            Ok(())
+        } else {
+            self.say(&finding)
+        };
+        drop(finding);
+        end
+    }
+
+    fn is_at_error(&self, finding: &Diagnostic<'_>) -> bool {
         let start = finding.site.point();
-        if self.is_over() || (start.is_some() && start == self.fault_start) {
-            return Ok(());
-        }
-        self.say(finding)
+        start.is_some() && start == self.fault_start
     }
 
     // Says a message, unless it is one error too many.
@@ -199,8 +225,11 @@ impl<'a> Run<'a> {
             note: None,
             used: None,
         };
-        self.reporter
-            .push(&mut self.reports, self.output.texts(), &diagnostic)
+        let end = self
+            .reporter
+            .push(&mut self.reports, self.output.texts(), &diagnostic);
+        drop(diagnostic);
+        end
     }
 }
 
