@@ -33,6 +33,7 @@ use pp_model::place::{Place, SOURCE_TEXT};
 use std::alloc::Global;
 
 /// The next token. The end of the source is an error at the directive's word.
+#[inline(always)]
 pub fn first_token(word: Location, lexer: &mut SourceLexer<'_>) -> Result<lexer::Token, Halt>
     requires { lexer.old.spent ≡ false }
     ensures reads { ReadsNext (λ t. t) (first_token word) lexer.old result lexer.new }

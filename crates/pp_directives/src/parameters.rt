@@ -1,6 +1,7 @@
 //! The parameters of a macro, read token by token.
 
-ghost use Rattle.std.specs.Prelude.{◌≡◌, ◌++◌, ◌∷◌, [], false, IfOk};
+ghost use Rattle.std.specs.Prelude.{◌≡◌, ◌++◌, ◌∷◌, [], Bool, false, Ok, IfOk, MatchOption};
+ghost use Rattle.pp_lexer.specs.declared.token.Location.{Location};
 ghost use Rattle.pp_model.specs.DefineLines.{parameters};
 ghost use Rattle.pp_model.specs.Names.{is_in};
 ghost use Rattle.pp_macros.specs.inner.LineReading as spec;
@@ -8,12 +9,13 @@ ghost use Rattle.pp_macros.specs.inner.ParameterReading.{ends_parameters, one_pa
 ghost use Rattle.pp_macros.specs.inner.ParameterReading.{GoesOnInLine, ShowsOnLine};
 ghost use Rattle.pp_macros.specs.inner.SourceLexed.{unreported_at};
 ghost use Rattle.pp_macros.specs.inner.Unreported.{Reports};
+ghost use Rattle.pp_directives.specs.inner.PlainText.{PassesBlanks};
 ghost use Rattle.pp_directives.specs.inner.ReadNames.{parameters_to};
 ghost use Rattle.pp_directives.specs.inner.ReadingLines.{ReadsNext};
 
 use crate::lines::first_token;
 use crate::source_lexer::SourceLexer;
-use pp_lexer::lexer;
+use pp_lexer::lexer::{self, Form};
 use pp_lexer::token::{Location, PreprocessorError, Punct, Text};
 use pp_macros::halt::Halt;
 use pp_macros::parameter_names::ParameterNames;
@@ -58,12 +60,32 @@ fn first_parameter(word: Location, lexer: &mut SourceLexer<'_>) -> Result<Option
     }
 }
 
+// Passes the next token if it is a `)` or a comma of plain text, and returns whether it is a `)`. Otherwise at most
+// comments in front of it are passed.
+fn plain_end(lexer: &mut SourceLexer<'_>) -> Option<bool>
+    requires { lexer.old.spent ≡ false }
+    ensures { MatchOption result (PassesBlanks lexer.old lexer.new) (λ ends. (word : Location)
+        → ReadsNext {A = Bool} (λ b. b) (ends_parameters word) lexer.old (Ok ends) lexer.new) }
+{
+    let word = lexer.peek_word()?;
+    let ends = match word.form {
+        Form::Punct(Punct::RightParen) => true,
+        Form::Punct(Punct::Comma) => false,
+        _ => return None,
+    };
+    lexer.pass_word(&word);
+    Some(ends)
+}
+
 // Reads what follows a parameter: a `)` ends the parameters, and after a comma they go on. Returns
 // whether they end.
 fn ends_parameters(word: Location, lexer: &mut SourceLexer<'_>) -> Result<bool, Halt>
     requires { lexer.old.spent ≡ false }
     ensures { ReadsNext (λ b. b) (ends_parameters word) lexer.old result lexer.new }
 {
+    if let Some(ends) = plain_end(lexer) {
+        return Ok(ends);
+    }
     let token = first_token(word, lexer)?;
     match token.value {
         lexer::TokenValue::Punct(Punct::RightParen) => Ok(true),

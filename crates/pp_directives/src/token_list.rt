@@ -2,7 +2,11 @@
 
 ghost use Rattle.std.specs.Prelude.{◌≡◌, ◌∷◌, ◌++◌, ◌+◌, ◌<◌, ◌^◌, List, [], Some, None, OnOk, IfOk, IfSome, All};
 ghost use Rattle.std.specs.Prelude.{MatchOption, drop, map};
+ghost use Rattle.std.specs.Str.{IsAscii};
+ghost use Rattle.pp_lexer.specs.declared.lexer.plain.Form.TheVariants.{Identifier};
 ghost use Rattle.pp_lexer.specs.declared.token.Token.{Token};
+ghost use Rattle.pp_macros.specs.inner.Bodies.{with_token};
+ghost use Rattle.pp_directives.specs.WordTokens.{word_token};
 ghost use Rattle.pp_directives.specs.inner.TokenLists.{Kept, IsReadable, token_of};
 ghost use Rattle.pp_model.specs.Painting.{read_in};
 
@@ -80,6 +84,23 @@ impl<'a> TokenList<'a> for Vec<Token> {
     }
 }
 
+// Puts the parameter or the other token that an identifier is after the others.
+#[inline(always)]
+fn push_identifier(
+    body: &mut Body,
+    alloc: Global,
+    word: PlainItem<'_>,
+) -> Result<(), AllocError>
+    requires identifier { word.form ≡ Identifier }
+    requires ascii { IsAscii word.spelling.now }
+    ensures { OnOk result (body.new ≡ with_token body.old (word_token word.entry)) }
+{
+    if body.push_parameter(word.spelling, word.location)? {
+        return Ok(());
+    }
+    body.push_other(word_token(alloc, word)?)
+}
+
 impl<'a> TokenList<'a> for Body {
     ghost tokens = { λ body. body.tokens };
 
@@ -88,14 +109,10 @@ impl<'a> TokenList<'a> for Body {
     #[inline(always)]
     fn put(&mut self, alloc: Global, token: LineToken<'a>) -> Result<(), AllocError> {
         match token {
-            LineToken::Word(word) => {
-                if matches!(word.form, Form::Identifier)
-                    && self.push_parameter(word.spelling, word.location)?
-                {
-                    return Ok(());
-                }
-                self.push(word_token(alloc, word)?)
-            }
+            LineToken::Word(word) => match word.form {
+                Form::Identifier => push_identifier(self, alloc, word),
+                _ => self.push_other(word_token(alloc, word)?),
+            },
             LineToken::Token(token) => self.push(token),
         }
     }

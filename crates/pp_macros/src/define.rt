@@ -1,6 +1,6 @@
 //! Macros.
 
-ghost use Rattle.std.specs.Prelude.{◌≡◌, ◌↔◌, ◌∷◌, ◌<◌, ◌^◌, true, false, List, [], IsTrue, if◌then◌else◌};
+ghost use Rattle.std.specs.Prelude.{◌≡◌, ◌↔◌, ◌∷◌, ◌<◌, ◌^◌, true, false, List, [], None, IsTrue, if◌then◌else◌};
 ghost use Rattle.std.specs.Prelude.{IfOk, IfSome, OnOk, MatchOption, drop, length, map};
 ghost use Rattle.std.specs.Str.{chars};
 ghost use Rattle.pp_lexer.specs.declared.token.Token.{Token};
@@ -9,6 +9,7 @@ ghost use Rattle.pp_lexer.specs.TokenValue.{is_ordinary};
 ghost use Rattle.pp_lexer.specs.Spelling.{values_of};
 ghost use Rattle.pp_model.specs.Names.{Name};
 ghost use Rattle.pp_model.specs.Definitions.{IsSameDefinition, object_like};
+ghost use Rattle.pp_model.specs.SpliceList.{parameter_of};
 ghost use Rattle.pp_macros.specs.inner.Defined.{AreNumbered, names_in};
 ghost use Rattle.pp_macros.specs.inner.Bodies.{AreEntries, AreFound, AreSeen, IsEntry, IsEntryAt, IsFound};
 ghost use Rattle.pp_macros.specs.inner.Bodies.{body_of, is_same_entry, token_of, unnumbered, noted_at, noted_in};
@@ -175,15 +176,27 @@ impl Body {
     {
         match self.parameters.position_of(&token.value) {
             Some(position) => self.put(parameter_at(position, token.location)),
-            None => self.put(BodyEntry::Token(token, None)),
+            None => self.push_other(token),
         }
+    }
+
+    /// Puts a token that is no parameter after the others.
+    #[inline(always)]
+    pub fn push_other(&mut self, token: Token) -> Result<(), AllocError>
+        requires ordinary { IsTrue (is_ordinary token.value) }
+        requires other { parameter_of self.old.parameters token.value ≡ None }
+        ensures { OnOk result (self.new ≡ with_token self.old token) }
+    {
+        self.put(BodyEntry::Token(token, None))
     }
 
     /// Puts the parameter of this name after the others, and returns whether there is one. If there is none, nothing
     /// changes.
     pub fn push_parameter(&mut self, name: &str, location: Location) -> Result<bool, AllocError>
-        ensures { IfOk result (λ is_parameter. self.new ≡ (if is_parameter
+        ensures body { IfOk result (λ is_parameter. self.new ≡ (if is_parameter
             then with_token self.old (record { value = Ident (chars name.now); location = location }) else self.old)) }
+        ensures other { IfOk result (λ is_parameter. is_parameter ≡ false
+            → parameter_of self.old.parameters (Ident (chars name.now)) ≡ None) }
     {
         let Some(position) = self.parameters.position(name) else {
             return Ok(false);

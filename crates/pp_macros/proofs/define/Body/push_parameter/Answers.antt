@@ -11,8 +11,8 @@ put-requires-clause-found c =
     rw (c.parameter_at.ensures, ← same)
     (parameter_found c.self.inside.parameters (Ident (chars c.args.name.now)) c.in-Some.position c.args.location (sym c.position.ensures ∙ c.in-Some.is)).0
 
-pub returns : goal.returns
-returns c =
+pub returns-clause-body : goal.returns-clause-body
+returns-clause-body c =
     let same : c.self.inside.parameters ≡ c.args.self.now.parameters = ap (λ (body : BodyTokens). body.parameters) c.self.view_is in
     let token : token_of c.args.self.now.parameters c.parameter_at.result ≡ record { value = Ident (chars c.args.name.now); location = c.args.location }
     = rw (c.parameter_at.ensures, ← same)
