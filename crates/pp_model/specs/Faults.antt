@@ -84,6 +84,11 @@ abbrev pub truths_left : Option BlockFacts → Sight → SourceReader → Truths
 truths_left (Some block) (sight.Directive d.Elif word) r = record { position = r.position; holds = false } ∷ r.truths
 truths_left block s r = r.truths
 
+-- an `#elif` outside of all blocks makes all that is left of its text dead
+abbrev pub makes_dead : Option BlockFacts → Sight → Bool
+makes_dead None (sight.Directive d.Elif word) = true
+makes_dead block s = false
+
 -- an `#undef` counts once its name was read
 abbrev pub definitions_left : Bool → Sight → SourceReader → Definitions
 definitions_left true (sight.Directive d.Undef word) r =

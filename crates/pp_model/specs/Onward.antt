@@ -5,12 +5,11 @@ use Rattle.std.specs.List.{list_any}
 use Rattle.std.specs.Result.{result_ok}
 use Rattle.pp_lexer.specs.Lexed.{Seen}
 use Rattle.pp_lexer.specs.declared.token.Location.{Location}
-use Rattle.pp_lexer.specs.declared.token.PreprocessorError.TheVariants.{ElifOutsideOfBlock}
 use Rattle.pp_lexer.specs.declared.token.Token.{Token}
 use Rattle.pp_expression.specs.declared.symbol.Value.{Value}
 use Rattle.pp_expression.specs.declared.symbol.Found.{Found}
 use Rattle.pp_expression.specs.FirstFault.{Evaluates}
-use Rattle.pp_model.specs.Places.{PlacedFault, in_text}
+use Rattle.pp_model.specs.Places.{in_text}
 use Rattle.pp_model.specs.Definitions.{Definitions}
 use Rattle.pp_model.specs.Painting.{read_in}
 use Rattle.pp_model.specs.Reading.{Reading, reading_of}
@@ -18,11 +17,12 @@ use Rattle.pp_model.specs.Calls.{Answers}
 use Rattle.pp_model.specs.LineWords.{Words, LineWords}
 use Rattle.pp_model.specs.LineValues.{line_of}
 use Rattle.pp_model.specs.Numbering.{as_line_number, list_numbering, text_number}
+use Rattle.pp_model.specs.Sights.{sight_of}
 use Rattle.pp_model.specs.Blocks.{blocks_at, innermost}
 use Rattle.pp_model.specs.SourceReader.{SourceReader}
 use Rattle.pp_model.specs.Acts.{Acted, end_by, perform}
 use Rattle.pp_model.specs.Reads.{numbered_line, Does}
-use Rattle.pp_model.specs.Faults.{move_past, after_fault}
+use Rattle.pp_model.specs.Faults.{facts_past, move_past, makes_dead, after_fault}
 use Rattle.pp_model.specs.declared.numbering.Numbering.{Numbering}
 use Rattle.pp_model.specs.declared.place.Place.{Place}
 use Rattle.pp_model.specs.declared.read.Taken.{Taken}
@@ -68,10 +68,10 @@ IsPastFault A n r (step.LineNumber word tokens) t =
     × (t ≡ numbered_by (after_fault n r) word number)
 IsPastFault A n r did t = t ≡ after_fault n r
 
--- the texts of which the rest is dead after a fault
-abbrev pub dead_by : PlacedFault → List ℕ → List ℕ
-dead_by (ElifOutsideOfBlock, place) dead = place.text ∷ dead
-dead_by fault dead = dead
+-- the texts of which the rest is dead after a fault at the reader's position, if the outermost `n` blocks are such
+abbrev pub dead_after : ℕ → SourceReader → List ℕ → List ℕ
+dead_after n r dead =
+    if makes_dead (facts_past n r) (sight_of (drop r.position r.items)) then r.text ∷ dead else dead
 
 -- what the items at the position do, and what they give with the reader after them
 abbrev pub act_here : Onward → Acted
@@ -92,12 +92,11 @@ pub data StepsOn (A : Answers) : Onward → Option Taken → Onward → Type 0 w
       → is_of_items old.reader given ≡ false
       → new ≡ record old { reader = t }
       → StepsOn A old given new
-  faulty : (fault : PlacedFault) (s t : SourceReader) (given : Option Taken) (old new : Onward)
+  faulty : (s t : SourceReader) (given : Option Taken) (old new : Onward)
       → DoesHere A old given s
       → is_of_items old.reader given ≡ true
-      → given ≡ Some (taken.Fault fault)
       → IsPastFault A (dead_blocks old) old.reader (act_here old).step t
-      → new ≡ record { reader = t; dead = dead_by fault old.dead }
+      → new ≡ record { reader = t; dead = dead_after (dead_blocks old) old.reader old.dead }
       → StepsOn A old given new
 
 -- what reading on gives next: the first step that gives something

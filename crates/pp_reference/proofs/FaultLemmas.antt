@@ -17,7 +17,7 @@ use Rattle.pp_model.specs.inner.Acts.{items_left, after_line}
 use Rattle.pp_model.specs.Reads.{Does, Defines, Evaluated}
 use Rattle.pp_model.specs.Faults.{facts_past, move_past, after_fault}
 use Rattle.pp_model.specs.Onward as onward
-use Rattle.pp_model.specs.Onward.{Onward, act_on, act_here, dead_blocks, IsPastFault, is_of_items, StepsOn, passed, faulty}
+use Rattle.pp_model.specs.Onward.{Onward, act_on, act_here, dead_blocks, IsPastFault, dead_after, is_of_items, StepsOn, passed, faulty}
 use Rattle.pp_model.specs.Painting.{taken_of}
 use Rattle.pp_model.specs.declared.definition.Named.{Named}
 use Rattle.pp_model.specs.declared.outcome.Outcome.{Outcome}
@@ -29,7 +29,7 @@ use Rattle.pp_model.specs.declared.step.Step.TheVariants as step
 use Rattle.pp_model.proofs.source.ActsLemmas.{HoldsOfActs, sight_acts}
 use Rattle.pp_model.proofs.including.MoveLemmas.{seen_end}
 use Rattle.pp_reference.specs.inner.Acting.{Renumbering}
-use Rattle.pp_reference.specs.inner.Faulting.{Counts, GivesBy, Gives, numbered_by, is_fault_among, dead_after, went_on}
+use Rattle.pp_reference.specs.inner.Faulting.{Counts, GivesBy, Gives, numbered_by, is_fault_among, went_on}
 use Rattle.pp_reference.specs.declared.source_reader.stepping.Stepped.{Stepped}
 
 -- ---- what a fault leaves
@@ -188,7 +188,7 @@ module _ (A : Answers) (old : Onward) where
   faulted : (given : Option Taken) (counted : Option (Location × ℕ)) (mid back past t : SourceReader) (dead : List ℕ)
       → Gives A (dead_blocks old) old.reader mid (record { taken = given; counted = counted }) → is_fault_among (has_left old.reader) given ≡ true
       → back ≡ record mid { position = old.reader.position } → past ≡ after_fault (dead_blocks old) back → t ≡ numbered_by past counted
-      → dead ≡ dead_after given old.dead → StepsOn A old given (record { reader = t; dead = dead })
+      → dead ≡ dead_after (dead_blocks old) back old.dead → StepsOn A old given (record { reader = t; dead = dead })
   faulted None counted mid back past t dead gives among b p n d = absurd cc
   faulted (Some (taken.Token read)) counted mid back past t dead gives among b p n d = absurd cc
   faulted (Some taken.End) counted mid back past t dead gives among b p n d = absurd cc
@@ -198,12 +198,13 @@ module _ (A : Answers) (old : Onward) where
       let leaves = items_leave (dead_blocks old) r (items_left r) refl (ltb-true r.position (length r.items) two.0) in
       let same : back ≡ r = b ∙ fault_stays A r fault (nothing_asked fault.1.asks two.1) mid (act_here old).step (act_here old).after leaves gives.does in
       let there : t ≡ numbered_by (after_fault (dead_blocks old) r) counted = n ∙ ap (λ (x : SourceReader). numbered_by x counted) (p ∙ ap (after_fault (dead_blocks old)) same) in
-      faulty fault mid t (Some (taken.Fault fault)) old (record { reader = t; dead = dead }) gives.does among refl
-      (past_fault A (dead_blocks old) r t (act_here old).step counted gives.counts there) (ap (λ (x : List ℕ). record { reader = t; dead = x }) d)
+      faulty mid t (Some (taken.Fault fault)) old (record { reader = t; dead = dead }) gives.does among
+      (past_fault A (dead_blocks old) r t (act_here old).step counted gives.counts there)
+      (ap (λ (x : List ℕ). record { reader = t; dead = x }) (d ∙ ap (λ (x : SourceReader). dead_after (dead_blocks old) x old.dead) same))
 
   pub steps_faulty : (mid : SourceReader) (stepped : Stepped) (new : Onward)
       → Gives A (dead_blocks old) old.reader mid stepped → is_fault_among (has_left old.reader) stepped.taken ≡ true
-      → new ≡ went_on old.reader.position (dead_blocks old) stepped.counted stepped.taken (record old { reader = mid })
+      → new ≡ went_on old.reader.position (dead_blocks old) stepped.counted (record old { reader = mid })
       → StepsOn A old stepped.taken new
   steps_faulty mid stepped new gives among is =
       rw is (faulted stepped.taken stepped.counted mid (record mid { position = old.reader.position })

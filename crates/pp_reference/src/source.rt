@@ -1,7 +1,7 @@
 //! A source as a reader after an expander, which goes on after faults.
 
 ghost use Rattle.std.specs.Prelude.{◌≡◌, ◌≤◌, length, IfOk, OnOk};
-ghost use Rattle.pp_reference.specs.inner.Faulting.{is_fault_among, dead_after, went_on};
+ghost use Rattle.pp_reference.specs.inner.Faulting.{is_fault_among, went_on};
 ghost use Rattle.pp_model.specs.Emitting.{answers_at, expansion_limit};
 ghost use Rattle.pp_reference.specs.inner.ReaderState.{reader_of};
 ghost use Rattle.pp_reference.specs.inner.SeenSource.{source_state};
@@ -13,7 +13,7 @@ use crate::reader::Reader;
 use crate::source_reader::SourceReader;
 use crate::source_reader::stepping::Stepped;
 use crate::stop::{Budget, Stop};
-use pp_lexer::token::{Integer, Location, PreprocessorError, Text};
+use pp_lexer::token::{Integer, Location, Text};
 use pp_model::numbering::Numbering;
 use pp_model::read::Taken;
 use std::alloc::Global;
@@ -39,16 +39,6 @@ fn is_fault_among(left: bool, taken: &Option<Taken>) -> bool
     }
 }
 
-// Notes the text of an `#elif` outside of all blocks.
-fn note_dead(dead: &mut Vec<u32>, taken: &Option<Taken>) -> Result<(), Stop>
-    ensures { OnOk result (dead.new.items ≡ dead_after taken.now dead.old.items) }
-{
-    if let Some(Taken::Fault((PreprocessorError::ElifOutsideOfBlock, place))) = taken {
-        dead.insert(0, place.text)?;
-    }
-    Ok(())
-}
-
 impl Source {
     // How many of the outermost blocks of the text part no more and are not reported.
     fn dead_blocks(&self) -> usize
@@ -58,6 +48,19 @@ impl Source {
         if self.dead.contains(&text) { 1 } else { 0 }
     }
 
+    // Notes the text if a fault at the position makes the rest of it dead.
+    fn note_dead(&mut self, outside: usize) -> Result<(), Stop>
+        ensures { OnOk result (source_state self.new ≡ record (source_state self.old) {
+          dead = spec.dead_after outside (reader_of self.old.reader) self.old.dead.items;
+        }) }
+    {
+        if self.reader.makes_dead(self.alloc, outside)? {
+            let text = self.reader.text();
+            self.dead.insert(0, text)?;
+        }
+        Ok(())
+    }
+
     // Goes on after a fault of the items at an earlier position, if this many outermost blocks don't count. A `#line`
     // counts from the number that is given.
     fn go_on(
@@ -65,16 +68,16 @@ impl Source {
         position: usize,
         outside: usize,
         counted: Option<(Location, u32)>,
-        taken: &Option<Taken>,
     ) -> Result<(), Stop>
         requires { position ≤ length self.old.reader.items }
         ensures { OnOk result (source_state self.new
-            ≡ went_on position outside counted taken.now (source_state self.old)) }
+            ≡ went_on position outside counted (source_state self.old)) }
     {
         self.reader.go_back(position);
+        self.note_dead(outside)?;
         self.reader.pass_fault(self.alloc, outside)?;
         self.reader.count_from(counted);
-        note_dead(&mut self.dead, taken)
+        Ok(())
     }
 
     // One token or line of the source. A fault of it is passed.
@@ -90,7 +93,7 @@ impl Source {
         if !is_fault_among(left, &taken) {
             return Ok(taken);
         }
-        match self.go_on(position, outside, counted, &taken) {
+        match self.go_on(position, outside, counted) {
             Ok(()) => Ok(taken),
             Err(stop) => {
                 drop(taken);

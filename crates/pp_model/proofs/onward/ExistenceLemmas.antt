@@ -1,5 +1,5 @@
 -- Each token or line of a source has an outcome, also after faults, and reading on gives something next.
-use Rattle.std.proofs.Common.{◌≡◌, subst, ℕ, zero, suc, ◌<◌, Bool, true, false, List, [], ◌∷◌, drop, length, refl, arith, Option, Some, None}
+use Rattle.std.proofs.Common.{◌≡◌, ◌∙◌, sym, subst, ℕ, zero, suc, ◌<◌, Bool, true, false, List, [], ◌∷◌, drop, length, refl, arith, Option, Some, None}
 use Rattle.std.specs.Prelude.{map, take, ◌+◌, option_and_then}
 use Rattle.std.specs.Option.{option_map_or}
 use Rattle.std.specs.Result.{result_ok}
@@ -22,7 +22,7 @@ use Rattle.pp_model.specs.Sights.{sight_of}
 use Rattle.pp_model.specs.SourceReader.{SourceReader}
 use Rattle.pp_model.specs.Acts.{perform}
 use Rattle.pp_model.specs.Faults.{facts_past, move_past, definitions_left, after_fault}
-use Rattle.pp_model.specs.Onward.{Onward, dead_blocks, act_on, act_here, IsFirstNumber, numbered_by, IsPastFault, dead_by, is_of_items, StepsOn, passed, faulty, here, later, onward_reading}
+use Rattle.pp_model.specs.Onward.{Onward, dead_blocks, act_on, act_here, IsFirstNumber, numbered_by, IsPastFault, dead_after, is_of_items, StepsOn, passed, faulty, here, later, onward_reading}
 use Rattle.pp_model.specs.ExistenceLaws.{IsFinite, AnAnswer}
 use Rattle.pp_model.specs.ToEndLaws.{AStepOn}
 use Rattle.pp_model.specs.declared.definition.Placed.{Placed}
@@ -118,20 +118,11 @@ module _ (A : Answers) (answered : AnAnswer A) where
       let s = stepped_as A answered o.reader (act_here o) (act_on_moves (dead_blocks o) o.reader rest refl) (act_on_less (dead_blocks o) o.reader rest refl) f in
       by s (is_of_items o.reader s.outcome) refl
     where
-      faulted : (s : Stepped A answered o.reader (act_here o)) (given : Option Taken) → s.outcome ≡ given → is_of_items o.reader given ≡ true → SteppedOn o
-      faulted s None p h = cc
-      faulted s (Some (taken.Token read)) p h = cc
-      faulted s (Some taken.End) p h = cc
-      faulted s (Some (taken.Fault fault)) p h =
-          let past = past_fault (dead_blocks o) o.reader (act_here o).step f in
-          let new : Onward = record { reader = past.0; dead = dead_by fault o.dead } in
-          record {
-            outcome = Some (taken.Fault fault);
-            after = new;
-            steps = faulty fault s.after past.0 (Some (taken.Fault fault)) o new (rw p at s.does) h refl past.1 refl;
-            finite = past.2;
-            falls = λ z. cc;
-          }
+      fault_stops : (given : Option Taken) → is_of_items o.reader given ≡ true → goes given ≡ false
+      fault_stops None h = cc
+      fault_stops (Some (taken.Token read)) h = cc
+      fault_stops (Some taken.End) h = cc
+      fault_stops (Some (taken.Fault fault)) h = refl
 
       by : (s : Stepped A answered o.reader (act_here o)) (here : Bool) → is_of_items o.reader s.outcome ≡ here → SteppedOn o
       by s false h = record {
@@ -141,7 +132,16 @@ module _ (A : Answers) (answered : AnAnswer A) where
         finite = s.finite;
         falls = s.falls;
       }
-      by s true h = faulted s s.outcome refl h
+      by s true h =
+          let past = past_fault (dead_blocks o) o.reader (act_here o).step f in
+          let new : Onward = record { reader = past.0; dead = dead_after (dead_blocks o) o.reader o.dead } in
+          record {
+            outcome = s.outcome;
+            after = new;
+            steps = faulty s.after past.0 s.outcome o new s.does h past.1 refl;
+            finite = past.2;
+            falls = λ z. let bad : true ≡ false = sym z ∙ fault_stops s.outcome h in cc;
+          }
 
   pub a_step_on : AStepOn A
   a_step_on o f = let s = stepped_on o f in (s.outcome, s.after, s.steps)

@@ -95,13 +95,19 @@ module _ (A : Answers) where
       → (t : SourceReader) × Steps A r given t × Begins given t new
   step_begins given r new (passed given1 t old new1 d p q) =
       (t, subst (λ (a : Acted). Does A r a.step a.after given t) (act_on_all r (drop r.position r.items) refl) d, same q)
-  step_begins given r new (faulty fault s t given1 old new1 d p h k q) =
-      let steps : Steps A r given s = subst (λ (a : Acted). Does A r a.step a.after given s) (act_on_all r (drop r.position r.items) refl) d in
-      let steps1 : Steps A r (Some (taken.Fault fault)) s = rw h at steps in
-      let items : is_of_items r (Some (taken.Fault fault)) ≡ true = rw h at p in
-      let around : s.around ≡ r.around = given_within (act r).step (act r).after r (taken.Fault fault) s (act_within r) steps1 in
-      let past : t.around ≡ r.around = past_within 0 r _ t k in
-      (s, steps, fails fault h (asks_nothing _ _ items) (rw q (past ∙ sym around)))
+  step_begins given r new (faulty s t given1 old new1 d p k q) = of given p steps
+    where
+      steps : Steps A r given s
+      steps = subst (λ (a : Acted). Does A r a.step a.after given s) (act_on_all r (drop r.position r.items) refl) d
+
+      of : (given : Option Taken) → is_of_items r given ≡ true → Steps A r given s → (t : SourceReader) × Steps A r given t × Begins given t new
+      of None h stepped = cc
+      of (Some (taken.Token token)) h stepped = cc
+      of (Some taken.End) h stepped = cc
+      of (Some (taken.Fault fault)) h stepped =
+          let around : s.around ≡ r.around = given_within (act r).step (act r).after r (taken.Fault fault) s (act_within r) stepped in
+          let past : t.around ≡ r.around = past_within 0 r _ t k in
+          (s, stepped, fails fault refl (asks_nothing _ _ h) (rw q (past ∙ sym around)))
 
   reads_begin : (x : Taken) (r : SourceReader) (old new : Onward) → old ≡ on r → ReadsOn A old x new
       → (t : SourceReader) × Reads A r x t × Begins (Some x) t new

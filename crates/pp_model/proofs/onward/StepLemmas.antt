@@ -52,15 +52,14 @@ module _ (A : Answers) (single : OneAnswer A) where
   one_step_on o x y n m (passed x1 s o1 n1 a p q) (passed y1 t o2 m1 b h k) =
       let same = one_outcome A single (act_here o).step (act_here o).after o.reader x y s t a b in
       (same.0, q ∙ ap (λ (r : SourceReader). record o { reader = r }) same.1 ∙ sym k)
-  one_step_on o x y n m (passed x1 s o1 n1 a p q) (faulty f t u y1 o2 m1 b h i j k) =
+  one_step_on o x y n m (passed x1 s o1 n1 a p q) (faulty t u y1 o2 m1 b h i k) =
       let bad = split o.reader x y (one_outcome A single (act_here o).step (act_here o).after o.reader x y s t a b).0 p h in cc
-  one_step_on o x y n m (faulty f t u x1 o2 n1 b h i j k) (passed y1 s o1 m1 a p q) =
+  one_step_on o x y n m (faulty t u x1 o2 n1 b h i k) (passed y1 s o1 m1 a p q) =
       let bad = split o.reader y x (one_outcome A single (act_here o).step (act_here o).after o.reader y x s t a b).0 p h in cc
-  one_step_on o x y n m (faulty f s u x1 o1 n1 a h i j k) (faulty g t v y1 o2 m1 b p q r w) =
+  one_step_on o x y n m (faulty s u x1 o1 n1 a h i k) (faulty t v y1 o2 m1 b p q r) =
       let same = (one_outcome A single (act_here o).step (act_here o).after o.reader x y s t a b).0 in
-      let fault : f ≡ g = cc in
-      let past = one_past_fault (dead_blocks o) o.reader (act_here o).step u v j r in
-      (same, k ∙ rw (past, fault) (sym w))
+      let past = one_past_fault (dead_blocks o) o.reader (act_here o).step u v i q in
+      (same, k ∙ rw past (sym r))
 
   -- so reading on passes one outcome next
   pub onward_reads_one : OneReads (onward_reading A)

@@ -1,5 +1,5 @@
 -- What the plain program says of faults and of the steps that give them.
-use Rattle.std.specs.Prelude.{◌≡◌, ℕ, pos, ◌-ℤ◌, Bool, false, ◌&&◌, List, Option, Some, None, option_map, is_none}
+use Rattle.std.specs.Prelude.{◌≡◌, ℕ, Bool, false, ◌&&◌, Option, Some, None, option_map, is_none}
 use Rattle.std.specs.Prelude.{Result, Ok, Err}
 use Rattle.pp_lexer.specs.declared.token.Location.{Location}
 use Rattle.pp_model.specs.Places.{in_text}
@@ -12,7 +12,7 @@ use Rattle.pp_model.specs.inner.Acts.{items_left}
 use Rattle.pp_model.specs.Reads.{Does}
 use Rattle.pp_model.specs.Faults.{is_shown, after_fault}
 use Rattle.pp_model.specs.Onward as onward
-use Rattle.pp_model.specs.Onward.{Onward, act_on, IsFirstNumber, dead_by}
+use Rattle.pp_model.specs.Onward.{Onward, act_on, IsFirstNumber, dead_after}
 use Rattle.pp_model.specs.declared.read.Taken.{Taken}
 use Rattle.pp_model.specs.declared.read.Taken.TheVariants as taken
 use Rattle.pp_model.specs.declared.step.Step.{Step}
@@ -54,14 +54,8 @@ abbrev pub is_fault_among : Bool → Option Taken → Bool
 is_fault_among left (Some (taken.Fault fault)) = left && is_none fault.1.asks
 is_fault_among left given = false
 
--- the texts of which the rest is dead after what was given
-abbrev pub dead_after : Option Taken → List ℕ → List ℕ
-dead_after (Some (taken.Fault fault)) dead = dead_by fault dead
-dead_after given dead = dead
-
 -- the source after a fault of the items at this position, if the outermost `n` blocks don't count
-abbrev pub went_on : ℕ → ℕ → Option (Location × ℕ) → Option Taken → Onward → Onward
-went_on position n counted given o = record {
-  reader = numbered_by (after_fault n (record o.reader { position = position })) counted;
-  dead = dead_after given o.dead;
-}
+abbrev pub went_on : ℕ → ℕ → Option (Location × ℕ) → Onward → Onward
+went_on position n counted o =
+    let r = record o.reader { position = position } in
+    record { reader = numbered_by (after_fault n r) counted; dead = dead_after n r o.dead }

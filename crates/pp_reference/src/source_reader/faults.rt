@@ -9,6 +9,7 @@ ghost use Rattle.pp_model.specs.Faults.{is_shown};
 ghost use Rattle.pp_model.specs.Moves as moves;
 ghost use Rattle.pp_model.specs.Moves.{fails};
 ghost use Rattle.pp_model.specs.Sights.{sight_of};
+ghost use Rattle.pp_model.specs.inner.Acts as parts;
 ghost use Rattle.pp_model.specs.declared.directive.Directive.TheVariants.{Undef};
 ghost use Rattle.pp_model.specs.declared.sight.Sight.TheVariants as sights;
 ghost use Rattle.pp_reference.specs.inner.Faulting.{IsShownBy};
@@ -155,6 +156,13 @@ fn left_line(
         }
         _ => Ok(Vec::new(alloc)),
     }
+}
+
+// Whether a fault of it makes the rest of the text dead: it is an `#elif` outside of all blocks.
+fn makes_dead(block: &Option<Facts>, sight: &Sight) -> bool
+    ensures { result ≡ spec.makes_dead block.now sight.now }
+{
+    block.is_none() && matches!(sight, Sight::Directive(Directive::Elif, _))
 }
 
 impl SourceReader {
@@ -455,6 +463,16 @@ impl SourceReader {
             Directive::Undef if live => self.undefine(alloc, *word),
             _ => Ok(()),
         }
+    }
+
+    /// Whether a fault at the position makes the rest of the text dead, if this many outermost blocks don't count.
+    pub fn makes_dead(&self, alloc: Global, outside: usize) -> Result<bool, Stop>
+        ensures { IfOk result (λ dead. dead ≡ spec.makes_dead
+            (spec.facts_past outside (reader_of self.now)) (sight_of (parts.items_left (reader_of self.now)))) }
+    {
+        let block = self.facts(alloc, outside)?;
+        let sight = sight_of(alloc, self.items_left())?;
+        Ok(makes_dead(&block, &sight))
     }
 
     /// Goes on after the fault at the position, if this many outermost blocks don't count.
