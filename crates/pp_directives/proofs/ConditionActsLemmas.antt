@@ -101,7 +101,7 @@ module _ (rules : Rules) (text : ℕ) (earlier : Earlier) (around : List Suspend
   -- the whole line was taken, and nothing but the blocks and the numbers of the lines may have changed
   kept : (effect : List Token → Effect) → ((tokens : List Token) → is_shown (effect tokens) ≡ false) → (change : BlockChange) (after : List OpenBlock) (offset : ℤ)
       → after ≡ change None blocks → length after ≤ length blocks
-      → HasLeft false (taken_after (λ items. (line_move (line_tokens items) effect items).effect) (take (line_length old.rest) old.rest))
+      → HasLeft (taken_after (λ items. (line_move (line_tokens items) effect items).effect) (take (line_length old.rest) old.rest))
       (record { change = change; undefined = None; is_directive = false; is_dead = false })
       (source_of old rules text earlier around definitions blocks offset has_text has_directive dead contents)
       (source_of new rules text earlier around definitions after offset has_text has_directive dead contents)
@@ -112,8 +112,9 @@ module _ (rules : Rules) (text : ℕ) (earlier : Earlier) (around : List Suspend
     around = refl;
     contents = refl;
     has_text = refl;
-    rest = λ exact. read.takes.rest ∙ sym (whole_taken line_tokens (λ items. (line_move (line_tokens items) effect items).effect) tokens_persist
+    rest = read.takes.rest ∙ sym (whole_taken line_tokens (λ items. (line_move (line_tokens items) effect items).effect) tokens_persist
         (λ items. line_effect (line_tokens items) effect items hides) refl old.rest line.tokens read.is);
+    further = read.takes.further;
     fewer = omega (arith, few, drop_fewer old.rest new.rest (line_length old.rest) read.takes.rest);
     blocks = made;
     definitions = refl;

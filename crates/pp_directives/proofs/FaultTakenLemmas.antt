@@ -106,7 +106,7 @@ regroup : (front more later : List Seen) → (front ++ more) ++ later ≡ front 
 regroup [] more later = refl
 regroup (s ∷ front) more later = ap (λ r. s ∷ r) (regroup front more later)
 
-taken_part : (n : ℕ) (rest : List Seen) → drop (length (take n rest)) rest ≡ drop n rest
+pub taken_part : (n : ℕ) (rest : List Seen) → drop (length (take n rest)) rest ≡ drop n rest
 taken_part zero [] = refl
 taken_part (suc n) [] = refl
 taken_part zero (s ∷ rest) = refl

@@ -30,6 +30,7 @@ use Rattle.pp_macros.specs.inner.SourceLexed.{SourceLexed, unreported_at}
 use Rattle.pp_macros.specs.inner.Unreported.{IsMet}
 use Rattle.pp_directives.specs.inner.DirectiveHalts.{of_line}
 use Rattle.pp_directives.specs.inner.ReadingLines.{first_free_name, ReadsPart, ReadsNext, ReadsLine, ReadsBy}
+use Rattle.pp_directives.proofs.FurtherLemmas.{GoesFurther, goes_then}
 use Rattle.pp_directives.specs.inner.SourceActs.{taken_after, HasLeft, FailsWith, Acts, line_act, plain_act, directive_act}
 use Rattle.pp_directives.proofs.FaultTakenLemmas.{part_taken, line_effect, line_taken, unread_effect, word_hides, first_length}
 use Rattle.pp_directives.proofs.LineReadingLemmas.{drop_fewer, free_is_first}
@@ -62,13 +63,18 @@ undef_shown rules word rest after first e d =
 
 -- the end of the line has a fault
 undef_fails : (fault : Fault) (rules : Rules) (word : Location) (first : Placed) (old mid new : SourceLexed) → first_free_name rules word old.rest ≡ Ok first
-    → mid.rest ≡ drop 1 old.rest → unreported_at mid ≡ unreported_at old → ReadsNext {A = Unit {0}} (λ t. t) (ended_line word) mid (Err (halt.Fault fault)) new
+    → mid.rest ≡ drop 1 old.rest → GoesFurther old mid → unreported_at mid ≡ unreported_at old
+    → ReadsNext {A = Unit {0}} (λ t. t) (ended_line word) mid (Err (halt.Fault fault)) new
     → ReadsLine {A = Name} (λ name. name) (undefined_on rules word) old (Err (halt.Fault fault)) new
-undef_fails fault rules word first old mid new e d same p = record {
+undef_fails fault rules word first old mid new e d went same p = record {
   is = ap (λ (r : Result Placed Fault). r >>= λ found. ended_line word (drop 1 old.rest) >>= λ end. Ok found.name) e
       ∙ ap (λ (r : List Seen). ended_line word r >>= λ end. Ok first.name) (sym d)
       ∙ ap (λ (r : Result (Unit {0}) Fault). r >>= λ end. Ok first.name) p.is;
-  takes = record { rest = end_shown word mid.rest new.rest fault p.is p.takes.rest p.fault ∙ sym (undef_shown rules word old.rest mid.rest first e d); spent = p.takes.spent };
+  takes = record {
+    rest = end_shown word mid.rest new.rest fault p.is p.takes.rest p.fault ∙ sym (undef_shown rules word old.rest mid.rest first e d);
+    further = goes_then old mid new went p.takes.further;
+    spent = p.takes.spent;
+  };
   fault = p.fault;
   errors = reports_after false {A = Unit {0}} (Err (halt.Fault fault)) (unreported_at old) (unreported_at mid) (unreported_at new) same p.errors;
 }
@@ -101,14 +107,15 @@ module _ (rules : Rules) (text : ℕ) (earlier : Earlier) (around : List Suspend
 
   -- the line has more than the name
   pub name_followed : (h : Halt) (first : Placed) (later : List Defined) (old mid new : SourceLexed) → first_free_name rules word old.rest ≡ Ok first
-      → mid.rest ≡ drop 1 old.rest → unreported_at mid ≡ unreported_at old → IsChanged first.name None definitions later
+      → mid.rest ≡ drop 1 old.rest → GoesFurther old mid → unreported_at mid ≡ unreported_at old
+      → IsChanged first.name None definitions later
       → ReadsNext {A = Unit {0}} (λ t. t) (ended_line word) mid (Err h) new
       → Acts (directive_act rules true (facts_among blocks) d.Undef word old.rest)
       (source_of old rules text earlier around definitions blocks line_offset has_text has_directive dead contents) (Err (of_line h))
       (source_of new rules text earlier around later blocks line_offset has_text has_directive dead contents)
-  name_followed (halt.Fault fault) first later old mid new e d same gone read =
-      undef_failed fault later old new (rw e gone) (undef_fails fault rules word first old mid new e d same read)
-  name_followed halt.OutOfMemory first later old mid new e d same gone read = record { acts = tt; holds = tt; errors = tt }
+  name_followed (halt.Fault fault) first later old mid new e d went same gone read =
+      undef_failed fault later old new (rw e gone) (undef_fails fault rules word first old mid new e d went same read)
+  name_followed halt.OutOfMemory first later old mid new e d went same gone read = record { acts = tt; holds = tt; errors = tt }
 
   -- ---- an `#else` and an `#endif`
 
@@ -130,16 +137,16 @@ module _ (rules : Rules) (text : ℕ) (earlier : Earlier) (around : List Suspend
 
   -- one after which the blocks are as they were
   else_stops : (block : Option BlockFacts) (fault : Fault) (old new : SourceLexed) → (else_move block word old.rest).effect ≡ fails fault → new.rest ≡ drop 1 old.rest
-      → new.spent ≡ false → (is_shown (fails fault) ≡ true) ⊎ (new.rest ≡ []) → IsMet fault (unreported_at old) (unreported_at new)
+      → GoesFurther old new → new.spent ≡ false → (is_shown (fails fault) ≡ true) ⊎ (new.rest ≡ []) → IsMet fault (unreported_at old) (unreported_at new)
       → Acts (line_act (block_change (Some part.Else) word) nothing_left (else_move block word) old.rest)
       (source_of old rules text earlier around definitions blocks line_offset has_text has_directive dead contents) (Err (of_line (halt.Fault fault)))
       (source_of new rules text earlier around definitions blocks line_offset has_text has_directive dead contents)
-  else_stops block fault old new e d unspent h met =
+  else_stops block fault old new e d went unspent h met =
       let taken = taken_after (λ items. (else_move block word items).effect) (take (line_length old.rest) old.rest) in
       let before = source_of old rules text earlier around definitions blocks line_offset has_text has_directive dead contents in
       let behind = source_of new rules text earlier around definitions blocks line_offset has_text has_directive dead contents in
       record {
-        acts = subst (λ (effect : Effect). FailsWith effect before (placed text fault) (λ from. HasLeft false taken nothing_left from behind)) (sym e) (
+        acts = subst (λ (effect : Effect). FailsWith effect before (placed text fault) (λ from. HasLeft taken nothing_left from behind)) (sym e) (
           refl,
           record {
             rules = refl;
@@ -148,7 +155,8 @@ module _ (rules : Rules) (text : ℕ) (earlier : Earlier) (around : List Suspend
             around = refl;
             contents = refl;
             has_text = refl;
-            rest = λ exact. else_taken block old.rest new.rest (fails fault) e d h;
+            rest = else_taken block old.rest new.rest (fails fault) e d h;
+            further = went;
             fewer = omega (arith, drop_fewer old.rest new.rest 1 d);
             blocks = refl;
             definitions = refl;
@@ -168,7 +176,7 @@ module _ (rules : Rules) (text : ℕ) (earlier : Earlier) (around : List Suspend
       (source_of old rules text earlier around definitions blocks line_offset has_text has_directive dead contents) (Err (of_line h))
       (source_of new rules text earlier around definitions blocks line_offset has_text has_directive dead contents)
   else_failed block (halt.Fault fault) old new read =
-      else_stops block fault old new (ap (λ line. (line_move line (λ end. else_effect block word) old.rest).effect) read.is) read.takes.rest read.takes.spent read.fault read.errors
+      else_stops block fault old new (ap (λ line. (line_move line (λ end. else_effect block word) old.rest).effect) read.is) read.takes.rest read.takes.further read.takes.spent read.fault read.errors
   else_failed block halt.OutOfMemory old new read = record { acts = tt; holds = tt; errors = tt }
 
   -- the end of an `#endif`

@@ -6,6 +6,7 @@ pub mod PassedErrorsLemmas
 pub mod HeldLemmas
 pub mod ShownLemmas
 pub mod FaultTakenLemmas
+pub mod FurtherLemmas
 pub mod LineReadingLemmas
 pub mod PartsShownLemmas
 pub mod LineEndLemmas

@@ -18,6 +18,7 @@ use Rattle.pp_macros.specs.declared.halt.Halt.TheVariants as halt
 use Rattle.pp_directives.specs.inner.LineEnds.{goes_on_by, first_end, passed_end}
 use Rattle.pp_directives.specs.inner.PlainText.{PassesBlanks}
 use Rattle.pp_directives.specs.inner.ReadingLines.{ReadsPart}
+use Rattle.pp_directives.proofs.FurtherLemmas.{GoesFurther, goes_then}
 use Rattle.pp_directives.proofs.UnreportedLemmas.{met_none}
 use Rattle.pp_directives.proofs.LineReadingLemmas.{skipped_more, skipped_shown, skipped_here}
 use Rattle.pp_directives.proofs.ShownLemmas.{later_taken, same_taken, mapped_shown}
@@ -145,7 +146,11 @@ error_on passes fault old mid next new passed same e one met others =
     let here : IsMet fault (unreported_at old) (unreported_at next) = subst (λ (u : Unreported). IsMet fault u (unreported_at next)) (ap unreported_at same) met in
     rw (passed, others) (record {
       is = next_on old.rest fault (ap (λ (l : SourceLexed). next_token l.rest) (sym same) ∙ e);
-      takes = record { rest = one.rest ∙ ap (λ (l : SourceLexed). drop 1 l.rest) same; spent = one.spent };
+      takes = record {
+        rest = one.rest ∙ ap (λ (l : SourceLexed). drop 1 l.rest) same;
+        further = subst (λ (l : SourceLexed). GoesFurther l next) same one.further;
+        spent = one.spent;
+      };
       fault = tt;
       errors = met_none fault (unreported_at old) (unreported_at next) _ here refl;
     })
@@ -182,13 +187,17 @@ end_shown passes from rest =
 -- an error of what is left of the line
 pub end_fails : (h : Halt) (passes : Bool) (from : ℕ) (start old new : SourceLexed) → passed_line passes old.rest ≡ passed_line passes start.rest
     → drop (shown_on (passed_line passes) old.rest) old.rest ≡ drop (shown_on (passed_end passes from) start.rest) start.rest
-    → ReportsNone passes (unreported_at start) (unreported_at old)
+    → GoesFurther start old → ReportsNone passes (unreported_at start) (unreported_at old)
     → ReadsPart passes {A = Bool} (λ t. t) (goes_on_by passes old.rest) 1 1 old (Err h) new
     → ReadsPart passes {A = ℕ} (λ t. t) (passed_end passes from start.rest) (line_length start.rest) (shown_on (passed_end passes from) start.rest) start (Err h) new
-end_fails (halt.Fault fault) passes from start old new whole shown none p = record {
+end_fails (halt.Fault fault) passes from start old new whole shown went none p = record {
   is = passed_fault passes from start.rest old.rest fault whole p.is;
-  takes = record { rest = passed_here passes old.rest new.rest fault p.is p.takes.rest p.fault ∙ shown; spent = p.takes.spent };
+  takes = record {
+    rest = passed_here passes old.rest new.rest fault p.is p.takes.rest p.fault ∙ shown;
+    further = goes_then start old new went p.takes.further;
+    spent = p.takes.spent;
+  };
   fault = p.fault;
   errors = fault_met passes old.rest fault (unreported_at start) (unreported_at old) (unreported_at new) p.is none p.errors;
 }
-end_fails halt.OutOfMemory passes from start old new whole shown none p = record { is = tt; takes = tt; fault = tt; errors = tt }
+end_fails halt.OutOfMemory passes from start old new whole shown went none p = record { is = tt; takes = tt; fault = tt; errors = tt }

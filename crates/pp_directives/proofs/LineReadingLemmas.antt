@@ -24,6 +24,7 @@ use Rattle.pp_macros.specs.declared.halt.Halt.TheVariants as halt
 use Rattle.pp_directives.specs.inner.LineEntries.{line_entries}
 use Rattle.pp_directives.specs.inner.ReadingLines.{ReadsPart, ReadsNext, ReadsLine, ReadsTokens}
 use Rattle.pp_directives.proofs.ShownLemmas.{fails_shown, mapped_shown, same_taken, end_taken, shown_then, shown_there}
+use Rattle.pp_directives.proofs.FurtherLemmas.{GoesFurther, goes_then}
 use Rattle.pp_directives.proofs.UnreportedLemmas.{reports_after}
 
 -- tokens that were read, and then those of the rest
@@ -130,11 +131,14 @@ skipped_place (s ∷ rest) after e d = rw d (sym (skip_place_item s.item s.had_c
 
 -- a part of a line is taken after another
 pub takes_after : {A : Type 0} (result : Result A Halt) (more total more_shown shown : ℕ) (old mid new : SourceLexed)
-    → TakesItems more more_shown mid result new → drop total old.rest ≡ drop more mid.rest → drop shown old.rest ≡ drop more_shown mid.rest
+    → TakesItems more more_shown mid result new → GoesFurther old mid → drop total old.rest ≡ drop more mid.rest
+    → drop shown old.rest ≡ drop more_shown mid.rest
     → TakesItems total shown old result new
-takes_after (Ok value) more total more_shown shown old mid new t e f = record { rest = t.rest ∙ sym e; spent = t.spent }
-takes_after (Err (halt.Fault fault)) more total more_shown shown old mid new t e f = record { rest = t.rest ∙ sym f; spent = t.spent }
-takes_after (Err halt.OutOfMemory) more total more_shown shown old mid new t e f = t
+takes_after (Ok value) more total more_shown shown old mid new t g e f =
+    record { rest = t.rest ∙ sym e; further = goes_then old mid new g t.further; spent = t.spent }
+takes_after (Err (halt.Fault fault)) more total more_shown shown old mid new t g e f =
+    record { rest = t.rest ∙ sym f; further = goes_then old mid new g t.further; spent = t.spent }
+takes_after (Err halt.OutOfMemory) more total more_shown shown old mid new t g e f = t
 
 -- a fault of the line is shown by the items that show one of those after the next token
 abbrev line_after : Result (Option Token) Fault → List Seen → Result (List Token) Fault
@@ -198,7 +202,11 @@ pub line_fails : {A B : Type 0} (shows : A → List Token) (shown : B → Option
     → ReadsNext shown next_line_token old (Err h) new → ReadsLine shows line_tokens old (Err h) new
 line_fails shows shown (halt.Fault fault) old new p = record {
   is = line_tokens-next old.rest ∙ ap (λ r. r >>= λ next. tokens_after next (drop 1 old.rest)) p.is;
-  takes = record { rest = line_shown-here old.rest new.rest fault p.is p.takes.rest p.fault; spent = p.takes.spent };
+  takes = record {
+    rest = line_shown-here old.rest new.rest fault p.is p.takes.rest p.fault;
+    further = p.takes.further;
+    spent = p.takes.spent;
+  };
   fault = p.fault;
   errors = p.errors;
 }
@@ -211,16 +219,18 @@ before_fails tokens token line fault e = ap (λ (r : Result (List Token) Fault).
 
 pub more_fails : {A B : Type 0} (shows : A → List Token) (read : B → Option Token) (h : Halt) (first next : Option Token) (token : Token) (start old new : SourceLexed) (tokens : List Token)
     → next ≡ Some token → tokens_before tokens (tokens_after next old.rest) ≡ tokens_after first start.rest
-    → drop (shown_after next old.rest) old.rest ≡ drop (shown_after first start.rest) start.rest → unreported_at old ≡ unreported_at start
+    → drop (shown_after next old.rest) old.rest ≡ drop (shown_after first start.rest) start.rest → GoesFurther start old
+    → unreported_at old ≡ unreported_at start
     → ReadsNext read next_line_token old (Err h) new
     → ReadsTokens shows first start (Err h) new
-more_fails shows read (halt.Fault fault) first next token start old new tokens some whole shown same p = record {
+more_fails shows read (halt.Fault fault) first next token start old new tokens some whole shown went same p = record {
   reads = record {
     is = sym whole ∙ ap (λ (n : Option Token). tokens_before tokens (tokens_after n old.rest)) some
         ∙ before_fails tokens token (line_tokens old.rest) fault
         (line_tokens-next old.rest ∙ ap (λ r. r >>= λ n. tokens_after n (drop 1 old.rest)) p.is);
     takes = record {
       rest = line_shown-here old.rest new.rest fault p.is p.takes.rest p.fault ∙ tokens_shown next token old.rest some ∙ shown;
+      further = goes_then start old new went p.takes.further;
       spent = p.takes.spent;
     };
     fault = p.fault;
@@ -229,7 +239,7 @@ more_fails shows read (halt.Fault fault) first next token start old new tokens s
   comments = tt;
   ordinary = tt;
 }
-more_fails shows read halt.OutOfMemory first next token start old new tokens some whole shown same p =
+more_fails shows read halt.OutOfMemory first next token start old new tokens some whole shown went same p =
     record { reads = record { is = tt; takes = tt; fault = tt; errors = tt }; comments = tt; ordinary = tt }
 
 -- the tokens of a line are read: the next one, and those after it
@@ -245,7 +255,7 @@ reads_line shows read token result old mid new next more =
     line_tokens-next rest ∙ ap (λ r. r >>= λ n. tokens_after n (drop 1 rest)) next.is ∙ ap (tokens_after first) same in
     record {
       is = rw tokens more.is;
-      takes = takes_after result _ _ _ _ _ _ _ more.takes
+      takes = takes_after result _ _ _ _ _ _ _ more.takes next.takes.further
           (line_place-next rest first next.is ∙ ap (λ r. drop (length_after first r) r) same)
           (line_shown-next rest first next.is ∙ ap (λ r. drop (shown_after first r) r) same);
       fault = more.fault;
@@ -339,21 +349,26 @@ skipped_here rest after fault e d h =
 
 -- an error of a line that is skipped
 pub skip_fails : (h : Halt) (start old new : SourceLexed) → skipped_line old.rest ≡ skipped_line start.rest
-    → drop (shown_on skipped_line old.rest) old.rest ≡ drop (shown_on skipped_line start.rest) start.rest → unreported_at old ≡ unreported_at start
+    → drop (shown_on skipped_line old.rest) old.rest ≡ drop (shown_on skipped_line start.rest) start.rest → GoesFurther start old
+    → unreported_at old ≡ unreported_at start
     → ReadsNext {A = Bool} (λ t. t) line_goes_on old (Err h) new → ReadsLine {A = Unit {0}} (λ t. t) skipped_line start (Err h) new
-skip_fails (halt.Fault fault) start old new whole shown same p = record {
+skip_fails (halt.Fault fault) start old new whole shown went same p = record {
   is = sym whole ∙ skips_first old.rest ∙ ap (λ r. skipped_after r (drop 1 old.rest)) p.is;
-  takes = record { rest = skipped_here old.rest new.rest fault p.is p.takes.rest p.fault ∙ shown; spent = p.takes.spent };
+  takes = record {
+    rest = skipped_here old.rest new.rest fault p.is p.takes.rest p.fault ∙ shown;
+    further = goes_then start old new went p.takes.further;
+    spent = p.takes.spent;
+  };
   fault = p.fault;
   errors = reports_after false {A = Unit {0}} (Err (halt.Fault fault)) (unreported_at start) (unreported_at old) (unreported_at new) same p.errors;
 }
-skip_fails halt.OutOfMemory start old new whole shown same p = record { is = tt; takes = tt; fault = tt; errors = tt }
+skip_fails halt.OutOfMemory start old new whole shown went same p = record { is = tt; takes = tt; fault = tt; errors = tt }
 
 -- a fault is the same whatever a value would have been
 pub fails_as : (passes : Bool) {A B C : Type 0} (shows : A → B) (shown : C → B) (h : Halt) (wanted : Result B Fault) (count taken : ℕ) (old new : SourceLexed)
     → ReadsPart passes shows wanted count taken old (Err h) new → ReadsPart passes shown wanted count taken old (Err h) new
 fails_as passes shows shown (halt.Fault fault) wanted count taken old new p =
-    record { is = p.is; takes = record { rest = p.takes.rest; spent = p.takes.spent }; fault = p.fault; errors = p.errors }
+    record { is = p.is; takes = record { rest = p.takes.rest; further = p.takes.further; spent = p.takes.spent }; fault = p.fault; errors = p.errors }
 fails_as passes shows shown halt.OutOfMemory wanted count taken old new p = record { is = tt; takes = tt; fault = tt; errors = tt }
 
 -- a line that an item holds
@@ -363,6 +378,7 @@ entries_fail shows shown (halt.Fault fault) old new p = record {
   is = ap (λ (r : Result (List Token) Fault). r >>= λ tokens. Ok (preorder tokens)) p.is;
   takes = record {
     rest = p.takes.rest ∙ same_taken line_tokens line_entries (λ items. sym (mapped_shown (λ tokens. preorder tokens) (line_tokens items))) old.rest;
+    further = p.takes.further;
     spent = p.takes.spent;
   };
   fault = p.fault;

@@ -37,6 +37,7 @@ use Rattle.pp_macros.specs.declared.halt.PlacedHalt.TheVariants as placed_halt
 use Rattle.pp_directives.proofs.FaultTakenLemmas.{same_length, first_length}
 use Rattle.pp_directives.proofs.LineReadingLemmas.{drop_fewer}
 use Rattle.pp_directives.proofs.ShownLemmas.{line_going_on, one_past}
+use Rattle.pp_directives.proofs.FurtherLemmas.{GoesFurther, further_then}
 use Rattle.pp_directives.proofs.UnreportedLemmas.{met_none}
 use Rattle.pp_model.specs.Moves.{Effect, gives, gives_item, asks, fails, ends, passes, defines, undefines, tests, decides, renumbers, Move, passing, failing, BlockFacts, directive_move}
 use Rattle.pp_model.specs.inner.Moves.{taking_more}
@@ -171,11 +172,11 @@ either_order false false false = refl
 
 -- a directive with a fault, after its number sign, where the word was read
 module _ (rules : Rules) (text : ℕ) (earlier : Earlier) (around : List SuspendedText) (definitions : List Defined) (blocks : List OpenBlock) (has_text has_directive dead : Bool) (contents : ℕ)
-    (old mid : SourceLexed) (took : mid.rest ≡ drop 1 old.rest) (left : LineLeft) (item noted : Bool) (after : Source)
+    (old mid : SourceLexed) (took : mid.rest ≡ drop 1 old.rest) (went : GoesFurther old mid) (left : LineLeft) (item noted : Bool) (after : Source)
     (counts : left.is_directive ≡ (item || left.is_dead)) (is : noted ≡ (after.has_directive || item)) where
   left_noted : (line_offset : ℤ) (more total : ℕ) → drop more mid.rest ≡ drop total old.rest
-      → HasLeft false more (unnoted_left left) (source_of mid rules text earlier around definitions blocks line_offset has_text has_directive dead contents) after
-      → HasLeft false total left (source_of old rules text earlier around definitions blocks line_offset has_text has_directive dead contents) (record after { has_directive = noted })
+      → HasLeft more (unnoted_left left) (source_of mid rules text earlier around definitions blocks line_offset has_text has_directive dead contents) after
+      → HasLeft total left (source_of old rules text earlier around definitions blocks line_offset has_text has_directive dead contents) (record after { has_directive = noted })
   left_noted line_offset more total same h = record {
     rules = h.rules;
     text = h.text;
@@ -183,7 +184,8 @@ module _ (rules : Rules) (text : ℕ) (earlier : Earlier) (around : List Suspend
     around = h.around;
     contents = h.contents;
     has_text = h.has_text;
-    rest = λ exact. h.rest exact ∙ same;
+    rest = h.rest ∙ same;
+    further = further_then old.over mid.over after.over old.rest mid.rest after.rest went h.further;
     fewer = omega (arith, h.fewer, drop_fewer old.rest mid.rest 1 took);
     blocks = h.blocks;
     definitions = h.definitions;
@@ -194,13 +196,13 @@ module _ (rules : Rules) (text : ℕ) (earlier : Earlier) (around : List Suspend
   }
 
   pub word_fails : (line_offset : ℤ) (effect : Effect) (some more all total : ℕ) (change changed : BlockChange) → drop more mid.rest ≡ drop total old.rest → (h : PlacedHalt)
-      → Stops false (record { move = record { effect = effect; taken = some }; change = change; taken = more; left = unnoted_left left })
+      → Stops (record { move = record { effect = effect; taken = some }; change = change; taken = more; left = unnoted_left left })
       (source_of mid rules text earlier around definitions blocks line_offset has_text has_directive dead contents) h after
-      → Stops false (record { move = record { effect = effect; taken = all }; change = changed; taken = total; left = left })
+      → Stops (record { move = record { effect = effect; taken = all }; change = changed; taken = total; left = left })
       (source_of old rules text earlier around definitions blocks line_offset has_text has_directive dead contents) h (record after { has_directive = noted })
   word_fails line_offset effect some more all total change changed same (placed_halt.Fault fault) h =
       fails_after rules text earlier around definitions blocks has_text has_directive dead contents old mid line_offset fault
-      (λ from. HasLeft false more (unnoted_left left) from after) (λ from. HasLeft false total left from (record after { has_directive = noted }))
+      (λ from. HasLeft more (unnoted_left left) from after) (λ from. HasLeft total left from (record after { has_directive = noted }))
       (λ offset kept. left_noted offset more total same kept) effect h
   word_fails line_offset effect some more all total change changed same placed_halt.OutOfMemory h = tt
 
@@ -250,7 +252,7 @@ module _ (rules : Rules) (text : ℕ) (earlier : Earlier) (around : List Suspend
   bare_stops : (found : Result LexerToken Fault) → first_token hash old.rest ≡ found
       → ((after : List Seen) → (word_move rules live (facts_among blocks) found after).effect ≡ fails fault)
       → left_at rules live (facts_among blocks) (directive_sight found) (drop 1 old.rest) ≡ nothing_left
-      → Stops false (word_act rules live (facts_among blocks) hash old.rest)
+      → Stops (word_act rules live (facts_among blocks) hash old.rest)
       (source_of old rules text earlier around definitions blocks line_offset has_text has_directive dead contents) (placed_halt.Fault (placed text fault))
       (source_of mid rules text earlier around definitions blocks line_offset has_text has_directive dead contents)
   bare_stops found e refuses none =
@@ -261,8 +263,8 @@ module _ (rules : Rules) (text : ℕ) (earlier : Earlier) (around : List Suspend
       ap (λ (r : Result LexerToken Fault). (word_move rules live (facts_among blocks) r (drop 1 old.rest)).effect) e ∙ refuses (drop 1 old.rest) in
       let left : left_at rules live (facts_among blocks) (directive_sight (first_token hash old.rest)) (drop 1 old.rest) ≡ nothing_left =
       ap (λ (r : Result LexerToken Fault). left_at rules live (facts_among blocks) (directive_sight r) (drop 1 old.rest)) e ∙ none in
-      subst (λ (l : LineLeft). FailsWith (word_move rules live (facts_among blocks) (first_token hash old.rest) (drop 1 old.rest)).effect before (placed text fault) (λ from. HasLeft false taken l from behind)) (sym left)
-      (subst (λ (f : Effect). FailsWith f before (placed text fault) (λ from. HasLeft false taken nothing_left from behind)) (sym effect) (
+      subst (λ (l : LineLeft). FailsWith (word_move rules live (facts_among blocks) (first_token hash old.rest) (drop 1 old.rest)).effect before (placed text fault) (λ from. HasLeft taken l from behind)) (sym left)
+      (subst (λ (f : Effect). FailsWith f before (placed text fault) (λ from. HasLeft taken nothing_left from behind)) (sym effect) (
         refl,
         record {
           rules = refl;
@@ -271,9 +273,10 @@ module _ (rules : Rules) (text : ℕ) (earlier : Earlier) (around : List Suspend
           around = refl;
           contents = refl;
           has_text = refl;
-          rest = λ exact. bare_taken rules live (facts_among blocks) hash old.rest mid.rest fault
+          rest = bare_taken rules live (facts_among blocks) hash old.rest mid.rest fault
               (λ s items is. ap (λ (r : Result LexerToken Fault). (word_move rules live (facts_among blocks) r []).effect) (sym (ap (first_token hash) is) ∙ e) ∙ refuses [])
               took.rest shown_or_last;
+          further = took.further;
           fewer = omega (arith, drop_fewer old.rest mid.rest 1 took.rest);
           blocks = refl;
           definitions = refl;
@@ -286,7 +289,7 @@ module _ (rules : Rules) (text : ℕ) (earlier : Earlier) (around : List Suspend
 
   -- an error of the lexer that isn't passed
   pub error_stops : first_token hash old.rest ≡ Err fault → (not live && rules.passes_dead_errors) ≡ false
-      → Stops false (word_act rules live (facts_among blocks) hash old.rest)
+      → Stops (word_act rules live (facts_among blocks) hash old.rest)
       (source_of old rules text earlier around definitions blocks line_offset has_text has_directive dead contents) (placed_halt.Fault (placed text fault))
       (source_of mid rules text earlier around definitions blocks line_offset has_text has_directive dead contents)
   error_stops e given = bare_stops (Err fault) e (λ after. ap (λ (b : Bool). (if b then passing 1 else failing fault).effect) given) refl
@@ -319,15 +322,15 @@ error_noted shows note rules text earlier around definitions blocks line_offset 
 -- a directive with a fault, after its number sign
 pub named_stops : (rules : Rules) (text : ℕ) (earlier : Earlier) (around : List SuspendedText) (definitions : List Defined) (blocks : List OpenBlock)
     (line_offset : ℤ) (has_text has_directive dead : Bool) (contents : ℕ) (old mid : SourceLexed) (live : Bool) (hash : Location) (token : LexerToken) (name : Name) (item noted : Bool) (after : Source)
-    → mid.rest ≡ drop 1 old.rest → first_token hash old.rest ≡ Ok token → token.value ≡ Ident name
+    → mid.rest ≡ drop 1 old.rest → GoesFurther old mid → first_token hash old.rest ≡ Ok token → token.value ≡ Ident name
     → (line_left rules live (facts_among blocks) (directive_of name) token.location mid.rest).is_directive
     ≡ (item || (line_left rules live (facts_among blocks) (directive_of name) token.location mid.rest).is_dead)
     → noted ≡ (after.has_directive || item) → (h : PlacedHalt)
-    → Stops false (directive_act rules live (facts_among blocks) (directive_of name) token.location mid.rest)
+    → Stops (directive_act rules live (facts_among blocks) (directive_of name) token.location mid.rest)
     (source_of mid rules text earlier around definitions blocks line_offset has_text has_directive dead contents) h after
-    → Stops false (word_act rules live (facts_among blocks) hash old.rest)
+    → Stops (word_act rules live (facts_among blocks) hash old.rest)
     (source_of old rules text earlier around definitions blocks line_offset has_text has_directive dead contents) h (record after { has_directive = noted })
-named_stops rules text earlier around definitions blocks line_offset has_text has_directive dead contents old mid live hash token name item noted after took e v counts is h stops =
+named_stops rules text earlier around definitions blocks line_offset has_text has_directive dead contents old mid live hash token name item noted after took went e v counts is h stops =
     let block = facts_among blocks in
     let move = directive_move rules live block (directive_of name) token.location mid.rest in
     let left = line_left rules live block (directive_of name) token.location mid.rest in
@@ -341,9 +344,9 @@ named_stops rules text earlier around definitions blocks line_offset has_text ha
     let stays : left_at rules live block (directive_sight (first_token hash old.rest)) (drop 1 old.rest) ≡ left =
     ap (λ (found : Result LexerToken Fault). left_at rules live block (directive_sight found) (drop 1 old.rest)) first
     ∙ ap (line_left rules live block (directive_of name) token.location) (sym took) in
-    subst (λ (m : Move). Stops false (record { move = m; change = change; taken = total; left = left_at rules live block (directive_sight (first_token hash old.rest)) (drop 1 old.rest) }) before h (record after { has_directive = noted })) (sym moves)
-    (subst (λ (l : LineLeft). Stops false (record { move = taking_more 1 move; change = change; taken = total; left = l }) before h (record after { has_directive = noted })) (sym stays)
-    (word_fails rules text earlier around definitions blocks has_text has_directive dead contents old mid took left item noted after counts is line_offset move.effect move.taken _ (1 + move.taken) total (block_change (part_of (directive_of name)) token.location) change
+    subst (λ (m : Move). Stops (record { move = m; change = change; taken = total; left = left_at rules live block (directive_sight (first_token hash old.rest)) (drop 1 old.rest) }) before h (record after { has_directive = noted })) (sym moves)
+    (subst (λ (l : LineLeft). Stops (record { move = taking_more 1 move; change = change; taken = total; left = l }) before h (record after { has_directive = noted })) (sym stays)
+    (word_fails rules text earlier around definitions blocks has_text has_directive dead contents old mid took went left item noted after counts is line_offset move.effect move.taken _ (1 + move.taken) total (block_change (part_of (directive_of name)) token.location) change
     (named_taken rules live block hash old.rest mid.rest token name e v took) h stops))
 
 pub or_false : (b : Bool) → b ≡ (b || false)

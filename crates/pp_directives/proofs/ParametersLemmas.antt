@@ -1,11 +1,12 @@
 -- The parameters of a macro, from the first one on.
-use Rattle.std.proofs.Common.{◌≡◌, ◌∙◌, drop, ◌++◌, Option, Some, None, Bool, true, false, if◌then◌else◌, List, [], ◌∷◌, refl, sym, ap, subst, Result, Ok, Err}
+use Rattle.std.proofs.Common.{◌≡◌, ◌∙◌, ◌≤◌, ℕ, length, drop, ◌++◌, Option, Some, None, Bool, true, false, if◌then◌else◌, List, [], ◌∷◌, refl, sym, ap, subst, arith, Result, Ok, Err}
 use Rattle.pp_lexer.specs.Items.{Lexeme}
 use Rattle.pp_lexer.specs.Lexed.{Seen}
 use Rattle.pp_lexer.specs.declared.lexer.item.Token.{Token as LexerToken}
 use Rattle.pp_lexer.specs.declared.lexer.item.TokenValue.{TokenValue as LexerTokenValue}
 use Rattle.pp_lexer.specs.declared.lexer.item.TokenValue.TheVariants.{NewLine}
 use Rattle.pp_lexer.specs.declared.token.Location.{Location}
+use Rattle.pp_lexer.specs.declared.token.Token.{Token}
 use Rattle.pp_model.specs.Definitions.{Definition}
 use Rattle.pp_model.specs.Lines.{line_tokens, ends_line}
 use Rattle.pp_model.specs.Places.{Fault, source_text}
@@ -14,13 +15,16 @@ use Rattle.pp_model.specs.DefineLines.{Parameters, parameters, after_parameter, 
 use Rattle.pp_model.specs.Names.{Name}
 use Rattle.pp_model.specs.inner.DefineLines.{parameter_here}
 use Rattle.pp_expression.specs.Answers.{◌>>=◌}
-use Rattle.pp_macros.specs.inner.LineReading.{Meets, shown_on}
-use Rattle.pp_macros.specs.inner.ParameterReading.{parameter_end, opening_parameter, ends_parameters, one_parameter, first_parameter, some_names, alone, function_at, ShowsOnLine}
-use Rattle.pp_macros.specs.inner.SourceLexed.{SourceLexed}
+use Rattle.pp_macros.specs.inner.LineReading.{Meets, TakesItems, shown_on}
+use Rattle.pp_macros.specs.inner.ParameterReading.{parameter_end, opening_parameter, ends_parameters, one_parameter, first_parameter, some_names, alone, function_at, GoesOnInLine, ShowsOnLine}
+use Rattle.pp_macros.specs.inner.SourceLexed.{SourceLexed, unreported_at}
 use Rattle.pp_macros.specs.declared.halt.Halt.{Halt}
 use Rattle.pp_macros.specs.declared.halt.Halt.TheVariants as halt
-use Rattle.pp_directives.specs.inner.ReadingLines.{ReadsNext}
+use Rattle.pp_directives.specs.inner.ReadingLines.{ReadsNext, ReadsLine}
+use Rattle.pp_directives.proofs.FurtherLemmas.{GoesFurther, goes_then}
+use Rattle.pp_directives.proofs.LineReadingLemmas.{drop_fewer}
 use Rattle.pp_directives.proofs.ShownLemmas.{same_taken, mapped_shown, shown_then, shown_there}
+use Rattle.pp_directives.proofs.UnreportedLemmas.{reports_after}
 use Rattle.pp_macros.proofs.work.LinePartsLemmas.{parameter_here_is}
 
 -- what goes on where the parameters end, or where they don't
@@ -285,3 +289,27 @@ one_fault_shown {A} r (halt.Fault fault) word shown names start old mid new ends
     ∙ sym (comma_shown word names old.rest mid.rest (drop (shown_on (function_at word) start.rest) start.rest) ends so_far is ended at))
 one_fault_shown {A} r halt.OutOfMemory word shown names start old mid new ends fails so_far is ended at same p =
     subst (λ (x : Result A Halt). ShowsOnLine word x start new) (sym fails) tt
+
+-- a fault after some of the parameters
+pub fault_goes : {A : Type 0} (B : Type 0) (result : Result A Halt) (h : Halt) (taken shown : ℕ) (old mid new : SourceLexed) → result ≡ Err h
+    → length mid.rest ≤ length old.rest → GoesFurther old mid → TakesItems {A = B} taken shown mid (Err h) new → GoesOnInLine result old new
+fault_goes B result (halt.Fault fault) taken shown old mid new e fewer went t = rw e (record {
+  rest = omega (arith, drop_fewer mid.rest new.rest shown t.rest, fewer);
+  further = goes_then old mid new went t.further;
+  spent = t.spent;
+})
+fault_goes B result halt.OutOfMemory taken shown old mid new e fewer went t = rw e tt
+
+-- the body has a fault
+pub function_fails : {A B : Type 0} (shows : A → Definition) (shown : B → List Token) (h : Halt) (word : Location) (names : List Name)
+    (old mid new : SourceLexed) → parameters word old.rest ≡ Ok (record { names = names; after = mid.rest }) → GoesFurther old mid
+    → drop (shown_on (function_at word) old.rest) old.rest ≡ drop (shown_on line_tokens mid.rest) mid.rest → unreported_at mid ≡ unreported_at old
+    → ReadsLine shown line_tokens mid (Err h) new → ReadsLine shows (function_at word) old (Err h) new
+function_fails shows shown (halt.Fault fault) word names old mid new is went same_shown same p = record {
+  is = ap (λ r. r >>= body_of) is
+      ∙ ap (λ (r : Result (List Token) Fault). r >>= λ body. Ok (record { function_like = true; parameters = names; body = body; text = source_text })) p.is;
+  takes = record { rest = p.takes.rest ∙ sym same_shown; further = goes_then old mid new went p.takes.further; spent = p.takes.spent };
+  fault = p.fault;
+  errors = reports_after false {A = Unit {0}} (Err (halt.Fault fault)) (unreported_at old) (unreported_at mid) (unreported_at new) same p.errors;
+}
+function_fails shows shown halt.OutOfMemory word names old mid new is went same_shown same p = record { is = tt; takes = tt; fault = tt; errors = tt }

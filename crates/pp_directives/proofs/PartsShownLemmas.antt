@@ -28,6 +28,7 @@ use Rattle.pp_macros.specs.declared.halt.Halt.{Halt}
 use Rattle.pp_macros.specs.declared.halt.Halt.TheVariants as halt
 use Rattle.pp_directives.specs.inner.DefineReading.{opens_list}
 use Rattle.pp_directives.specs.inner.ReadingLines.{first_free_name, ReadsPart, ReadsNext, ReadsLine, ReadsBy}
+use Rattle.pp_directives.proofs.FurtherLemmas.{GoesFurther, goes_then}
 use Rattle.pp_directives.proofs.LineReadingLemmas.{line_tokens-next, free_is_first}
 use Rattle.pp_directives.proofs.UnreportedLemmas.{nothing_met, reports_after, same_none}
 use Rattle.pp_directives.proofs.ShownLemmas.{fails_shown, same_taken, end_taken, mapped_shown, shown_then, shown_there}
@@ -54,6 +55,7 @@ module _ {A B : Type 0} (first : List Seen → Result A Fault) (next : A → Lis
     is = ap (λ r. next_part r (drop 1 old.rest)) p.is;
     takes = record {
       rest = shown_there both_parts first next_part (λ items. refl) only old.rest new.rest (Err fault) p.is p.takes.rest p.fault;
+      further = p.takes.further;
       spent = p.takes.spent;
     };
     fault = p.fault;
@@ -278,33 +280,41 @@ name_shown word rest after first e d =
 
 -- a line whose end has a fault
 pub name_fails : {A : Type 0} (shows : A → Name) (h : Halt) (word : Location) (first : Placed) (old mid new : SourceLexed)
-    → first_name word old.rest ≡ Ok first → mid.rest ≡ drop 1 old.rest → unreported_at mid ≡ unreported_at old
+    → first_name word old.rest ≡ Ok first → mid.rest ≡ drop 1 old.rest → GoesFurther old mid → unreported_at mid ≡ unreported_at old
     → ReadsNext {A = Unit {0}} (λ t. t) (ended_line word) mid (Err h) new → ReadsLine shows (only_name word) old (Err h) new
-name_fails shows (halt.Fault fault) word first old mid new e d same p = record {
+name_fails shows (halt.Fault fault) word first old mid new e d went same p = record {
   is = ap (λ (r : Result Placed Fault). r >>= λ found. ended_line word (drop 1 old.rest) >>= λ end. Ok found.name) e
       ∙ ap (λ (r : List Seen). ended_line word r >>= λ end. Ok first.name) (sym d)
       ∙ ap (λ (r : Result (Unit {0}) Fault). r >>= λ end. Ok first.name) p.is;
-  takes = record { rest = end_shown word mid.rest new.rest fault p.is p.takes.rest p.fault ∙ sym (name_shown word old.rest mid.rest first e d); spent = p.takes.spent };
+  takes = record {
+    rest = end_shown word mid.rest new.rest fault p.is p.takes.rest p.fault ∙ sym (name_shown word old.rest mid.rest first e d);
+    further = goes_then old mid new went p.takes.further;
+    spent = p.takes.spent;
+  };
   fault = p.fault;
   errors = reports_after false {A = Unit {0}} (Err (halt.Fault fault)) (unreported_at old) (unreported_at mid) (unreported_at new) same p.errors;
 }
-name_fails shows halt.OutOfMemory word first old mid new e d same p = record { is = tt; takes = tt; fault = tt; errors = tt }
+name_fails shows halt.OutOfMemory word first old mid new e d went same p = record { is = tt; takes = tt; fault = tt; errors = tt }
 
 -- a `#define` whose definition has one
 pub define_fails : {A B : Type 0} (shows : A → Named) (shown : B → Definition) (h : Halt) (rules : Rules) (word : Location) (first : Placed)
     (old mid new : SourceLexed)
-    → first_free_name rules word old.rest ≡ Ok first → mid.rest ≡ drop 1 old.rest → unreported_at mid ≡ unreported_at old
+    → first_free_name rules word old.rest ≡ Ok first → mid.rest ≡ drop 1 old.rest → GoesFurther old mid → unreported_at mid ≡ unreported_at old
     → ReadsLine shown (definition_at word) mid (Err h) new → ReadsLine shows (defined_on rules word) old (Err h) new
-define_fails shows shown (halt.Fault fault) rules word first old mid new e d same p = record {
+define_fails shows shown (halt.Fault fault) rules word first old mid new e d went same p = record {
   is = ap (λ (r : Result Placed Fault). r >>= λ found. definition_at word (drop 1 old.rest)
       >>= λ definition. Ok (record { name = found.name; location = found.location; definition = definition })) e
       ∙ ap (λ (r : List Seen). definition_at word r >>= λ definition. Ok (record { name = first.name; location = first.location; definition = definition })) (sym d)
       ∙ ap (λ (r : Result Definition Fault). r >>= λ definition. Ok (record { name = first.name; location = first.location; definition = definition })) p.is;
-  takes = record { rest = p.takes.rest ∙ sym (define_shown rules word old.rest mid.rest first e d); spent = p.takes.spent };
+  takes = record {
+    rest = p.takes.rest ∙ sym (define_shown rules word old.rest mid.rest first e d);
+    further = goes_then old mid new went p.takes.further;
+    spent = p.takes.spent;
+  };
   fault = p.fault;
   errors = reports_after false {A = Unit {0}} (Err (halt.Fault fault)) (unreported_at old) (unreported_at mid) (unreported_at new) same p.errors;
 }
-define_fails shows shown halt.OutOfMemory rules word first old mid new e d same p = record { is = tt; takes = tt; fault = tt; errors = tt }
+define_fails shows shown halt.OutOfMemory rules word first old mid new e d went same p = record { is = tt; takes = tt; fault = tt; errors = tt }
 
 -- a line that ends here has one item left
 end_place : (word : Location) (rest : List Seen) → ended_line word rest ≡ Ok tt → drop 1 rest ≡ drop (line_length rest) rest
@@ -327,13 +337,17 @@ pub ended_by : (passes : Bool) (word : Location) (result : Result (Unit {0}) Hal
     → ReadsNext (λ t. t) (ended_line word) old result new → ReadsBy passes (endif_end live passes word) old result new
 ended_by passes word (Ok done) live old new on p = rw on (record {
   is = p.is;
-  takes = record { rest = p.takes.rest ∙ end_place word old.rest p.is; spent = p.takes.spent };
+  takes = record { rest = p.takes.rest ∙ end_place word old.rest p.is; further = p.takes.further; spent = p.takes.spent };
   fault = tt;
   errors = same_none passes (unreported_at old) (unreported_at new) p.errors;
 })
 ended_by passes word (Err (halt.Fault fault)) live old new on p = rw on (record {
   is = p.is;
-  takes = record { rest = end_shown word old.rest new.rest fault p.is p.takes.rest p.fault; spent = p.takes.spent };
+  takes = record {
+    rest = end_shown word old.rest new.rest fault p.is p.takes.rest p.fault;
+    further = p.takes.further;
+    spent = p.takes.spent;
+  };
   fault = p.fault;
   errors = p.errors;
 })
@@ -346,7 +360,7 @@ pub definition_fails : {A : Type 0} (shows : A → Definition) (h : Halt) (word 
     → ReadsLine shows (definition_at word) old (Err h) new
 definition_fails shows (halt.Fault fault) word old new is took fault_shown met = record {
   is = definition_is word old.rest ∙ ap (λ r. definition_from word r (drop 1 old.rest)) is;
-  takes = record { rest = error_taken word old.rest new.rest fault is took.rest fault_shown; spent = took.spent };
+  takes = record { rest = error_taken word old.rest new.rest fault is took.rest fault_shown; further = took.further; spent = took.spent };
   fault = fault_shown;
   errors = met;
 }
@@ -357,7 +371,7 @@ pub definition_refused : {A : Type 0} (shows : A → Definition) (h : Halt) (wor
     → Meets {A = Option Token} (λ t. t) (Err h) (line_token token) → ReadsLine shows (definition_at word) old (Err h) new
 definition_refused shows (halt.Fault fault) word token old new e took same opens is = record {
   is = definition_is word old.rest ∙ ap (λ r. definition_from word r (drop 1 old.rest)) e ∙ plain_is word token (Err fault) opens is (drop 1 old.rest);
-  takes = record { rest = refused_taken word old.rest new.rest token fault e opens is took.rest; spent = took.spent };
+  takes = record { rest = refused_taken word old.rest new.rest token fault e opens is took.rest; further = took.further; spent = took.spent };
   fault = inl (token_shown token fault is);
   errors = nothing_met fault (unreported_at old) (unreported_at new) same;
 }
@@ -382,7 +396,11 @@ definition_body_fails shows shown (halt.Fault fault) word token first old mid ne
   is = definition_is word old.rest ∙ ap (λ r. definition_from word r (drop 1 old.rest)) e ∙ plain_is word token (Ok first) opens is (drop 1 old.rest)
       ∙ ap (λ (r : List Seen). tokens_after first r >>= λ body. Ok (object_like source_text body)) (sym took.rest)
       ∙ ap (λ (r : Result (List Token) Fault). r >>= λ body. Ok (object_like source_text body)) p.is;
-  takes = record { rest = p.takes.rest ∙ sym (body_shown word old.rest mid.rest token first e opens is took.rest); spent = p.takes.spent };
+  takes = record {
+    rest = p.takes.rest ∙ sym (body_shown word old.rest mid.rest token first e opens is took.rest);
+    further = goes_then old mid new took.further p.takes.further;
+    spent = p.takes.spent;
+  };
   fault = p.fault;
   errors = reports_after false {A = Unit {0}} (Err (halt.Fault fault)) (unreported_at old) (unreported_at mid) (unreported_at new) same p.errors;
 }

@@ -22,6 +22,7 @@ use Rattle.pp_directives.specs.inner.Lined.{AreEnded, ShowErrors}
 use Rattle.pp_directives.specs.inner.PlainText.{IsStep, PausesAtNewline, PausesTimes, PassesPauses, TakesOther, TakesOthersEach}
 use Rattle.pp_directives.proofs.EndedLemmas.{ended_after}
 use Rattle.pp_directives.proofs.ErrorsShownLemmas.{shown_after}
+use Rattle.pp_directives.proofs.FurtherLemmas.{further_first}
 use Rattle.pp_directives.proofs.SourceActsLemmas.{source_of}
 use Rattle.pp_directives.proofs.SourceStepLemmas.{step_passes}
 use Rattle.pp_directives.proofs.UnreportedLemmas.{places_after, same_none}
@@ -31,6 +32,7 @@ abbrev pub sourced : Lexed → Option Location → SourceLexed
 sourced l place = record {
   rest = l.rest;
   places = l.places;
+  over = l.over;
   error_place = place;
   had_comments = l.had_comments;
   at_end = l.at_end;
@@ -68,7 +70,7 @@ others_each (suc n) l m place fresh places t =
         token = first.token;
         is = first.is;
         no_hash = first.no_hash;
-        takes = record { rest = first.after; spent = fresh };
+        takes = record { rest = first.after; further = further_first l.over l.rest; spent = fresh };
         errors = first.errors;
       },
       others_each n (after_first l) m place fresh (places_after l.rest l.places places) t.1,

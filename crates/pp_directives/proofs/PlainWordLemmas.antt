@@ -1,5 +1,5 @@
 -- A word of plain text that comes next is passed.
-use Rattle.std.proofs.Common.{◌≡◌, ◌≢◌, Some, Ok, IsTrue, drop, refl, sym, ◌∙◌, ap}
+use Rattle.std.proofs.Common.{◌≡◌, ◌≢◌, Some, Ok, IsTrue, drop, refl, sym, ◌∙◌, ap, subst}
 use Rattle.std.specs.Str.{IsAscii, chars}
 use Rattle.std.proofs.lemmas.Str.{chars-IsAscii}
 use Rattle.pp_lexer.specs.TokenValue.{is_ordinary}
@@ -22,6 +22,7 @@ use Rattle.pp_lexer.specs.declared.token.Location.{Location}
 use Rattle.pp_macros.specs.inner.LineReading.{next_token}
 use Rattle.pp_macros.specs.inner.SourceLexed.{SourceLexed, unreported_at}
 use Rattle.pp_directives.specs.inner.PlainText.{PassesBlanks, PassesWord}
+use Rattle.pp_directives.proofs.FurtherLemmas.{GoesFurther}
 
 -- the place that was noted last makes no difference
 pub next_anywhere : (l : Lexed) (place : Location) (word : PlainItem) → IsNextWord l word → IsNextWord (record l { place = place }) word
@@ -75,7 +76,11 @@ readable_ordinary (line.Token token) is = is
 pub passed_before : (old mid new : SourceLexed) (word : PlainItem) → PassesBlanks old mid → PassesWord mid word new → PassesWord old word new
 passed_before old mid new word same h = record {
   is = ap (λ l. next_token l.rest) (sym same) ∙ h.is;
-  takes = record { rest = h.takes.rest ∙ ap (λ l. drop 1 l.rest) same; spent = h.takes.spent };
+  takes = record {
+    rest = h.takes.rest ∙ ap (λ l. drop 1 l.rest) same;
+    further = subst (λ l. GoesFurther l new) same h.takes.further;
+    spent = h.takes.spent;
+  };
   errors = h.errors ∙ ap unreported_at same;
   comments = h.comments ∙ ap (λ l. comments_before l.rest l.at_end) same;
   left = h.left;

@@ -1,5 +1,5 @@
 -- What is left of a directive's line after a fault is skipped.
-use Rattle.std.proofs.Common.{◌≡◌, ◌∙◌, ◌≤◌, ℕ, Bool, true, false, if◌then◌else◌, List, length, drop, ap, refl, sym, subst, arith, length-drop, Result, Ok, Err}
+use Rattle.std.proofs.Common.{◌≡◌, ◌∙◌, ◌≤◌, ℕ, Bool, true, false, if◌then◌else◌, List, length, drop, ap, sym, subst, arith, length-drop, Result, Ok, Err}
 use Rattle.std.specs.Prelude.{MatchBool, ℤ}
 use Rattle.pp_lexer.specs.Lexed.{Seen}
 use Rattle.pp_lexer.specs.declared.rules.Rules.{Rules}
@@ -20,24 +20,23 @@ use Rattle.pp_macros.specs.inner.OpenBlocks.{facts_among, is_live_among}
 use Rattle.pp_macros.specs.inner.SourceMoves.{Note}
 use Rattle.pp_macros.specs.inner.Source.{Source, offset_from, unreported_of}
 use Rattle.pp_macros.specs.inner.Unreported.{Unreported, Reports, IsMet, IsMetOrPassed}
-use Rattle.pp_directives.specs.inner.Skipping.{LeavesLine, IsSkipped, SkipsRest}
+use Rattle.pp_directives.specs.inner.Skipping.{IsSkipped, SkipsRest}
 use Rattle.pp_directives.specs.inner.SourceActs.{LineAct, HasLeft, FailsWith, Stops, DoesAct, SkipsAfter, GivesDirective, StepsDirective, word_act}
 use Rattle.pp_directives.specs.inner.DirectiveHalts.{placed_at, result_at, shown, unplaced_halt}
 use Rattle.pp_directives.specs.declared.given.Given.{Given}
 use Rattle.pp_directives.specs.declared.directive_halt.DirectiveHalt.{DirectiveHalt}
 use Rattle.pp_directives.specs.declared.directive_halt.DirectiveHalt.TheVariants as directive_halt
+use Rattle.pp_directives.proofs.FurtherLemmas.{further_then, line_passed}
 use Rattle.pp_directives.proofs.PassedErrorsLemmas.{met_or_passed, met_then_passed}
 
 fewer_by : (over : Bool) (old : List Seen) → length (if over then old else drop (line_length old) old) ≤ length old
 fewer_by true old = omega arith
 fewer_by false old = omega (arith, length-drop (line_length old) old)
 
-line_fewer : (old new : List Seen) → LeavesLine old new → length new ≤ length old
-line_fewer old new h = omega (arith, ap length h.rest, fewer_by h.over old)
-
-skipped_keeps : (skips : Bool) (n : ℕ) (left : LineLeft) (old mid new : Source) → skips ≡ true → HasLeft false n left old mid → IsSkipped mid new → HasLeft skips n left old new
-skipped_keeps skips n left old mid new on kept skipped =
-    let fewer = line_fewer mid.rest new.rest skipped.line in
+-- the rest of a line is skipped after some of its items
+skipped_keeps : (n : ℕ) (left : LineLeft) (old mid new : Source) → old.over ≡ false → n ≤ line_length old.rest → HasLeft n left old mid → IsSkipped mid new
+    → HasLeft (line_length old.rest) left old new
+skipped_keeps n left old mid new begun within kept skipped =
     let same = skipped.others in
     record {
       rules = ap (λ (s : Source). s.rules) same ∙ kept.rules;
@@ -46,8 +45,9 @@ skipped_keeps skips n left old mid new on kept skipped =
       around = ap (λ (s : Source). s.around) same ∙ kept.around;
       contents = ap (λ (s : Source). s.contents) same ∙ kept.contents;
       has_text = ap (λ (s : Source). s.has_text) same ∙ kept.has_text;
-      rest = λ exact. let bad : true ≡ false = sym on ∙ exact in cc;
-      fewer = omega (arith, kept.fewer, fewer, ap (λ (s : Source). length s.blocks) same);
+      rest = skipped.line.rest ∙ line_passed n old.over old.rest mid.over mid.rest begun within kept.rest kept.further;
+      further = further_then old.over mid.over new.over old.rest mid.rest new.rest kept.further skipped.line.further;
+      fewer = omega (arith, kept.fewer, ap length skipped.line.rest, fewer_by mid.over mid.rest, ap (λ (s : Source). length s.blocks) same);
       blocks = ap (λ (s : Source). s.blocks) same ∙ kept.blocks;
       definitions = subst (IsUndefined left.undefined old.definitions) (sym (ap (λ (s : Source). s.definitions) same)) kept.definitions;
       line_offset = ap (λ (s : Source). s.line_offset) same ∙ kept.line_offset;
@@ -56,34 +56,18 @@ skipped_keeps skips n left old mid new on kept skipped =
       spent = ap (λ (s : Source). s.spent) same ∙ kept.spent;
     }
 
--- what was left is left if less has to be known
-still_left : (skips : Bool) (n : ℕ) (left : LineLeft) (old new : Source) → HasLeft false n left old new → HasLeft skips n left old new
-still_left skips n left old new h = record {
-  rules = h.rules;
-  text = h.text;
-  earlier = h.earlier;
-  around = h.around;
-  contents = h.contents;
-  has_text = h.has_text;
-  rest = λ exact. h.rest refl;
-  fewer = h.fewer;
-  blocks = h.blocks;
-  definitions = h.definitions;
-  line_offset = h.line_offset;
-  has_directive = h.has_directive;
-  dead_for_good = h.dead_for_good;
-  spent = h.spent;
-}
+-- how many items of a line are gone then, if the rules say that the rest of it is skipped
+abbrev pub taken_by : Bool → ℕ → List Seen → ℕ
+taken_by skips taken rest = if skips then line_length rest else taken
 
--- after a fault it is still known what was known, but for the items that are left where the rest of a line is skipped
-pub rest_keeps : (n : ℕ) (left : LineLeft) (old mid new : Source) → HasLeft false n left old mid → SkipsRest mid new
-    → HasLeft old.rules.passes_dead_errors n left old new
-rest_keeps n left old mid new kept skips = go old.rules.passes_dead_errors refl
+pub rest_keeps : (n : ℕ) (left : LineLeft) (old mid new : Source) → old.over ≡ false → n ≤ line_length old.rest → HasLeft n left old mid → SkipsRest mid new
+    → HasLeft (taken_by old.rules.passes_dead_errors n old.rest) left old new
+rest_keeps n left old mid new begun within kept skips = go old.rules.passes_dead_errors
     (subst (λ (by : Rules). MatchBool by.passes_dead_errors (IsSkipped mid new) (new ≡ mid)) kept.rules skips)
   where
-    go : (passes : Bool) → old.rules.passes_dead_errors ≡ passes → MatchBool passes (IsSkipped mid new) (new ≡ mid) → HasLeft old.rules.passes_dead_errors n left old new
-    go true e skipped = skipped_keeps old.rules.passes_dead_errors n left old mid new e kept skipped
-    go false e same = subst (HasLeft old.rules.passes_dead_errors n left old) (sym same) (still_left old.rules.passes_dead_errors n left old mid kept)
+    go : (passes : Bool) → MatchBool passes (IsSkipped mid new) (new ≡ mid) → HasLeft (taken_by passes n old.rest) left old new
+    go true skipped = skipped_keeps n left old mid new begun within kept skipped
+    go false same = subst (HasLeft n left old) (sym same) kept
 
 -- what a fault says of the source, whatever its effect is
 module _ {R : Type 0} (old : Source) (fault : PlacedFault) (P : Source → Type 0) (goes : (offset : ℤ) → P (record old { line_offset = offset }) → R) where
@@ -125,17 +109,21 @@ rest_passed fault old mid new rules met skips = go old.rules.passes_dead_errors
         met_then_passed fault skipped.errors.passed (unreported_of old) (unreported_of mid) (unreported_of new) met skipped.errors.read skipped.errors.later
     go false same = rw same (met_or_passed false fault (unreported_of old) (unreported_of mid) met)
 
--- what a directive does is the same if what is left of its line is skipped
-pub skips_move : (note : Note) (act : LineAct) (given : Result Given DirectiveHalt) (old mid new : Source)
-    → DoesAct (shown old.text) note false act old given mid → SkipsAfter (result_at old.text given) mid new
-    → DoesAct (shown old.text) note old.rules.passes_dead_errors act old given new
-skips_move note act (Ok token) old mid new does same = rw same does
-skips_move note act (Err halt) old mid new does skips = go (placed_at old.text halt) does skips
+-- what a directive does is the same if what is left of its line is skipped, but for the items that are gone
+abbrev pub skipping : Bool → List Seen → LineAct → LineAct
+skipping skips rest act = record act { taken = taken_by skips act.taken rest }
+
+pub skips_move : (note : Note) (act : LineAct) (given : Result Given DirectiveHalt) (old mid new : Source) → old.over ≡ false → act.taken ≤ line_length old.rest
+    → DoesAct (shown old.text) note act old given mid → SkipsAfter (result_at old.text given) mid new
+    → DoesAct (shown old.text) note (skipping old.rules.passes_dead_errors old.rest act) old given new
+skips_move note act (Ok token) old mid new begun within does same = rw same does
+skips_move note act (Err halt) old mid new begun within does skips = go (placed_at old.text halt) does skips
   where
-    go : (h : PlacedHalt) → Stops false act old h mid → SkipsAfter (Err h) mid new → Stops old.rules.passes_dead_errors act old h new
+    go : (h : PlacedHalt) → Stops act old h mid → SkipsAfter (Err h) mid new → Stops (skipping old.rules.passes_dead_errors old.rest act) old h new
     go (placed_halt.Fault fault) does skips =
-        fails_map old fault (λ from. HasLeft false act.taken act.left from mid) (λ from. HasLeft old.rules.passes_dead_errors act.taken act.left from new)
-        (λ offset kept. rest_keeps act.taken act.left (record old { line_offset = offset }) mid new kept skips) act.move.effect does
+        fails_map old fault (λ from. HasLeft act.taken act.left from mid)
+        (λ from. HasLeft (taken_by old.rules.passes_dead_errors act.taken old.rest) act.left from new)
+        (λ offset kept. rest_keeps act.taken act.left (record old { line_offset = offset }) mid new begun within kept skips) act.move.effect does
     go placed_halt.OutOfMemory does skips = tt
 
 -- memory ran out while it was skipped
@@ -165,9 +153,9 @@ directive_met hash old mid h fault e given = (
   placed_met old.rules.passes_dead_errors old.text h fault (unreported_of old) (unreported_of mid) e given.errors,
 )
   where
-    kept : (act : LineAct) (placed : PlacedHalt) → placed_halt.Fault fault ≡ placed → Stops false act old placed mid → mid.rules ≡ old.rules
+    kept : (act : LineAct) (placed : PlacedHalt) → placed_halt.Fault fault ≡ placed → Stops act old placed mid → mid.rules ≡ old.rules
     kept act (placed_halt.Fault found) e stops =
-        fails_give {R = mid.rules ≡ old.rules} old found (λ from. HasLeft false act.taken act.left from mid) (λ offset h. h.rules) act.move.effect stops
+        fails_give {R = mid.rules ≡ old.rules} old found (λ from. HasLeft act.taken act.left from mid) (λ offset h. h.rules) act.move.effect stops
     kept act placed_halt.OutOfMemory e stops = cc
 
 -- and memory didn't run out
@@ -176,7 +164,7 @@ pub directive_unspent : (hash : Location) (old mid : Source) (h : DirectiveHalt)
 directive_unspent hash old mid h fault e given =
     kept (word_act old.rules (is_live_among old.dead_for_good old.blocks) (facts_among old.blocks) hash old.rest) (placed_at old.text h) e given.acts
   where
-    kept : (act : LineAct) (placed : PlacedHalt) → placed_halt.Fault fault ≡ placed → Stops false act old placed mid → mid.spent ≡ false
+    kept : (act : LineAct) (placed : PlacedHalt) → placed_halt.Fault fault ≡ placed → Stops act old placed mid → mid.spent ≡ false
     kept act (placed_halt.Fault found) e stops =
-        fails_give {R = mid.spent ≡ false} old found (λ from. HasLeft false act.taken act.left from mid) (λ offset h. h.spent) act.move.effect stops
+        fails_give {R = mid.spent ≡ false} old found (λ from. HasLeft act.taken act.left from mid) (λ offset h. h.spent) act.move.effect stops
     kept act placed_halt.OutOfMemory e stops = cc

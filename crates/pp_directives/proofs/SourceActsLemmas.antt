@@ -42,6 +42,7 @@ use Rattle.pp_macros.specs.declared.halt.PlacedHalt.{PlacedHalt}
 use Rattle.pp_macros.specs.declared.halt.PlacedHalt.TheVariants as placed_halt
 use Rattle.pp_macros.specs.declared.step.PlacedExit.TheVariants.{Error, Continue, Finished}
 use Rattle.pp_directives.proofs.LineReadingLemmas.{drop_fewer}
+use Rattle.pp_directives.proofs.FurtherLemmas.{GoesFurther, further_then}
 use Rattle.pp_directives.proofs.UnreportedLemmas.{reports_after}
 
 -- an error that is known is the result
@@ -59,6 +60,7 @@ source_of l rules text earlier around definitions blocks line_offset has_text ha
       around = around;
       rest = l.rest;
       places = l.places;
+      over = l.over;
       error_place = l.error_place;
       definitions = definitions;
       blocks = blocks;
@@ -90,7 +92,7 @@ acts_failed by_rules shows (halt.Fault fault) part total taken move change kept 
     let behind = source_of new rules text earlier around later after line_offset has_text has_directive dead contents in
     let t = read.takes in
     record {
-      acts = subst (λ (e : Effect). FailsWith e before (placed text fault) (λ from. HasLeft false taken left from behind)) (sym (is fault read.is)) (
+      acts = subst (λ (e : Effect). FailsWith e before (placed text fault) (λ from. HasLeft taken left from behind)) (sym (is fault read.is)) (
         refl,
         record {
           rules = refl;
@@ -99,7 +101,8 @@ acts_failed by_rules shows (halt.Fault fault) part total taken move change kept 
           around = refl;
           contents = refl;
           has_text = refl;
-          rest = λ exact. t.rest ∙ ap (λ n. drop n old.rest) (sym same_taken);
+          rest = t.rest ∙ ap (λ n. drop n old.rest) (sym same_taken);
+          further = t.further;
           fewer = still_fewer old.rest new.rest (shown_on part old.rest) (length after) (length blocks) t.rest many few;
           blocks = opened;
           definitions = gone;
@@ -237,18 +240,19 @@ module _ (rules : Rules) (text : ℕ) (earlier : Earlier) (around : List Suspend
 -- a fault after some items, and after some before them
 module _ (rules : Rules) (text : ℕ) (earlier : Earlier) (around : List SuspendedText) (definitions : List Defined) (blocks : List OpenBlock)
     (has_text has_directive dead : Bool) (contents : ℕ) (old mid : SourceLexed) where
-  pub left_after : (line_offset : ℤ) (skips : Bool) (more total : ℕ) (left : LineLeft) (new : Source) → length mid.rest ≤ length old.rest
-      → drop more mid.rest ≡ drop total old.rest
-      → HasLeft skips more left (source_of mid rules text earlier around definitions blocks line_offset has_text has_directive dead contents) new
-      → HasLeft skips total left (source_of old rules text earlier around definitions blocks line_offset has_text has_directive dead contents) new
-  left_after line_offset skips more total left new few same h = record {
+  pub left_after : (line_offset : ℤ) (more total : ℕ) (left : LineLeft) (new : Source) → length mid.rest ≤ length old.rest
+      → drop more mid.rest ≡ drop total old.rest → GoesFurther old mid
+      → HasLeft more left (source_of mid rules text earlier around definitions blocks line_offset has_text has_directive dead contents) new
+      → HasLeft total left (source_of old rules text earlier around definitions blocks line_offset has_text has_directive dead contents) new
+  left_after line_offset more total left new few same went h = record {
     rules = h.rules;
     text = h.text;
     earlier = h.earlier;
     around = h.around;
     contents = h.contents;
     has_text = h.has_text;
-    rest = λ exact. h.rest exact ∙ same;
+    rest = h.rest ∙ same;
+    further = further_then old.over mid.over new.over old.rest mid.rest new.rest went h.further;
     fewer = omega (arith, h.fewer, few);
     blocks = h.blocks;
     definitions = h.definitions;
@@ -292,7 +296,7 @@ pub define_acts : (rules : Rules) (text : ℕ) (earlier : Earlier) (around : Lis
     (source_of old rules text earlier around definitions blocks line_offset has_text has_directive dead contents) result after
 define_acts rules text earlier around definitions blocks line_offset has_text has_directive dead contents old new word shows line result after read acts =
     record {
-      acts = subst (λ (found : Result Named Fault). DoesAct (λ done. Err Continue) unnoted false (record {
+      acts = subst (λ (found : Result Named Fault). DoesAct (λ done. Err Continue) unnoted (record {
         move = line_move found defines old.rest;
         change = unchanged;
         taken = taken;
@@ -319,17 +323,17 @@ define_acts rules text earlier around definitions blocks line_offset has_text ha
         ∙ sym (whole_taken (defined_on rules word) effect (define_persists rules word)
         (λ items. line_effect (defined_on rules word items) defines items (λ named. refl)) refl old.rest (shows line) read.is)
 
-    stops : (h : PlacedHalt) → Stops false (define_act (shows line)) between h after
-        → Stops false (record { move = record { effect = defines (shows line); taken = line_length old.rest }; change = unchanged; taken = taken; left = nothing_left }) before h after
+    stops : (h : PlacedHalt) → Stops (define_act (shows line)) between h after
+        → Stops (record { move = record { effect = defines (shows line); taken = line_length old.rest }; change = unchanged; taken = taken; left = nothing_left }) before h after
     stops (placed_halt.Fault fault) h =
         fails_after rules text earlier around definitions blocks has_text has_directive dead contents old new line_offset fault
-        (λ from. HasLeft false 0 nothing_left from after) (λ from. HasLeft false taken nothing_left from after)
-        (λ offset kept. left_after rules text earlier around definitions blocks has_text has_directive dead contents old new offset false 0 taken nothing_left after
-        (drop_fewer old.rest new.rest (line_length old.rest) read.takes.rest) taken_whole kept) (defines (shows line)) h
+        (λ from. HasLeft 0 nothing_left from after) (λ from. HasLeft taken nothing_left from after)
+        (λ offset kept. left_after rules text earlier around definitions blocks has_text has_directive dead contents old new offset 0 taken nothing_left after
+        (drop_fewer old.rest new.rest (line_length old.rest) read.takes.rest) taken_whole read.takes.further kept) (defines (shows line)) h
     stops placed_halt.OutOfMemory h = tt
 
-    does : (result : Result (Unit {0}) DirectiveHalt) → DoesAct (λ done. Err Continue) unnoted false (define_act (shows line)) between result after
-        → DoesAct (λ done. Err Continue) unnoted false (record { move = record { effect = defines (shows line); taken = line_length old.rest }; change = unchanged; taken = taken; left = nothing_left }) before result after
+    does : (result : Result (Unit {0}) DirectiveHalt) → DoesAct (λ done. Err Continue) unnoted (define_act (shows line)) between result after
+        → DoesAct (λ done. Err Continue) unnoted (record { move = record { effect = defines (shows line); taken = line_length old.rest }; change = unchanged; taken = taken; left = nothing_left }) before result after
     does (Ok done) h = effect_after rules text earlier around definitions blocks line_offset has_text has_directive dead contents old new
         (line_length old.rest) 0 (line_length old.rest) (omega arith) read.takes.rest unnoted unchanged given.Nothing after (defines (shows line)) h
     does (Err halt) h = stops (placed_at text halt) h

@@ -1,5 +1,5 @@
 -- One step of a source, from its first token.
-use Rattle.std.proofs.Common.{◌≡◌, ◌⊎◌, ℕ, suc, ◌+◌, ◌<◌, Bool, true, false, not, ◌&&◌, ◌||◌, ◌≢◌, List, [], ◌∷◌, length, take, drop, Option, Some, None, Result, Ok, Err, inl, inr, refl, sym, ◌∙◌, ap, subst, arith}
+use Rattle.std.proofs.Common.{◌≡◌, ◌⊎◌, ℕ, suc, ◌+◌, ◌<◌, ◌≤◌, Bool, true, false, not, ◌&&◌, ◌||◌, ◌≢◌, List, [], ◌∷◌, length, take, drop, Option, Some, None, Result, Ok, Err, inl, inr, refl, sym, ◌∙◌, ap, subst, arith}
 use Rattle.std.specs.Prelude.{MatchBool, if◌then◌else◌, ℤ, pos, ◌-ℤ◌}
 use Rattle.std.proofs.lemmas.List.{drop-drop}
 use Rattle.pp_lexer.specs.Items.{Lexeme}
@@ -32,7 +32,7 @@ use Rattle.pp_directives.specs.declared.given.Given.{Given}
 use Rattle.pp_directives.specs.declared.directive_halt.DirectiveHalt.{DirectiveHalt}
 use Rattle.pp_macros.specs.Halting.{exit_of, placed_halt_of}
 use Rattle.pp_macros.specs.Item.{PlacedStep}
-use Rattle.pp_macros.specs.inner.LineReading.{HasTaken, as_next, next_token}
+use Rattle.pp_macros.specs.inner.LineReading.{IsFurther, HasTaken, as_next, next_token}
 use Rattle.pp_macros.specs.inner.OpenBlocks.{facts_among, is_live_among, BlockChange, unchanged, block_change, block_change_at}
 use Rattle.pp_macros.specs.declared.blocks.OpenBlock.{OpenBlock}
 use Rattle.pp_macros.specs.inner.Source.{SuspendedText, Source, IsAfterFault, DefinesOver, faulty, unnumbered, Pauses, HasEffect, Makes, MakesMove, IsRefusedStep, StepsSource}
@@ -50,9 +50,10 @@ use Rattle.pp_macros.specs.inner.SourceMoves.{Note, unnoted, directive_line, not
 use Rattle.pp_macros.specs.declared.step.PlacedExit.TheVariants.{Error, Continue}
 use Rattle.pp_macros.specs.declared.halt.PlacedHalt.{PlacedHalt}
 use Rattle.pp_macros.specs.declared.halt.PlacedHalt.TheVariants as halt
-use Rattle.pp_directives.proofs.SkippingLemmas.{skips_move}
+use Rattle.pp_directives.proofs.FurtherLemmas.{over_first, over_last, shown_within}
+use Rattle.pp_directives.proofs.SkippingLemmas.{taken_by, skipping, skips_move}
 use Rattle.pp_directives.proofs.SourceActsLemmas.{source_of, shown_no_fault, effect_after}
-use Rattle.pp_directives.proofs.FaultTakenLemmas.{same_length, first_length}
+use Rattle.pp_directives.proofs.FaultTakenLemmas.{same_length, first_length, taken_part}
 use Rattle.pp_directives.proofs.ShownLemmas.{line_going_on, one_past}
 
 match_false : (P Q : Type 0) (b : Bool) → b ≡ false → Q → MatchBool b P Q
@@ -82,19 +83,18 @@ hash_sight token rest v s = rw (v, s) refl
 module _ (rules : Rules) (text : ℕ) (earlier : Earlier) (around : List SuspendedText) (definitions : List Defined) (blocks : List OpenBlock)
     (has_text has_directive dead : Bool) (contents : ℕ) (old mid : SourceLexed) (new : Source) (fewer : length mid.rest < length old.rest)
     (n : ℕ) (left : LineLeft)
-    (exact : takes_line rules (take (line_length old.rest) old.rest) ≡ false → rules.passes_dead_errors ≡ false)
-    (taken : takes_line rules (take (line_length old.rest) old.rest) ≡ false → drop n mid.rest ≡ drop (fault_taken rules dead blocks old.rest) old.rest)
+    (taken : drop n mid.rest ≡ drop (fault_taken rules dead blocks old.rest) old.rest)
     (stays : left_of rules dead blocks old.rest ≡ left) where
-  further : (line_offset : ℤ) → HasLeft rules.passes_dead_errors n left (source_of mid rules text earlier around definitions blocks line_offset has_text has_directive dead contents) new
+  left_after_fault : (line_offset : ℤ) → HasLeft n left (source_of mid rules text earlier around definitions blocks line_offset has_text has_directive dead contents) new
       → IsAfterFault (source_of old rules text earlier around definitions blocks line_offset has_text has_directive dead contents) new
-  further line_offset h = record {
+  left_after_fault line_offset h = record {
     rules = h.rules;
     text = h.text;
     earlier = h.earlier;
     around = h.around;
     contents = h.contents;
     has_text = h.has_text;
-    rest = λ none. h.rest (exact none) ∙ taken none;
+    rest = h.rest ∙ taken;
     fewer = omega (arith, h.fewer, fewer);
     blocks = h.blocks ∙ ap (λ (l : LineLeft). l.change None blocks) (sym stays);
     definitions = subst (λ (l : LineLeft). IsUndefined l.undefined definitions new.definitions) (sym stays) h.definitions;
@@ -106,13 +106,13 @@ module _ (rules : Rules) (text : ℕ) (earlier : Earlier) (around : List Suspend
 
   module _ (line_offset : ℤ) (fault : PlacedFault) (taken_all : ℕ) (note : Note) (change : BlockChange) where
     abbrev Left : Source → Type 0
-    Left from = HasLeft rules.passes_dead_errors n left from new
+    Left from = HasLeft n left from new
 
     redefines : (named : Named) (before : Option Definition) → RedefinesWith text named before fault
         → Left (source_of mid rules text earlier around definitions blocks line_offset has_text has_directive dead contents)
         → DefinesOver named before taken_all note (source_of old rules text earlier around definitions blocks line_offset has_text has_directive dead contents) (Err (Error fault)) new
     redefines named None h left = absurd h
-    redefines named (Some before) h left = inr (h.0, ap (λ f. Err (Error f)) h.1, further line_offset left)
+    redefines named (Some before) h left = inr (h.0, ap (λ f. Err (Error f)) h.1, left_after_fault line_offset left)
 
     pub fault_makes : (effect : Effect)
         → FailsWith effect (source_of mid rules text earlier around definitions blocks line_offset has_text has_directive dead contents) fault Left
@@ -120,17 +120,17 @@ module _ (rules : Rules) (text : ℕ) (earlier : Earlier) (around : List Suspend
     fault_makes (gives token) h = absurd h
     fault_makes (gives_item item word) h = absurd h
     fault_makes (asks line) h = absurd h
-    fault_makes (fails wanted) h = (ap (λ f. Err (Error f)) h.0, further line_offset h.1)
+    fault_makes (fails wanted) h = (ap (λ f. Err (Error f)) h.0, left_after_fault line_offset h.1)
     fault_makes ends h = absurd h
     fault_makes passes h = absurd h
     fault_makes (defines named) h = redefines (defined_in text named) (meaning_of definitions named.name) h.0 h.1
     fault_makes (undefines name) h = absurd h
     fault_makes (tests asked name) h = absurd h
-    fault_makes (decides word tokens) (found, condition, is, p) = faulty found condition (ap (λ f. Err (Error f)) is) (further line_offset p)
+    fault_makes (decides word tokens) (found, condition, is, p) = faulty found condition (ap (λ f. Err (Error f)) is) (left_after_fault line_offset p)
     fault_makes (renumbers word tokens) (found, None, number, first, is, p) =
-        unnumbered found None number first (ap (λ f. Err (Error f)) is) (further line_offset p)
+        unnumbered found None number first (ap (λ f. Err (Error f)) is) (left_after_fault line_offset p)
     fault_makes (renumbers word tokens) (found, Some k, number, first, is, p) =
-        unnumbered found (Some k) number first (ap (λ f. Err (Error f)) is) (further (pos k -ℤ pos (numbered_line rules word.line)) p)
+        unnumbered found (Some k) number first (ap (λ f. Err (Error f)) is) (left_after_fault (pos k -ℤ pos (numbered_line rules word.line)) p)
 
 -- the move after a number sign is that from it on
 module _ (rules : Rules) (live : Bool) (block : Option BlockFacts) where
@@ -170,13 +170,13 @@ module _ (rules : Rules) (dead : Bool) (blocks : List OpenBlock) (s : Seen) (tok
   line_is rest = line_going_on s rest on_line
 
   -- by GLSL's rules the line is taken
-  pub exact_hash : (rest : List Seen) → takes_line rules (take (line_length (s ∷ rest)) (s ∷ rest)) ≡ false → rules.passes_dead_errors ≡ false
-  exact_hash rest none = either rules.passes_dead_errors (is_directive_hash s.item) is_hash (sym (ap (takes_line rules) (line_is rest)) ∙ none)
+  takes_hash : (rest : List Seen) → takes_line rules (take (line_length (s ∷ rest)) (s ∷ rest)) ≡ rules.passes_dead_errors
+  takes_hash rest = ap (takes_line rules) (line_is rest) ∙ either rules.passes_dead_errors (is_directive_hash s.item) is_hash
     where
-      either : (passes found : Bool) → found ≡ true → (passes && (found || false)) ≡ false → passes ≡ false
-      either true true e h = h
-      either true false e h = cc
-      either false found e h = refl
+      either : (passes found : Bool) → found ≡ true → (passes && (found || false)) ≡ passes
+      either true true e = refl
+      either true false e = cc
+      either false found e = refl
 
   item_effect : (items : List Seen) → (move_of rules dead blocks (s ∷ items)).effect ≡ word_effect rules live (facts_among blocks) token.location items
   item_effect items =
@@ -193,10 +193,10 @@ module _ (rules : Rules) (dead : Bool) (blocks : List OpenBlock) (s : Seen) (tok
       either true = refl
       either false = refl
 
-  pub hash_taken : (rest : List Seen) → takes_line rules (take (line_length (s ∷ rest)) (s ∷ rest)) ≡ false
-      → drop (shown_length (word_effect rules live (facts_among blocks) token.location) (take (line_length rest) rest)) rest
+  pub hash_taken : (rest : List Seen)
+      → drop (taken_by rules.passes_dead_errors (shown_length (word_effect rules live (facts_among blocks) token.location) (take (line_length rest) rest)) rest) rest
       ≡ drop (fault_taken rules dead blocks (s ∷ rest)) (s ∷ rest)
-  hash_taken rest none =
+  hash_taken rest =
       let line = take (line_length rest) rest in
       let whole = take (line_length (s ∷ rest)) (s ∷ rest) in
       let effect : List Seen → Effect = λ items. (move_of rules dead blocks items).effect in
@@ -206,7 +206,23 @@ module _ (rules : Rules) (dead : Bool) (blocks : List OpenBlock) (s : Seen) (tok
       ∙ ap (λ (b : Bool). if b then 1 else 1 + shown_length (λ more. effect (s ∷ more)) line) (ap is_shown (item_effect []) ∙ alone)
       ∙ ap (λ (n : ℕ). 1 + n) (same_length (λ more. effect (s ∷ more)) words (λ more. ap is_shown (item_effect more)) line)
       ∙ one_past (shown_length words line) in
-      sym (ap (λ (b : Bool). drop (if b then length whole else shown_length effect whole) (s ∷ rest)) none ∙ ap (λ (n : ℕ). drop n (s ∷ rest)) counted)
+      let by_rules : (passes : Bool) → drop (if passes then line_length rest else shown_length words line) rest
+      ≡ drop (if passes then length whole else shown_length effect whole) (s ∷ rest) =
+      λ passes. either_taken passes (line_length rest) (shown_length words line) (length whole) (shown_length effect whole) rest
+      (sym (ap (λ (items : List Seen). drop (length items) (s ∷ rest)) (line_is rest) ∙ taken_part (line_length rest) rest))
+      (sym (ap (λ (n : ℕ). drop n (s ∷ rest)) counted)) in
+      by_rules rules.passes_dead_errors
+      ∙ ap (λ (b : Bool). drop (if b then length whole else shown_length effect whole) (s ∷ rest)) (sym (takes_hash rest))
+    where
+      either_taken : (passes : Bool) (a b m n : ℕ) (items : List Seen) → drop a items ≡ drop m (s ∷ items) → drop b items ≡ drop n (s ∷ items)
+          → drop (if passes then a else b) items ≡ drop (if passes then m else n) (s ∷ items)
+      either_taken true a b m n items e f = e
+      either_taken false a b m n items e f = f
+
+  -- and it isn't over after the number sign
+  pub hash_begins : (over : Bool) (rest : List Seen) (mid_over : Bool) (mid more : List Seen) → rest ≡ s ∷ more → mid ≡ drop 1 rest
+      → IsFurther over rest mid_over mid → mid_over ≡ false
+  hash_begins over rest mid_over mid more whole e went = over_first over rest mid_over mid s more whole e went ∙ on_line
 
 module _ (rules : Rules) (text : ℕ) (earlier : Earlier) (around : List SuspendedText) (definitions : List Defined) (blocks : List OpenBlock)
     (line_offset : ℤ) (has_text has_directive dead : Bool) (contents : ℕ) (old mid : SourceLexed) (new : Source) (taken : mid.rest ≡ drop 1 old.rest)
@@ -339,20 +355,23 @@ module _ (rules : Rules) (text : ℕ) (earlier : Earlier) (around : List Suspend
     stays = ap (λ (shown : Sight). left_at rules (is_live_among dead blocks) (facts_among blocks) shown (drop 2 old.rest)) (in_front ∙ hash_sight token mid.rest v first)
         ∙ ap (left_at rules (is_live_among dead blocks) (facts_among blocks) (directive_sight (first_token token.location mid.rest))) two_items
 
-    front_exact : takes_line rules (take (line_length old.rest) old.rest) ≡ false → rules.passes_dead_errors ≡ false
-    front_exact none =
+    front_taken : drop (taken_by rules.passes_dead_errors act.taken mid.rest) mid.rest ≡ drop (fault_taken rules dead blocks old.rest) old.rest
+    front_taken =
         let (s, is, whole) = hash_here old.rest gave in
-        exact_hash rules dead blocks s token is v first (drop 1 old.rest) (subst (λ (rest : List Seen). takes_line rules (take (line_length rest) rest) ≡ false) whole none)
-
-    front_taken : takes_line rules (take (line_length old.rest) old.rest) ≡ false
-        → drop act.taken mid.rest ≡ drop (fault_taken rules dead blocks old.rest) old.rest
-    front_taken none =
-        let (s, is, whole) = hash_here old.rest gave in
-        ap (λ (rest : List Seen). drop (shown_length (word_effect rules (is_live_among dead blocks) (facts_among blocks) token.location) (take (line_length rest) rest)) rest) took.rest
-        ∙ hash_taken rules dead blocks s token is v first (drop 1 old.rest) (subst (λ (rest : List Seen). takes_line rules (take (line_length rest) rest) ≡ false) whole none)
+        ap (λ (rest : List Seen). drop (taken_by rules.passes_dead_errors
+        (shown_length (word_effect rules (is_live_among dead blocks) (facts_among blocks) token.location) (take (line_length rest) rest)) rest) rest) took.rest
+        ∙ hash_taken rules dead blocks s token is v first (drop 1 old.rest)
         ∙ ap (λ (rest : List Seen). drop (fault_taken rules dead blocks rest) rest) (sym whole)
 
-    stops : (h : PlacedHalt) → Stops rules.passes_dead_errors act (source_of mid rules text earlier around definitions blocks line_offset has_text has_directive dead contents) h new
+    begun : mid.over ≡ false
+    begun =
+        let (s, is, whole) = hash_here old.rest gave in
+        hash_begins rules dead blocks s token is v first old.over old.rest mid.over mid.rest (drop 1 old.rest) whole took.rest took.further
+
+    within : act.taken ≤ line_length mid.rest
+    within = shown_within (word_effect rules (is_live_among dead blocks) (facts_among blocks) token.location) mid.rest
+
+    stops : (h : PlacedHalt) → Stops (skipping rules.passes_dead_errors mid.rest act) (source_of mid rules text earlier around definitions blocks line_offset has_text has_directive dead contents) h new
         → IsRefusedStep (source_of old rules text earlier around definitions blocks line_offset has_text has_directive dead contents) (Err (exit_of h))
         ⊎ Makes (note_at (is_live_among dead blocks) (directive_sight (first_token token.location mid.rest)))
         (block_change_at (directive_sight (first_token token.location mid.rest)))
@@ -365,11 +384,11 @@ module _ (rules : Rules) (text : ℕ) (earlier : Earlier) (around : List Suspend
         inr (subst (λ (e : Effect). HasEffect e move.taken note change (source_of old rules text earlier around definitions blocks line_offset has_text has_directive dead contents) (Err (Error fault)) new)
         (sym (sight_effect rules (is_live_among dead blocks) (facts_among blocks) (first_token token.location mid.rest) old.rest (drop 1 mid.rest) two_items))
         (fault_makes rules text earlier around definitions blocks has_text has_directive dead contents old mid new (fewer_after old.rest mid.rest token gave took.rest)
-        act.taken act.left front_exact front_taken stays line_offset fault move.taken note change act.move.effect h))
+        (taken_by rules.passes_dead_errors act.taken mid.rest) act.left front_taken stays line_offset fault move.taken note change act.move.effect h))
     stops halt.OutOfMemory h = inl (record { some_left = λ e. absurd (omega (arith, ap length e, fewer_after old.rest mid.rest token gave took.rest)); fault = refl })
 
     makes : (given : Result Given DirectiveHalt)
-        → DoesAct (shown text) (word_note (is_live_among dead blocks) (first_token token.location mid.rest)) rules.passes_dead_errors act
+        → DoesAct (shown text) (word_note (is_live_among dead blocks) (first_token token.location mid.rest)) (skipping rules.passes_dead_errors mid.rest act)
         (source_of mid rules text earlier around definitions blocks line_offset has_text has_directive dead contents) given new → StepsBy given
     makes (Ok given) h = inr (word_makes rules text earlier around definitions blocks line_offset has_text has_directive dead contents old mid new took.rest
         (hash_length old.rest mid.rest token gave v first took.rest some) given (is_live_among dead blocks) (facts_among blocks) (first_token token.location mid.rest) h)
@@ -379,7 +398,7 @@ module _ (rules : Rules) (text : ℕ) (earlier : Earlier) (around : List Suspend
         → StepsDirective token.location (source_of mid rules text earlier around definitions blocks line_offset has_text has_directive dead contents) step new
         → StepsSource (source_of old rules text earlier around definitions blocks line_offset has_text has_directive dead contents) step new
     step_directive step acts =
-        let made = makes acts.given (skips_move _ act acts.given (source_of mid rules text earlier around definitions blocks line_offset has_text has_directive dead contents) acts.mid new acts.gives.acts acts.skips) in
+        let made = makes acts.given (skips_move _ act acts.given (source_of mid rules text earlier around definitions blocks line_offset has_text has_directive dead contents) acts.mid new begun within acts.gives.acts acts.skips) in
         subst (λ (x : PlacedStep Token). StepsSource (source_of old rules text earlier around definitions blocks line_offset has_text has_directive dead contents) x new) (sym acts.is)
         (steps_by (step_at text acts.given) new (rw (hash_sight token mid.rest v first) made))
 
@@ -492,7 +511,7 @@ module _ (rules : Rules) (text : ℕ) (earlier : Earlier) (around : List Suspend
         around = refl;
         contents = refl;
         has_text = refl;
-        rest = λ exact. took.rest ∙ error_taken old.rest fault e given (last h);
+        rest = took.rest ∙ error_taken old.rest fault e given (last h);
         fewer = omega (arith, some);
         blocks = ap (λ (l : LineLeft). l.change None blocks) (sym none);
         definitions = subst (λ (l : LineLeft). IsUndefined l.undefined definitions definitions) (sym none) refl;
@@ -520,9 +539,9 @@ module _ (rules : Rules) (text : ℕ) (earlier : Earlier) (around : List Suspend
 
 -- the lexer gave nothing, and stands where it stood
 module _ (rules : Rules) (text : ℕ) (earlier : Earlier) (around : List SuspendedText) (definitions : List Defined) (blocks : List OpenBlock) (line_offset : ℤ) (has_text has_directive dead : Bool) (contents : ℕ) (old mid : SourceLexed) where
-  same_source : mid.rest ≡ old.rest → mid.places ≡ old.places → mid.error_place ≡ old.error_place → mid.spent ≡ old.spent
+  same_source : mid.rest ≡ old.rest → mid.over ≡ old.over → mid.places ≡ old.places → mid.error_place ≡ old.error_place → mid.spent ≡ old.spent
       → source_of mid rules text earlier around definitions blocks line_offset has_text has_directive dead contents ≡ source_of old rules text earlier around definitions blocks line_offset has_text has_directive dead contents
-  same_source rest places error_place spent = rw (rest, places, error_place, spent) refl
+  same_source rest over places error_place spent = rw (rest, over, places, error_place, spent) refl
 
   no_items : (rest : List Seen) → ◌≡◌ {A = Result (Option LexerToken) Fault} (next_token rest) (Ok None) → rest ≡ []
   no_items [] e = refl
@@ -544,4 +563,4 @@ module _ (rules : Rules) (text : ℕ) (earlier : Earlier) (around : List Suspend
       same : source_of mid rules text earlier around definitions blocks line_offset has_text has_directive dead contents ≡ source_of old rules text earlier around definitions blocks line_offset has_text has_directive dead contents
       same =
           let empty = no_items old.rest (gave ∙ ap (λ (o : Option LexerToken). Ok o) none) in
-          same_source (took.rest ∙ ap (drop 1) empty ∙ sym empty) stays.0 stays.1 (took.spent ∙ sym unspent)
+          same_source (took.rest ∙ ap (drop 1) empty ∙ sym empty) (over_last old.over old.rest mid.over mid.rest empty took.further) stays.0 stays.1 (took.spent ∙ sym unspent)

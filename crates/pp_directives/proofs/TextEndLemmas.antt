@@ -156,13 +156,13 @@ leaves_text old mid new exit steps reports left = goes_around old mid new exit s
 -- the last of the texts around is read on
 pub resumes : (rules : Rules) (text : ℕ) (earlier_text earlier_directive : Bool) (texts rest : List SuspendedText) (outer : SuspendedText)
     (definitions : List Defined) (blocks : List OpenBlock) (line_offset : ℤ) (has_text has_directive dead : Bool) (contents : ℕ) (old new : SourceLexed)
-    (l : Lexed) → old.spent ≡ false → IsReadable l → l.rest ≡ outer.rest → l.places ≡ outer.places → new ≡ reading l old.error_place
+    (l : Lexed) → old.spent ≡ false → IsReadable l → l.rest ≡ outer.rest → l.places ≡ outer.places → l.over ≡ outer.over → new ≡ reading l old.error_place
     → texts ≡ rest ++ outer ∷ []
     → LeavesText (source_of old rules text (record { text = earlier_text; directive = earlier_directive }) (reverse texts) definitions blocks line_offset
     has_text has_directive dead contents) Continue
     (source_of new rules outer.text (record { text = earlier_text || has_text; directive = earlier_directive || has_directive }) (reverse rest) definitions
     outer.blocks outer.line_offset outer.has_text outer.has_directive outer.dead_for_good contents)
 resumes rules text earlier_text earlier_directive texts rest outer definitions blocks line_offset has_text has_directive dead contents old new l unspent
-    readable items places read split =
+    readable items places over read split =
     rw read (goes_on outer (reverse rest) unspent (ap reverse split ∙ reverse-append rest (outer ∷ [])) refl
-    (rw (items, places, readable.unspent, unspent) refl))
+    (rw (items, places, over, readable.unspent, unspent) refl))

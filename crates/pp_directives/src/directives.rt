@@ -84,6 +84,7 @@ impl<'a> Model for DirectiveProcessor<'a> {
       around = reverse p.around.items;
       rest = p.lexer.rest;
       places = p.lexer.places;
+      over = p.lexer.over;
       error_place = p.lexer.error_place;
       definitions = p.definitions;
       blocks = p.blocks;

@@ -6,7 +6,6 @@ ghost use Rattle.pp_lexer.specs.Spots.{spots_of};
 ghost use Rattle.pp_lexer.specs.declared.lexer.plain.Form.TheVariants.{Hash};
 ghost use Rattle.pp_directives.specs.inner.PlainText.{IsPeeked, PassesBlanks, PassesWord, TakesWordToken};
 ghost use Rattle.pp_directives.specs.inner.PlainText.{PassesNewline, PassesWords};
-ghost use Rattle.pp_directives.specs.inner.Skipping.{IsOver};
 ghost use Rattle.pp_directives.specs.inner.Suspending.{IsReadable, IsTakenFrom, reading};
 ghost use Rattle.pp_directives.specs.inner.TokenTaking.{TakesToken};
 ghost use Rattle.pp_macros.specs.inner.SourceLexed.{beginning};
@@ -40,6 +39,7 @@ impl<'a> Model for SourceLexer<'a> {
     ghost view = { λ s. record {
       rest = s.lexer.rest;
       places = s.lexer.places;
+      over = s.lexer.over;
       error_place = s.error_place;
       had_comments = s.lexer.had_comments;
       at_end = s.lexer.at_end;
@@ -134,7 +134,7 @@ impl<'a> SourceLexer<'a> {
 
     /// Whether the line is over: the item that was read last was a newline, or none was read.
     pub fn is_line_over(&self) -> bool
-        ensures { IsOver result self.now.rest }
+        ensures { result ≡ self.now.over }
     {
         self.lexer.is_line_over()
     }

@@ -27,6 +27,7 @@ impl<'a> Model for Suspended<'a> {
       text = s.text;
       rest = s.lexer.rest;
       places = s.lexer.places;
+      over = s.lexer.over;
       blocks = s.blocks;
       line_offset = s.line_offset;
       has_text = s.has_text;

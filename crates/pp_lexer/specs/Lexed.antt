@@ -7,8 +7,9 @@ use Rattle.pp_lexer.specs.declared.token.Location.{Location}
 use Rattle.pp_lexer.specs.LexerToken.{holds_memory}
 use Rattle.pp_lexer.specs.PreprocessorError.{out_of_memory}
 use Rattle.pp_lexer.specs.Location.{nowhere}
-use Rattle.pp_lexer.specs.Items.{Lexeme, Item, items_by, comments_by, places_by}
+use Rattle.pp_lexer.specs.Items.{Lexeme, Item, is_newline, items_by, comments_by, places_by}
 use Rattle.pp_lexer.specs.Rules.{pp_rs}
+use Rattle.pp_lexer.specs.Segments as segments
 
 -- an item, and whether a comment before it was passed as a blank
 pub record Seen : Type 0 where
@@ -16,12 +17,14 @@ pub record Seen : Type 0 where
   pub had_comments : Bool
 
 -- The items to come; whether comments were passed so far, and whether any will have been at the end; whether memory ran
--- out; the place of the item given last, and the places of those to come; and the rules.
+-- out; whether the item given last ended its line, or none was given; its place, and the places of those to come; and
+-- the rules.
 pub record Lexed : Type 0 where
   pub rest : List Seen
   pub had_comments : Bool
   pub at_end : Bool
   pub spent : Bool
+  pub over : Bool
   pub place : Location
   pub places : List Location
   pub rules : Rules
@@ -37,6 +40,7 @@ start_by rules ss =
       had_comments = false;
       at_end = nat_lt 0 (comments_by rules ss);
       spent = false;
+      over = true;
       place = nowhere;
       places = places_by rules ss;
       rules = rules;
@@ -61,6 +65,16 @@ abbrev pub comments_before : List Seen → Bool → Bool
 comments_before [] at_end = at_end
 comments_before (s ∷ ss) at_end = s.had_comments
 
+-- the item is a newline
+abbrev pub is_newline_lexeme : Lexeme → Bool
+is_newline_lexeme (Ok token) = is_newline (segments.item (Ok token.value))
+is_newline_lexeme (Err fault) = false
+
+-- whether the first item to come ends its line; if there is none, whether the item given last did
+abbrev pub over_after_first : List Seen → Bool → Bool
+over_after_first [] over = over
+over_after_first (s ∷ ss) over = is_newline_lexeme s.item
+
 -- the place of the first item to come; if there is none, that of the item given last
 abbrev pub first_place : List Location → Location → Location
 first_place [] last = last
@@ -76,6 +90,7 @@ abbrev pub after_first : Lexed → Lexed
 after_first l = record l {
   rest = after_first_item l.rest;
   had_comments = comments_before l.rest l.at_end;
+  over = over_after_first l.rest l.over;
   place = first_place l.places l.place;
   places = places_after_first l.places;
 }

@@ -1,5 +1,5 @@
 -- A word of plain text that a lexer gives before memory is taken for it (docs/RULES.md, Tokens).
-use Rattle.std.specs.Prelude.{◌≡◌, ℕ, ◌-◌, Bool, true, false, List, [], ◌∷◌, length, take, Some, Ok, Err}
+use Rattle.std.specs.Prelude.{◌≡◌, ℕ, ◌-◌, Bool, true, false, List, [], ◌∷◌, length, take, Some, Ok}
 use Rattle.std.specs.Prelude.{MatchBool, pos}
 use Rattle.std.specs.Str.{IsAscii}
 use Rattle.pp_lexer.specs.declared.lexer.item.Token.{Token}
@@ -11,9 +11,7 @@ use Rattle.pp_lexer.specs.declared.lexer.plain.Form.TheVariants.{Unsigned as Uns
 use Rattle.pp_lexer.specs.declared.lexer.plain.Form.TheVariants.{SuffixedFloat as SuffixedForm, Punct as PunctForm}
 use Rattle.pp_lexer.specs.declared.lexer.plain.Form.TheVariants.{Hash as HashForm}
 use Rattle.pp_lexer.specs.declared.lexer.plain_item.PlainItem.{PlainItem}
-use Rattle.pp_lexer.specs.Items.{Lexeme, is_newline}
-use Rattle.pp_lexer.specs.Segments as segments
-use Rattle.pp_lexer.specs.Lexed.{Seen, Lexed, first_item, after_first}
+use Rattle.pp_lexer.specs.Lexed.{Seen, Lexed, first_item, after_first, is_newline_lexeme}
 
 -- a spelling without its last character
 abbrev pub without_suffix : List ℕ → List ℕ
@@ -47,11 +45,6 @@ pub record IsNextWord (l : Lexed) (word : PlainItem) : Type 0 where
 -- the same items are to come; comments before the first of them may have been passed
 abbrev pub PassesBlanks : Lexed → Lexed → Type 0
 PassesBlanks old new = new ≡ record old { had_comments = new.had_comments }
-
--- the item is a newline
-abbrev pub is_newline_lexeme : Lexeme → Bool
-is_newline_lexeme (Ok token) = is_newline (segments.item (Ok token.value))
-is_newline_lexeme (Err fault) = false
 
 -- the first item to come is a newline
 abbrev pub begins_newline : List Seen → Bool

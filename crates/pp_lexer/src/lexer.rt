@@ -12,11 +12,11 @@ ghost use Rattle.pp_lexer.specs.Spots.{spots_of};
 ghost use Rattle.pp_lexer.specs.Words.{is_blank};
 ghost use Rattle.pp_lexer.specs.Kept.{CanPass};
 ghost use Rattle.pp_lexer.specs.Lexed.{start_of, start_by, first_item, after_first_item, after_first, first_place};
-ghost use Rattle.pp_lexer.specs.Lexed.{places_after_first, IsNext};
+ghost use Rattle.pp_lexer.specs.Lexed.{places_after_first, is_newline_lexeme, IsNext};
 ghost use Rattle.pp_lexer.specs.inner.Passing.{is_newline_result, newline_seen, lexeme_seen, newline_places};
 ghost use Rattle.pp_lexer.specs.inner.Passing.{SeesSame, IsRead};
 ghost use Rattle.pp_lexer.specs.inner.AfterSpaces.{IsAfterSpaces};
-ghost use Rattle.pp_lexer.specs.PlainItems.{is_newline_lexeme, IsNextWord, PassesBlanks, PassesNewline};
+ghost use Rattle.pp_lexer.specs.PlainItems.{IsNextWord, PassesBlanks, PassesNewline};
 ghost use Rattle.pp_lexer.specs.PassedWords.{PassesOthers};
 
 use crate::rules::Rules;
@@ -462,6 +462,7 @@ impl<'a> Lexer<'a> {
     /// Returns whether the item that `next` returned last was a newline, or it returned none yet. Then the next token
     /// is the first of its line.
     pub fn is_line_over(&self) -> bool
+        ensures is { result ≡ self.now.over }
         ensures next { IfSome (first_item self.now.rest)
             (λ item. IfOk item (λ token. token.start_of_line ≡ result)) }
         ensures end { self.now.rest ≡ [] → result ≡ true }

@@ -33,6 +33,7 @@ lexed_of l = record {
   had_comments = l.had_comments;
   at_end = l.at_end;
   spent = l.spent;
+  over = l.over;
   place = nowhere;
   places = l.places;
   rules = l.rules;

@@ -24,6 +24,7 @@ use Rattle.pp_macros.specs.inner.Defined.{meaning_of}
 use Rattle.pp_macros.specs.inner.Faults.{LineLeft, nothing_left, line_left, left_at, IsUndefined}
 use Rattle.pp_macros.specs.Held.{HoldsOrdinary}
 use Rattle.pp_macros.specs.Item.{PlacedStep}
+use Rattle.pp_macros.specs.inner.LineReading.{IsFurther}
 use Rattle.pp_macros.specs.inner.Source.{Source, Condition, LineNumber, FirstNumber, offset_from, Makes}
 use Rattle.pp_macros.specs.inner.Source.{unreported_of}
 use Rattle.pp_macros.specs.inner.Unreported.{Reports}
@@ -73,16 +74,16 @@ line_act change left move rest = record {
 abbrev pub plain_act : (List Seen → Move) → List Seen → LineAct
 plain_act move rest = line_act unchanged nothing_left move rest
 
--- After a fault that took `taken` items, if this stays of its line. If `skips`, what is left of the line may be skipped
--- too. No more items and open blocks are left.
-pub record HasLeft (skips : Bool) (taken : ℕ) (left : LineLeft) (old new : Source) : Type 0 where
+-- After a fault that took `taken` items, if this stays of its line. No more items and open blocks are left.
+pub record HasLeft (taken : ℕ) (left : LineLeft) (old new : Source) : Type 0 where
   pub rules : new.rules ≡ old.rules
   pub text : new.text ≡ old.text
   pub earlier : new.earlier ≡ old.earlier
   pub around : new.around ≡ old.around
   pub contents : new.contents ≡ old.contents
   pub has_text : new.has_text ≡ old.has_text
-  pub rest : skips ≡ false → new.rest ≡ drop taken old.rest
+  pub rest : new.rest ≡ drop taken old.rest
+  pub further : IsFurther old.over old.rest new.over new.rest
   pub fewer : length new.rest + length new.blocks ≤ length old.rest + length old.blocks
   pub blocks : new.blocks ≡ left.change None old.blocks
   pub definitions : IsUndefined left.undefined old.definitions new.definitions
@@ -117,23 +118,23 @@ FailsWith (renumbers word tokens) old fault P =
 FailsWith _ old fault P = ⊥
 
 -- this is why a directive that does so gives nothing; if memory ran out, this says nothing
-abbrev pub Stops : Bool → LineAct → Source → PlacedHalt → Source → Type 0
-Stops skips act old (halt.Fault fault) new =
-    FailsWith act.move.effect old fault (λ from. HasLeft skips act.taken act.left from new)
-Stops skips act old halt.OutOfMemory new = ⊤
+abbrev pub Stops : LineAct → Source → PlacedHalt → Source → Type 0
+Stops act old (halt.Fault fault) new =
+    FailsWith act.move.effect old fault (λ from. HasLeft act.taken act.left from new)
+Stops act old halt.OutOfMemory new = ⊤
 
 -- A directive does so: with a value, the step that shows it; with a fault, that of the move's effect. If memory runs
 -- out, this says nothing.
-abbrev pub DoesAct : {A : Type 0} → (A → PlacedStep Token) → Note → Bool → LineAct → Source
+abbrev pub DoesAct : {A : Type 0} → (A → PlacedStep Token) → Note → LineAct → Source
     → Result A DirectiveHalt → Source → Type 0
-DoesAct shows note skips act old (Ok value) new = Makes note act.change act.move old (shows value) new
-DoesAct shows note skips act old (Err halt) new = Stops skips act old (placed_at old.text halt) new
+DoesAct shows note act old (Ok value) new = Makes note act.change act.move old (shows value) new
+DoesAct shows note act old (Err halt) new = Stops act old (placed_at old.text halt) new
 
 -- A directive does so; what it gives holds ordinary tokens; and an error of the lexer that it reads is reported, unless
 -- it is passed.
 pub record ActsAs {A : Type 0} (shows : A → PlacedStep Token) (note : Note) (act : LineAct) (old : Source)
     (result : Result A DirectiveHalt) (new : Source) : Type 0 where
-  pub acts : DoesAct shows note false act old result new
+  pub acts : DoesAct shows note act old result new
   pub holds : IfOk result (λ value. IfOk (shows value) (λ token. HoldsOrdinary token.value))
   pub errors : Reports old.rules.passes_dead_errors (unplaced_result result) (unreported_of old) (unreported_of new)
 

@@ -1,5 +1,5 @@
 -- The source before anything of it is read.
-use Rattle.std.specs.Prelude.{ℕ, List, [], None, false, pos}
+use Rattle.std.specs.Prelude.{ℕ, List, [], None, true, false, pos}
 use Rattle.pp_lexer.specs.Items.{places_by}
 use Rattle.pp_lexer.specs.Lexed.{start_by}
 use Rattle.pp_lexer.specs.Spots.{spots_of}
@@ -16,6 +16,7 @@ source_start rules input =
       around = [];
       rest = (start_by rules (spots_of input)).rest;
       places = places_by rules (spots_of input);
+      over = true;
       error_place = None;
       definitions = [];
       blocks = [];

@@ -23,6 +23,7 @@ abbrev pub reading : Lexed → Option Location → SourceLexed
 reading l error_place = record {
   rest = l.rest;
   places = l.places;
+  over = l.over;
   error_place = error_place;
   had_comments = l.had_comments;
   at_end = l.at_end;
@@ -34,6 +35,7 @@ reading l error_place = record {
 pub record IsTakenFrom (old : SourceLexed) (l : Lexed) : Type 0 where
   pub rest : l.rest ≡ old.rest
   pub places : l.places ≡ old.places
+  pub over : l.over ≡ old.over
   pub readable : IsReadable l
 
 -- the text that is read, as it is suspended
@@ -42,6 +44,7 @@ suspended s = record {
   text = s.text;
   rest = s.rest;
   places = s.places;
+  over = s.over;
   blocks = s.blocks;
   line_offset = s.line_offset;
   has_text = s.has_text;
@@ -57,6 +60,7 @@ including input s = record s {
   around = suspended s ∷ s.around;
   rest = (start_by s.rules (spots_of input)).rest;
   places = places_by s.rules (spots_of input);
+  over = true;
   blocks = [];
   line_offset = pos 0;
   has_text = false;

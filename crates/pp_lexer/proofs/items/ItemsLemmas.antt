@@ -112,17 +112,19 @@ start_seen rules r ss last e =
       had_comments = false;
       at_end = at_end;
       spent = false;
+      over = true;
       place = nowhere;
       places = ps;
       rules = rules;
     }) (sym (places_at_start rules ss last))
-    ∙ ap (λ xs. record { rest = xs; had_comments = false; at_end = at_end; spent = false; place = nowhere; places = places_by rules ss; rules = rules })
+    ∙ ap (λ xs. record { rest = xs; had_comments = false; at_end = at_end; spent = false; over = true; place = nowhere; places = places_by rules ss; rules = rules })
     (sym (ap (map seen) (items_at_start rules ss) ∙ items_seen (segments rules ss) [] last))
     ∙ ap (λ b. record {
       rest = map seen (items_by rules ss);
       had_comments = false;
       at_end = b;
       spent = false;
+      over = true;
       place = nowhere;
       places = places_by rules ss;
       rules = rules;

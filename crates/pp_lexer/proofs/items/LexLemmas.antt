@@ -16,25 +16,27 @@ use Rattle.pp_lexer.specs.Segments.{item}
 use Rattle.pp_lexer.specs.Words.{is_blank}
 use Rattle.pp_lexer.specs.inner.Passing.{is_newline_result, passed, lexeme_seen, newline_seen, seen_of, comments_at_end, newline_places, places_left, IsPlaced, IsLexRefused, IsLexed}
 use Rattle.pp_lexer.specs.Items.{Lexeme}
-use Rattle.pp_lexer.specs.Lexed.{first_item, after_first_item, comments_before, lexeme_takes_memory, first_takes_memory, first_place, places_after_first}
+use Rattle.pp_lexer.specs.Lexed.{first_item, after_first_item, comments_before, lexeme_takes_memory, first_takes_memory, is_newline_lexeme, over_after_first, first_place, places_after_first}
 use Rattle.pp_lexer.proofs.words.WordAtLemmas.{word_at-some}
 use Rattle.pp_lexer.proofs.items.SegmentsLemmas.{segments_none, advanced-rest}
+use Rattle.pp_lexer.proofs.items.LineStartLemmas.{none_within}
 use Rattle.pp_lexer.proofs.items.PassingLemmas.{front_first, last_same}
 
 -- what was skipped before makes no difference
 pub lexed_before : (rules : Rules) (f g h : Flags) (r p q : Reading) (answer : Result (Option Lexeme) AllocError)
     → seen_of rules g p ≡ seen_of rules f r
-    → comments_at_end rules g p ≡ comments_at_end rules f r → IsLexed rules g p answer h q → IsLexed rules f r answer h q
-lexed_before rules f g h r p q answer same at_end (inl x) = inl (record {
+    → comments_at_end rules g p ≡ comments_at_end rules f r → g.start_of_line ≡ f.start_of_line → IsLexed rules g p answer h q → IsLexed rules f r answer h q
+lexed_before rules f g h r p q answer same at_end over (inl x) = inl (record {
   value = x.value;
   needed = subst (λ xs. IsTrue (first_takes_memory xs)) same x.needed;
   comments = x.comments ∙ ap (λ xs. comments_before xs (comments_at_end rules g p)) same ∙ ap (comments_before (seen_of rules f r)) at_end;
 })
-lexed_before rules f g h r p q answer same at_end (inr x) = inr (record {
+lexed_before rules f g h r p q answer same at_end over (inr x) = inr (record {
   value = x.value ∙ ap (λ xs. Ok (first_item xs)) same;
   rest = x.rest ∙ ap after_first_item same;
   comments = x.comments ∙ ap (λ xs. comments_before xs (comments_at_end rules g p)) same ∙ ap (comments_before (seen_of rules f r)) at_end;
   at_end = x.at_end ∙ at_end;
+  over = x.over ∙ ap (λ xs. over_after_first xs g.start_of_line) same ∙ ap (over_after_first (seen_of rules f r)) over;
 })
 
 -- the items from a token or an error on
@@ -59,12 +61,17 @@ module _ (rules : Rules) (f : Flags) (last s : Spot) (ss : List Spot) (plain : i
   unfolding value after
   at_end_front = grind (arith, advanced-rest, front_first)
 
+-- an item ends its line as its value says
+newline_value : (f : Flags) (first last : Spot) (r : Answer) → is_newline_lexeme (lexeme_seen f first last r) ≡ is_newline_result r
+newline_value f first last (Ok v) = refl
+newline_value f first last (Err e) = refl
+
 front_at : (rules : Rules) (f : Flags) (ss : List Spot) (last : Spot) (q : Reading) (first : Spot) (r : Answer) → Some first ≡ first_of ss
     → MatchOption (first_of ss) ⊤ (λ s. is_blank s.c ≡ false)
     → r ≡ (word_at rules (letters ss)).value → q ≡ advanced (word_at rules (letters ss)).taken (record { rest = ss; last = last })
     → IsLexed rules f (record { rest = ss; last = last }) (Ok (Some (lexeme_seen f first q.last r))) (passed f (item r)) q
 unfolding value after
-front_at rules f ss last q first r h k e l = grind (arith, seen_front, at_end_front)
+front_at rules f ss last q first r h k e l = grind (arith, seen_front, at_end_front, newline_value)
 
 lexeme_takes : (f : Flags) (first last : Spot) (r : Answer) → lexeme_takes_memory (lexeme_seen f first last r) ≡ takes_memory r
 lexeme_takes f first last (Ok v) = refl
@@ -102,11 +109,22 @@ lexed_refused rules f r p q first e answer here plain same k h = grind (arith, r
 newline_comments : (f : Flags) (last : Spot) (b : Bool) → b ≡ f.had_comments → f.had_comments ≡ comments_before (newline_seen f last) b
 newline_comments f last b h = grind arith
 
+-- where nothing is left, the line is over
+newline_over : (f g : Flags) (last : Spot) → newline_seen g last ≡ after_first_item (newline_seen f last)
+    → g.start_of_line ≡ over_after_first (newline_seen f last) f.start_of_line
+newline_over f g last h = by f.start_of_line f.leading_whitespace f.had_comments h
+  where
+    by : (over spaced comments : Bool)
+        → newline_seen g last ≡ after_first_item (newline_seen (record { leading_whitespace = spaced; start_of_line = over; had_comments = comments }) last)
+        → g.start_of_line ≡ over_after_first (newline_seen (record { leading_whitespace = spaced; start_of_line = over; had_comments = comments }) last) over
+    by true spaced comments h = none_within g.start_of_line g.leading_whitespace g.had_comments last h
+    by false spaced comments h = none_within g.start_of_line g.leading_whitespace g.had_comments last h
+
 end_at : (rules : Rules) (f g : Flags) (ss : List Spot) (last : Spot) (answer : Option Lexeme) → None ≡ first_of ss
     → answer ≡ first_item (newline_seen f last)
     → newline_seen g last ≡ after_first_item (newline_seen f last)
     → g.had_comments ≡ f.had_comments → IsLexed rules f (record { rest = ss; last = last }) (Ok answer) g (record { rest = ss; last = last })
-end_at rules f g ss last answer h k e l = grind (arith, segments_none, newline_comments)
+end_at rules f g ss last answer h k e l = grind (arith, segments_none, newline_comments, newline_over)
 
 -- nothing is left to read
 pub lexed_end : (rules : Rules) (f g : Flags) (r p : Reading) (last : Spot) (answer : Option Lexeme) → None ≡ first_char r → p ≡ r → last ≡ p.last

@@ -29,7 +29,7 @@ first_begins (g ∷ gs) f last =
     item_begins g.kind f g (seen_from (passed f g.kind) g.last gs) (first_begins gs (passed f g.kind) g.last)
 
 -- where nothing is left, the last item ended its line
-none_within : (at_start spaced comments : Bool) (last : Spot)
+pub none_within : (at_start spaced comments : Bool) (last : Spot)
     → newline_seen (record { leading_whitespace = spaced; start_of_line = at_start; had_comments = comments }) last ≡ [] → at_start ≡ true
 none_within true spaced comments last e = refl
 none_within false spaced comments last e = cc

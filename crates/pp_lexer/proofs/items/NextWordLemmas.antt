@@ -68,7 +68,7 @@ module _ (f : Flags) (r : Reading) (place : Location) (line at n : ℕ) (text : 
     given : IsLexed rules f r (Ok (Some (Ok (token_of word)))) (flags_after f.had_comments) (reading_after word)
     given =
         let g = after_spaces spaced f in
-        lexed_before rules f g (flags_after f.had_comments) r after.there (reading_after word) _ (after.seen rules f) (after.at_end rules f)
+        lexed_before rules f g (flags_after f.had_comments) r after.there (reading_after word) _ (after.seen rules f) (after.at_end rules f) refl
         (lexed_plain rules g after.there line at text after.left.rest_is (value_of form spelling.now) n plain (reading_after word) there)
 
     placed : (old : Location) → IsPlaced rules f r old (flags_after f.had_comments) (reading_after word) word.location

@@ -43,13 +43,14 @@ begins_of [] item e h = cc
 begins_of (s ∷ ss) item e h = let same : item ≡ s.item = cc in ap is_other_lexeme (sym same) ∙ h
 
 -- states that agree in each part
-lexed_is : (l m : Lexed) → l.rest ≡ m.rest → l.had_comments ≡ m.had_comments → l.at_end ≡ m.at_end → l.spent ≡ m.spent → l.place ≡ m.place
+lexed_is : (l m : Lexed) → l.rest ≡ m.rest → l.had_comments ≡ m.had_comments → l.at_end ≡ m.at_end → l.spent ≡ m.spent → l.over ≡ m.over → l.place ≡ m.place
     → l.places ≡ m.places → l.rules ≡ m.rules → l ≡ m
-lexed_is l m rest comments at_end spent place places rules =
+lexed_is l m rest comments at_end spent over place places rules =
     ap (λ x. record l { rest = x }) rest
     ∙ ap (λ x. record l { rest = m.rest; had_comments = x }) comments
     ∙ ap (λ x. record l { rest = m.rest; had_comments = m.had_comments; at_end = x }) at_end
     ∙ ap (λ x. record l { rest = m.rest; had_comments = m.had_comments; at_end = m.at_end; spent = x }) spent
+    ∙ ap (λ x. record m { over = x; place = l.place; places = l.places; rules = l.rules }) over
     ∙ ap (λ x. record m { place = x; places = l.places; rules = l.rules }) place
     ∙ ap (λ x. record m { places = x; rules = l.rules }) places
     ∙ ap (λ x. record m { rules = x }) rules
@@ -83,7 +84,7 @@ module _ (rules : Rules) (spent : Bool) where
       let same : Some item ≡ first_item (seen_of rules f r) = let v = t.value in cc in
       record {
         begins = begins_of (seen_of rules f r) item same other;
-        after = lexed_is (lexed rules g q new spent) (after_first (lexed rules f r old spent)) t.rest t.comments t.at_end refl placed.place placed.rest refl;
+        after = lexed_is (lexed rules g q new spent) (after_first (lexed rules f r old spent)) t.rest t.comments t.at_end refl t.over placed.place placed.rest refl;
       }
 
   -- these tokens were taken, and then this text is left

@@ -16,7 +16,7 @@ use Rattle.pp_lexer.specs.Reading.{Reading}
 use Rattle.pp_lexer.specs.Segments.{Kind, blank, comment, item, Segment, segments}
 use Rattle.pp_lexer.specs.Items.{Lexeme, is_comment, is_newline, place_after, places_at}
 use Rattle.pp_lexer.specs.Lexed.{Seen, Lexed, first_item, after_first_item, comments_before, first_takes_memory}
-use Rattle.pp_lexer.specs.Lexed.{first_place, places_after_first}
+use Rattle.pp_lexer.specs.Lexed.{over_after_first, first_place, places_after_first}
 
 abbrev pub is_newline_result : Result TokenValue PreprocessorError → Bool
 is_newline_result r = is_newline (item r)
@@ -91,6 +91,7 @@ lexed rules f r place spent = record {
   had_comments = f.had_comments;
   at_end = comments_at_end rules f r;
   spent = spent;
+  over = f.start_of_line;
   place = place;
   places = places_left rules f r;
   rules = rules;
@@ -101,6 +102,7 @@ pub record SeesSame (old new : LexerState) : Type 0 where
   pub items : (rules : Rules) → seen_of rules new.flags new.inner ≡ seen_of rules old.flags old.inner
   pub at_end : (rules : Rules) → comments_at_end rules new.flags new.inner ≡ comments_at_end rules old.flags old.inner
   pub places : (rules : Rules) → places_left rules new.flags new.inner ≡ places_left rules old.flags old.inner
+  pub over : new.flags.start_of_line ≡ old.flags.start_of_line
   pub place : new.place ≡ old.place
 
 -- the place of the first item was noted, or the end was met
@@ -123,6 +125,7 @@ pub record IsLexTaken (rules : Rules) (f : Flags) (r : Reading) (g : Flags) (q :
   pub rest : seen_of rules g q ≡ after_first_item (seen_of rules f r)
   pub comments : g.had_comments ≡ comments_before (seen_of rules f r) (comments_at_end rules f r)
   pub at_end : comments_at_end rules g q ≡ comments_at_end rules f r
+  pub over : g.start_of_line ≡ over_after_first (seen_of rules f r) f.start_of_line
 
 abbrev pub IsLexed : Rules → Flags → Reading → Result (Option Lexeme) AllocError → Flags → Reading → Type 0
 IsLexed rules f r answer g q = IsLexRefused rules f r g answer ⊎ IsLexTaken rules f r g q answer

@@ -25,14 +25,27 @@ Meets shows (Ok value) wanted = wanted ≡ Ok (shows value)
 Meets shows (Err (halt.Fault fault)) wanted = wanted ≡ Err fault
 Meets shows (Err halt.OutOfMemory) wanted = ⊤
 
+-- whether the line is over after these items, if `over` says whether it was before them
+abbrev pub over_after : Bool → List Seen → Bool
+over_after over [] = over
+over_after over (s ∷ rest) = over_after (ends_line s.item) rest
+
+-- some items were taken, and the last of them says whether the line is over
+pub record IsFurther (over : Bool) (rest : List Seen) (new_over : Bool) (new_rest : List Seen) : Type 0 where
+  pub taken : ℕ
+  pub rest_is : new_rest ≡ drop taken rest
+  pub over_is : new_over ≡ over_after over (take taken rest)
+
 -- `taken` items were taken, and memory didn't run out
 pub record HasTaken (taken : ℕ) (old new : SourceLexed) : Type 0 where
   pub rest : new.rest ≡ drop taken old.rest
+  pub further : IsFurther old.over old.rest new.over new.rest
   pub spent : new.spent ≡ false
 
 -- no more items are left than before, and memory didn't run out
 pub record HasGoneOn (old new : SourceLexed) : Type 0 where
   pub rest : length new.rest ≤ length old.rest
+  pub further : IsFurther old.over old.rest new.over new.rest
   pub spent : new.spent ≡ false
 
 -- what a part of a line does, if it only has a fault or has none

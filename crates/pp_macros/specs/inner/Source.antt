@@ -1,6 +1,6 @@
 -- What the reader of a source keeps, and one step of it.
 use Rattle.std.specs.Prelude.{◌≡◌, ◌≢◌, ℕ, ◌+◌, ◌<◌, ◌⊎◌, Bool, false, not, ◌||◌, is_some, List, []}
-use Rattle.std.specs.Prelude.{length, take, drop, Option, Some, None, Result, Ok, Err, MatchBool, ℤ, pos, ◌-ℤ◌}
+use Rattle.std.specs.Prelude.{length, drop, Option, Some, None, Result, Ok, Err, MatchBool, ℤ, pos, ◌-ℤ◌}
 use Rattle.pp_lexer.specs.Lexed.{Seen}
 use Rattle.pp_lexer.specs.declared.rules.Rules.{Rules}
 use Rattle.pp_lexer.specs.declared.token.PreprocessorError.TheVariants.{DefineRedefined, UnfinishedBlock}
@@ -11,7 +11,6 @@ use Rattle.pp_model.specs.Places.{PlacedFault, asking, in_text, placed, unasked}
 use Rattle.pp_model.specs.Acts.{defined_in}
 use Rattle.pp_model.specs.Definitions.{Definition, IsSameDefinition}
 use Rattle.pp_model.specs.Emitting.{answers_at, expansion_limit}
-use Rattle.pp_model.specs.Lines.{line_length}
 use Rattle.pp_model.specs.LineValues.{IsCondition, IsLineNumber}
 use Rattle.pp_model.specs.Onward.{IsFirstNumber}
 use Rattle.pp_model.specs.Reads.{numbered_line}
@@ -20,7 +19,7 @@ use Rattle.pp_model.specs.declared.definition.Named.{Named}
 use Rattle.pp_model.specs.declared.place.Place.{Place}
 use Rattle.pp_macros.specs.Item.{PlacedStep, no_memory}
 use Rattle.pp_macros.specs.inner.Defined.{Defined, meaning_of, IsChanged}
-use Rattle.pp_macros.specs.inner.Faults.{takes_line, fault_taken, LineLeft, left_of, IsUndefined}
+use Rattle.pp_macros.specs.inner.Faults.{fault_taken, LineLeft, left_of, IsUndefined}
 use Rattle.pp_macros.specs.inner.OpenBlocks.{last_block, outer_blocks, BlockChange, block_change_at}
 use Rattle.pp_macros.specs.declared.blocks.OpenBlock.{OpenBlock}
 use Rattle.pp_model.specs.Moves.{Effect, gives, gives_item, asks, fails, ends, passes, defines, undefines, tests}
@@ -33,23 +32,25 @@ use Rattle.pp_model.specs.Numbering.{list_numbering}
 use Rattle.pp_model.specs.declared.numbering.Numbering.{Numbering}
 
 -- A text in which reading goes on once the text that it includes ends: its number, the items that are left with their
--- places, the open blocks, what `#line` adds to a line, whether a live token or a directive of it was read, and whether
--- it is dead for good.
+-- places, whether the line before them is over, the open blocks, what `#line` adds to a line, whether a live token or a
+-- directive of it was read, and whether it is dead for good.
 pub record SuspendedText : Type 0 where
   pub text : ℕ
   pub rest : List Seen
   pub places : List Location
+  pub over : Bool
   pub blocks : List OpenBlock
   pub line_offset : ℤ
   pub has_text : Bool
   pub has_directive : Bool
   pub dead_for_good : Bool
 
--- the rules by which it is read; the number of its text; the items that are left, with their places; the place of an
--- error of the lexer that was read and not reported; what is defined; the open blocks, the outermost first; what
--- `#line` adds to a line; whether memory ran out; whether a live token of the text was read so far, and whether a
--- directive was; whether an `#elif` outside of all blocks made all that follows dead; how many contents were added and
--- texts included; what was read in other texts before; and the texts around, the innermost first
+-- the rules by which it is read; the number of its text; the items that are left, with their places; whether the line
+-- before them is over; the place of an error of the lexer that was read and not reported; what is defined; the open
+-- blocks, the outermost first; what `#line` adds to a line; whether memory ran out; whether a live token of the text
+-- was read so far, and whether a directive was; whether an `#elif` outside of all blocks made all that follows dead;
+-- how many contents were added and texts included; what was read in other texts before; and the texts around, the
+-- innermost first
 pub record Source : Type 0 where
   pub rules : Rules
   pub text : ℕ
@@ -57,6 +58,7 @@ pub record Source : Type 0 where
   pub around : List SuspendedText
   pub rest : List Seen
   pub places : List Location
+  pub over : Bool
   pub error_place : Option Location
   pub definitions : List Defined
   pub blocks : List OpenBlock
@@ -85,6 +87,7 @@ resumed outer around s = record s {
   around = around;
   rest = outer.rest;
   places = outer.places;
+  over = outer.over;
   blocks = outer.blocks;
   line_offset = outer.line_offset;
   has_text = outer.has_text;
@@ -119,8 +122,7 @@ abbrev pub left_of_line : Source → LineLeft
 left_of_line s = left_of s.rules s.dead_for_good s.blocks s.rest
 
 -- After a fault of what is in front: what it took is gone as if it had never been there, but for what stays of its
--- line. How much of a directive's line GLSL's rules skip isn't said exactly: the lexer's contracts don't tell whether
--- the line is over if an error comes next. Fewer items and open blocks are left.
+-- line. Fewer items and open blocks are left.
 pub record IsAfterFault (old new : Source) : Type 0 where
   pub rules : new.rules ≡ old.rules
   pub text : new.text ≡ old.text
@@ -128,8 +130,7 @@ pub record IsAfterFault (old new : Source) : Type 0 where
   pub around : new.around ≡ old.around
   pub contents : new.contents ≡ old.contents
   pub has_text : new.has_text ≡ old.has_text
-  pub rest : takes_line old.rules (take (line_length old.rest) old.rest) ≡ false
-      → new.rest ≡ drop (fault_taken_of old) old.rest
+  pub rest : new.rest ≡ drop (fault_taken_of old) old.rest
   pub fewer : length new.rest + length new.blocks < length old.rest + length old.blocks
   pub blocks : new.blocks ≡ (left_of_line old).change None old.blocks
   pub definitions : IsUndefined (left_of_line old).undefined old.definitions new.definitions

@@ -7,11 +7,13 @@ use Rattle.pp_lexer.specs.declared.lexer.item.Token.{Token as LexerToken}
 use Rattle.pp_macros.specs.declared.halt.Halt.{Halt}
 use Rattle.pp_macros.specs.inner.Unreported.{Unreported, unreported}
 
--- the items to come, with their places; the place of an error that was read and not reported; whether comments were
--- passed so far, and whether any will have been at the end; whether memory ran out; and the rules
+-- the items to come, with their places; whether the line before them is over; the place of an error that was read and
+-- not reported; whether comments were passed so far, and whether any will have been at the end; whether memory ran out;
+-- and the rules
 pub record SourceLexed : Type 0 where
   pub rest : List Seen
   pub places : List Location
+  pub over : Bool
   pub error_place : Option Location
   pub had_comments : Bool
   pub at_end : Bool
@@ -24,6 +26,7 @@ beginning l =
     record {
       rest = l.rest;
       places = l.places;
+      over = l.over;
       error_place = None;
       had_comments = l.had_comments;
       at_end = l.at_end;

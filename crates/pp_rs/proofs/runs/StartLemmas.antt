@@ -1,5 +1,5 @@
 -- A preprocessor at the start of a source stands for the start of its run.
-use Rattle.std.proofs.Common.{◌≡◌, ℕ, List, [], None, false, refl, arith}
+use Rattle.std.proofs.Common.{◌≡◌, ℕ, List, [], None, true, false, refl, arith}
 use Rattle.std.specs.Prelude.{pos}
 use Rattle.std.proofs.lemmas.List.{append-nil}
 use Rattle.pp_lexer.specs.Location.{nowhere}
@@ -24,6 +24,7 @@ start_by rules text = record {
     around = [];
     rest = items_by rules text;
     places = places_by rules (spots_of text);
+    over = true;
     error_place = None;
     definitions = [];
     blocks = [];

@@ -14,7 +14,7 @@ returns c =
     let n = c.in_ok-name.ensures.reads in
     record {
       is = search rules;
-      takes = takes_after (Ok c.in_ok-define.define) _ _ _ _ _ _ _ c.in_ok-define.ensures.takes
+      takes = takes_after (Ok c.in_ok-define.define) _ _ _ _ _ _ _ c.in_ok-define.ensures.takes n.takes.further
           (name_place c.args.word c.args.lexer.now.rest c.free_name.new.lexer.rest _ (free_is_first c.args.rules _ _ n.is) n.takes.rest)
           (define_shown c.args.rules c.args.word c.args.lexer.now.rest c.free_name.new.lexer.rest _ n.is n.takes.rest);
       fault = tt;
@@ -35,4 +35,4 @@ returns-in_err-define c =
     let first = c.in_ok-name.ensures.reads in
     rw (e.1 ∙ ap Err e.2)
     (define_fails as_named (λ d. d) c.in_err-define.field-0.0 c.args.rules c.args.word _ c.args.lexer.now c.free_name.new.lexer c.definition.new.lexer first.is
-    first.takes.rest first.errors c.in_err-define.ensures)
+    first.takes.rest first.takes.further first.errors c.in_err-define.ensures)

@@ -22,7 +22,7 @@ returns-then-opens_parameters c =
     let n = c.in_ok-token.ensures in
     record {
       is = search rules;
-      takes = takes_after c.function_after.result _ _ _ _ _ _ _ c.function_after.ensures.takes
+      takes = takes_after c.function_after.result _ _ _ _ _ _ _ c.function_after.ensures.takes n.takes.further
           (list_place c.args.lexer.now.rest c.next_token.new.self.rest c.in_ok-token.token n.is
           (sym c.opens_parameters.ensures ∙ c.if-opens_parameters.true) n.takes.rest)
           (list_shown c.args.word c.args.lexer.now.rest c.next_token.new.self.rest c.in_ok-token.token n.is
@@ -39,7 +39,7 @@ returns c =
       is = definition_body c.args.word c.in_ok-token.token first c.args.lexer.now.rest c.next_token.new.self.rest c.read_line.new.tokens.tokens n.is
           n.takes.rest (sym c.opens_parameters.ensures ∙ c.if-opens_parameters.false) c.in_ok-first.ensures.is c.in_ok-read_line.ensures.reads.reads.is
           ∙ ap Ok (sym c.in_ok-object_like.ensures);
-      takes = takes_after (Ok c.in_ok-read_line.field-0) _ _ _ _ _ _ _ c.in_ok-read_line.ensures.reads.reads.takes
+      takes = takes_after (Ok c.in_ok-read_line.field-0) _ _ _ _ _ _ _ c.in_ok-read_line.ensures.reads.reads.takes n.takes.further
           (line_place-next c.args.lexer.now.rest first (ap (λ r. r >>= line_token) n.is ∙ c.in_ok-first.ensures.is)
           ∙ ap (λ r. drop (length_after first r) r) (sym n.takes.rest))
           (body_shown c.args.word c.args.lexer.now.rest c.next_token.new.self.rest c.in_ok-token.token first n.is

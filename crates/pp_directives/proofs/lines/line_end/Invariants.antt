@@ -4,6 +4,7 @@ use Rattle.pp_macros.specs.inner.LineReading.{passed_line, shown_on}
 use Rattle.pp_macros.specs.inner.SourceLexed.{unreported_at}
 use Rattle.pp_macros.specs.inner.Unreported.{ReportsNone}
 use Rattle.pp_directives.specs.inner.LineEnds.{passed_end}
+use Rattle.pp_directives.proofs.FurtherLemmas.{GoesFurther}
 use Rattle.pp_directives.proofs.lines.line_end.Given as goal
 
 -- what is left of the line is its end
@@ -16,6 +17,7 @@ invariant-line l = record {
   from : l.end ≡ l.initial.end;
   end : line_end l.initial.end l.lexer.rest ≡ line_end l.initial.end l.initial.lexer.rest;
   fewer : length l.lexer.rest ≤ length l.initial.lexer.rest;
+  further : GoesFurther l.initial.lexer l.lexer;
   unspent : l.lexer.spent ≡ false;
   errors : ReportsNone l.passes (unreported_at l.initial.lexer) (unreported_at l.lexer);
 }

@@ -19,4 +19,4 @@ returns-in_err-ended_line c =
     let first = c.in_ok-first.ensures.reads in
     rw (e.1 ∙ ap Err e.2)
     (name_fails (λ t. t) c.in_err-ended_line.field-0.0 c.args.word _ c.args.lexer.now c.first_name.new.lexer c.ended_line.new.lexer first.is first.takes.rest
-    first.errors c.in_err-ended_line.ensures)
+    first.takes.further first.errors c.in_err-ended_line.ensures)

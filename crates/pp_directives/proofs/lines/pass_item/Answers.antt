@@ -9,7 +9,7 @@ returns-in-Err-Fault c =
     let p = rw c.in-Err-Fault.field-0-is at c.in-Err-Fault.ensures in
     record {
       is = ap Ok (fault_goes_on c.args.lexer.now.rest c.in-Err-Fault.fault p.reads.is);
-      takes = rw c.take_error_place.ensures.others (record { rest = p.reads.takes.rest; spent = p.reads.takes.spent });
+      takes = rw c.take_error_place.ensures.others (record { rest = p.reads.takes.rest; further = p.reads.takes.further; spent = p.reads.takes.spent });
       fault = tt;
       errors = met_none c.in-Err-Fault.fault _ _ _ p.reads.errors (ap unreported_at c.take_error_place.ensures.others);
     }

@@ -4,6 +4,7 @@ use Rattle.std.proofs.lemmas.List.Elements.{All-push}
 use Rattle.pp_lexer.specs.TokenValue.{is_ordinary}
 use Rattle.pp_lexer.specs.declared.token.Token.{Token}
 use Rattle.pp_directives.proofs.CommentsAfterLemmas.{comments_more}
+use Rattle.pp_directives.proofs.FurtherLemmas.{goes_then}
 use Rattle.pp_directives.proofs.LineReadingLemmas.{whole_more, place_more, shown_more, more_fails, drop_fewer}
 use Rattle.pp_directives.proofs.PlainWordLemmas.{readable_ordinary}
 use Rattle.pp_directives.specs.inner.TokenLists.{token_of}
@@ -19,6 +20,7 @@ loop-next-preserved g c =
       place = place_more _ _ _ n.is n.takes.rest _ (rw c.in-Some.is at before.place);
       shown = shown_more _ _ _ _ _ n.is n.takes.rest (ap (option_map token_of) c.in-Some.is) ∙ before.shown;
       fewer = omega (arith, drop_fewer c.loop-next.lexer.rest c.next_line_token.new.lexer.rest 1 n.takes.rest);
+      further = goes_then c.args.lexer.now c.loop-next.lexer c.next_line_token.new.lexer before.further n.takes.further;
       unspent = n.takes.spent;
       errors = n.errors ∙ before.errors;
       read_ordinary = rw items (All-push (λ (t : Token). IsTrue (is_ordinary t.value)) _ _ before.read_ordinary
@@ -39,5 +41,5 @@ returns-in_err-next-clause-reads g c =
     let before = c.loop-next.invariant in
     rw (e.1 ∙ ap Err e.2)
     (more_fails _ (option_map token_of) c.in_err-next.field-0.0 _ _ (token_of c.in-Some.token) _ c.loop-next.lexer c.next_line_token.new.lexer _
-    (ap (option_map token_of) c.in-Some.is) before.whole before.shown before.errors
+    (ap (option_map token_of) c.in-Some.is) before.whole before.shown before.further before.errors
     c.in_err-next.ensures.reads)

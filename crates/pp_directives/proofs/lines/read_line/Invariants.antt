@@ -2,6 +2,7 @@ use Rattle.std.proofs.Common.{◌≡◌, ◌≢◌, [], false, IsTrue, All, IfSo
 use Rattle.pp_lexer.specs.TokenValue.{is_ordinary}
 use Rattle.pp_macros.specs.inner.LineReading as spec
 use Rattle.pp_macros.specs.inner.SourceLexed.{unreported_at}
+use Rattle.pp_directives.proofs.FurtherLemmas.{GoesFurther}
 use Rattle.pp_directives.proofs.LineReadingLemmas.{tokens_before, wanted_items}
 use Rattle.pp_directives.specs.inner.TokenLists.{IsReadable, token_of}
 use Rattle.pp_directives.proofs.lines.read_line.Given as goal
@@ -13,6 +14,7 @@ invariant-loop-next g l = record {
   place : drop (spec.length_after (option_map token_of l.next) l.lexer.rest) l.lexer.rest ≡ drop (spec.length_after (option_map token_of l.initial.next) l.initial.lexer.rest) l.initial.lexer.rest;
   shown : drop (spec.shown_after (option_map token_of l.next) l.lexer.rest) l.lexer.rest ≡ drop (spec.shown_after (option_map token_of l.initial.next) l.initial.lexer.rest) l.initial.lexer.rest;
   fewer : length l.lexer.rest ≤ length l.initial.lexer.rest;
+  further : GoesFurther l.initial.lexer l.lexer;
   unspent : l.lexer.spent ≡ false;
   errors : unreported_at l.lexer ≡ unreported_at l.initial.lexer;
   read_ordinary : All (λ t. IsTrue (is_ordinary t.value)) (g.T.TokenList.tokens l.tokens);

@@ -1,9 +1,11 @@
-use Rattle.std.proofs.Common.{◌∙◌, ap, refl, Err, arith}
+use Rattle.std.proofs.Common.{◌∙◌, ap, refl, Err, Bool, arith}
 use Rattle.std.proofs.lemmas.Result.{err_from_is_err_and}
+use Rattle.pp_model.specs.Names.{Name}
 use Rattle.pp_macros.specs.inner.ParameterReading.{alone}
 use Rattle.pp_macros.proofs.work.ParameterLemmas.{meets_first, meets_refused}
+use Rattle.pp_directives.proofs.FurtherLemmas.{goes_then}
 use Rattle.pp_directives.proofs.LineReadingLemmas.{drop_fewer}
-use Rattle.pp_directives.proofs.ParametersLemmas.{none_first, one_first, names_end, one_more, no_more, none_shown, first_name_shown, end_shown, more_shown, first_fault_shown, end_fault_shown, one_fault_shown}
+use Rattle.pp_directives.proofs.ParametersLemmas.{none_first, one_first, names_end, one_more, no_more, fault_goes, none_shown, first_name_shown, end_shown, more_shown, first_fault_shown, end_fault_shown, one_fault_shown}
 use Rattle.pp_directives.proofs.parameters.parameters.Goals as goal
 
 pub returns-in_err-first-clause-is : goal.returns-in_err-first-clause-is
@@ -29,6 +31,7 @@ parameters-init c =
       whole = one_first c.args.word _ _ _ c.args.lexer.now.rest _ _ e.is c.in-Some.is c.new-none.ensures c.in_ok-names.ensures e.takes.rest;
       shown = first_name_shown c.args.word _ _ _ c.args.lexer.now.rest _ _ e.is c.in-Some.is c.new-none.ensures c.in_ok-names.ensures e.takes.rest;
       fewer = omega (arith, drop_fewer c.args.lexer.now.rest c.first_parameter.new.lexer.rest 1 e.takes.rest);
+      further = e.takes.further;
       unspent = e.takes.spent;
       errors = e.errors;
     }
@@ -57,6 +60,8 @@ parameters-preserved c =
             c.ends_parameters.new.lexer.rest c.one_parameter.new.lexer.rest 1 o.takes.rest,
         before.fewer,
       );
+      further = goes_then c.args.lexer.now c.ends_parameters.new.lexer c.one_parameter.new.lexer
+          (goes_then c.args.lexer.now c.parameters.lexer c.ends_parameters.new.lexer before.further n.takes.further) o.takes.further;
       unspent = o.takes.spent;
       errors = o.errors ∙ n.errors ∙ before.errors;
     }
@@ -92,3 +97,29 @@ pub returns-clause-shown : goal.returns-clause-shown
 returns-clause-shown c =
     let n = c.in_ok-ends_parameters.ensures in
     end_shown c.args.word c.parameters.names c.parameters.lexer.rest _ _ _ c.parameters.invariant.shown n.is c.if-not-branch.false n.takes.rest
+
+pub returns-in_err-ends_parameters-clause-goes : goal.returns-in_err-ends_parameters-clause-goes
+returns-in_err-ends_parameters-clause-goes c =
+    let e = err_from_is_err_and c.from_residual-in_err-ends_parameters.result c.from_residual-in_err-ends_parameters.ensures.1 in
+    let before = c.parameters.invariant in
+    fault_goes Bool _ c.in_err-ends_parameters.field-0.0 1 1 c.args.lexer.now c.parameters.lexer c.ends_parameters.new.lexer (e.1 ∙ ap Err e.2) before.fewer
+    before.further c.in_err-ends_parameters.ensures.takes
+
+pub returns-in_err-name-clause-goes : goal.returns-in_err-name-clause-goes
+returns-in_err-name-clause-goes c =
+    let e = err_from_is_err_and c.from_residual-in_err-name.result c.from_residual-in_err-name.ensures.1 in
+    let before = c.parameters.invariant in
+    let n = c.in_ok-ends_parameters.ensures in
+    fault_goes Name _ c.in_err-name.field-0.0 1 1 c.args.lexer.now c.ends_parameters.new.lexer c.one_parameter.new.lexer (e.1 ∙ ap Err e.2)
+    (omega (arith, drop_fewer c.parameters.lexer.rest c.ends_parameters.new.lexer.rest 1 n.takes.rest, before.fewer))
+    (goes_then c.args.lexer.now c.parameters.lexer c.ends_parameters.new.lexer before.further n.takes.further) c.in_err-name.ensures.reads.takes
+
+pub returns-clause-goes : goal.returns-clause-goes
+returns-clause-goes c =
+    let before = c.parameters.invariant in
+    let n = c.in_ok-ends_parameters.ensures in
+    record {
+      rest = omega (arith, drop_fewer c.parameters.lexer.rest c.ends_parameters.new.lexer.rest 1 n.takes.rest, before.fewer);
+      further = goes_then c.args.lexer.now c.parameters.lexer c.ends_parameters.new.lexer before.further n.takes.further;
+      spent = n.takes.spent;
+    }

@@ -3,6 +3,7 @@ use Rattle.pp_model.specs.DefineLines.{parameters, after_parameter}
 use Rattle.pp_macros.specs.inner.LineReading.{shown_on}
 use Rattle.pp_macros.specs.inner.ParameterReading.{function_at}
 use Rattle.pp_macros.specs.inner.SourceLexed.{unreported_at}
+use Rattle.pp_directives.proofs.FurtherLemmas.{GoesFurther}
 use Rattle.pp_directives.proofs.ParametersLemmas.{function_from}
 use Rattle.pp_directives.proofs.parameters.parameters.Given as goal
 
@@ -13,6 +14,7 @@ invariant-parameters l = record {
   shown : drop (shown_on (function_at l.fn.word) l.fn.lexer.rest) l.fn.lexer.rest
       ≡ drop (shown_on (function_from l.fn.word l.names) l.lexer.rest) l.lexer.rest;
   fewer : length l.lexer.rest ≤ length l.fn.lexer.rest;
+  further : GoesFurther l.fn.lexer l.lexer;
   unspent : l.lexer.spent ≡ false;
   errors : unreported_at l.lexer ≡ unreported_at l.fn.lexer;
 }

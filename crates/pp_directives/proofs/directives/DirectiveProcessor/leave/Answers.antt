@@ -15,6 +15,7 @@ returns c =
       text = inner.text;
       rest = inner.lexer.rest;
       places = inner.lexer.places;
+      over = inner.lexer.over;
       blocks = inner.blocks;
       line_offset = inner.line_offset;
       has_text = inner.has_text;
@@ -24,5 +25,5 @@ returns c =
     let rest = c.pop.new.self.items in
     rw (← c.self.view_is, to_z-of_z w64 inner.line_offset fits)
     (resumes p.rules p.text p.earlier_text p.earlier_directive p.around.items rest outer p.definitions p.blocks p.line_offset p.has_text p.has_directive
-    p.dead_for_good p.contents p.lexer c.replace.new.self inner.lexer (sym c.is_spent.ensures ∙ c.if-is_spent.false) c.outer.invariant refl refl
+    p.dead_for_good p.contents p.lexer c.replace.new.self inner.lexer (sym c.is_spent.ensures ∙ c.if-is_spent.false) c.outer.invariant refl refl refl
     c.replace.ensures.after (c.in-Some.ensures.items ∙ ap (λ (t : SuspendedText). rest ++ t ∷ []) (sym c.outer.view_is)))

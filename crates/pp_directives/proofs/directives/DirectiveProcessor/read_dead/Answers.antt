@@ -42,7 +42,7 @@ returns-in_err-act_dead-in-Ident c =
     let acts = rw (c.directive_of-directive.ensures, c.in-Ident.name-is) at c.in_err-act_dead-in-Ident.ensures in
     rw (← c.self.view_is, err_result c.from_residual.result h c.from_residual.ensures.1) (record {
       acts = named_stops p.rules p.text (record { text = p.earlier_text; directive = p.earlier_directive }) (reverse p.around.items) p.definitions p.blocks p.line_offset p.has_text p.has_directive p.dead_for_good p.contents p.lexer c.first_token.new.lexer false c.args.hash c.in-Ok.token c.in-Ident.name false c.act_dead.new.self.has_directive c.act_dead.new.self
-          e.takes.rest e.is c.in-Ident.is (dead_left p.rules (facts_among p.blocks) (directive_of c.in-Ident.name) c.in-Ok.token.location c.first_token.new.lexer.rest)
+          e.takes.rest e.takes.further e.is c.in-Ident.is (dead_left p.rules (facts_among p.blocks) (directive_of c.in-Ident.name) c.in-Ok.token.location c.first_token.new.lexer.rest)
           (or_false c.act_dead.new.self.has_directive) (placed_at p.text h) acts.acts;
       holds = tt;
       errors = search rules;

@@ -38,7 +38,7 @@ returns-in-Err c =
     let after = c.self-in-Ident.inside in
     rw (← c.self.view_is) (record {
       acts = named_stops p.rules p.text (record { text = p.earlier_text; directive = p.earlier_directive }) (reverse p.around.items) p.definitions p.blocks p.line_offset p.has_text p.has_directive p.dead_for_good p.contents p.lexer c.first_token.new.lexer true c.args.hash c.in_ok-token.token c.in-Ident.name (is_item (directive_of c.in-Ident.name)) (after.has_directive || c.is_item.result) _
-          e.takes.rest e.is c.in-Ident.is (item_left p.rules (facts_among p.blocks) (directive_of c.in-Ident.name) c.in_ok-token.token.location c.first_token.new.lexer.rest)
+          e.takes.rest e.takes.further e.is c.in-Ident.is (item_left p.rules (facts_among p.blocks) (directive_of c.in-Ident.name) c.in_ok-token.token.location c.first_token.new.lexer.rest)
           (ap (λ (b : Bool). after.has_directive || b) counts) (placed_at p.text c.in-Err.halt) gives.acts;
       holds = tt;
       errors = search rules;

@@ -35,7 +35,7 @@ returns-in-Err-Fault-clause-reads c =
     rw (← c.self.view_is)
     (step_errs p.rules p.text (record { text = p.earlier_text; directive = p.earlier_directive }) (reverse p.around.items) p.definitions p.blocks p.line_offset p.has_text p.has_directive p.dead_for_good p.contents p.lexer c.take_error_place.new.self
     c.in-Err-Fault.fault unspent (ap (λ l. next_token l.rest) (sym same) ∙ e.is)
-    (rw c.take_error_place.ensures.others (record { rest = one.rest; spent = one.spent }))
+    (rw c.take_error_place.ensures.others (record { rest = one.rest; further = one.further; spent = one.spent }))
     (sym c.passes_errors.ensures ∙ c.if-passes_errors.true))
 
 pub returns-in-Err-Fault-clause-errors : goal.returns-in-Err-Fault-clause-errors

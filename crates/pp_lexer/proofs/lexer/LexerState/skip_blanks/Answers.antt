@@ -11,5 +11,6 @@ blanks-preserved c =
       items = λ rules. (b rules).same ∙ c.blanks.invariant.items rules;
       at_end = λ rules. (b rules).at_end ∙ c.blanks.invariant.at_end rules;
       places = λ rules. (b rules).places ∙ c.blanks.invariant.places rules;
+      over = c.blanks.invariant.over;
       place = c.blanks.invariant.place;
     }

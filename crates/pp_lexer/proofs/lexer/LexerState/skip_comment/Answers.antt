@@ -14,4 +14,4 @@ returns c =
     let b = λ (rules : Rules). comment_passed rules c.args.self.now.flags c.args.self.now.inner c.go.new.self c.left-left.result.line c.left-left.result.at
     c.left-left.result.text.now c.range_from.result.now c.in-Some.comment c.left-left.ensures.rest_is w c.range_from.ensures.value
     c.go.ensures in
-    record { items = λ rules. (b rules).same; at_end = λ rules. (b rules).at_end; places = λ rules. (b rules).places; place = refl }
+    record { items = λ rules. (b rules).same; at_end = λ rules. (b rules).at_end; places = λ rules. (b rules).places; over = refl; place = refl }

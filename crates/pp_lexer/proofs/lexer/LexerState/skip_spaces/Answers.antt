@@ -31,5 +31,6 @@ returns c =
       items = λ rules. spaces_same rules f r line at text e u q n some le passes there;
       at_end = λ rules. spaces_comments rules f r line at text e u q n some le passes there;
       places = λ rules. spaces_placed rules f r line at text e u q n some le passes there;
+      over = refl;
       place = refl;
     }
