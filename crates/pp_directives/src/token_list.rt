@@ -86,11 +86,7 @@ impl<'a> TokenList<'a> for Vec<Token> {
 
 // Puts the parameter or the other token that an identifier is after the others.
 #[inline(always)]
-fn push_identifier(
-    body: &mut Body,
-    alloc: Global,
-    word: PlainItem<'_>,
-) -> Result<(), AllocError>
+fn push_identifier(body: &mut Body, alloc: Global, word: PlainItem<'_>) -> Result<(), AllocError>
     requires identifier { word.form ≡ Identifier }
     requires ascii { IsAscii word.spelling.now }
     ensures { OnOk result (body.new ≡ with_token body.old (word_token word.entry)) }

@@ -13,5 +13,5 @@ pub push_other-requires-clause-other : goal.push_other-requires-clause-other
 push_other-requires-clause-other c =
     let same = ap (λ (body : BodyTokens). body.parameters) (rw c.if-branch.false at c.in_ok-push_parameter.ensures.body) in
     let value = ap (λ (token : Token). token.value)
-        (identifier_token c.args.word c.requires.identifier c.requires.ascii ∙ sym c.in_ok-word_token.ensures.word) in
+    (identifier_token c.args.word c.requires.identifier c.requires.ascii ∙ sym c.in_ok-word_token.ensures.word) in
     rw (same, ← value) (c.in_ok-push_parameter.ensures.other c.if-branch.false)
