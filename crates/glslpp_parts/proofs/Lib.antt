@@ -10,6 +10,7 @@ pub mod LongOptionsLemmas
 pub mod OptionsLemmas
 pub mod PiecesLemmas
 pub mod PredefinedLemmas
+pub mod ReadingLemmas
 pub mod ReportsLemmas
 pub mod SpelledLemmas
 pub mod TextsLemmas

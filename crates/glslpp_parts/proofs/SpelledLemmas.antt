@@ -11,7 +11,7 @@ use Rattle.pp_lexer.specs.declared.lexer.item.TokenValue.TheVariants.{NewLine, I
 use Rattle.pp_lexer.specs.declared.rules.Rules.{Rules}
 use Rattle.pp_lexer.specs.declared.token.Integer.{Integer as IntegerLiteral}
 use Rattle.pp_lexer.specs.declared.token.TokenValue.{TokenValue}
-use Rattle.pp_lexer.specs.declared.token.TokenValue.TheVariants.{Ident}
+use Rattle.pp_lexer.specs.declared.token.TokenValue.TheVariants.{Ident, Float}
 use Rattle.pp_lexer.specs.Respelling.{IsSpellableBy, IsSpelled}
 use Rattle.pp_lexer.specs.Spelling.{integer_letters, integer_literal, float_literal, spelling}
 use Rattle.pp_lexer.proofs.spelling.RespellingLemmas.{read_back}
@@ -41,3 +41,11 @@ signed_literal i e w =
 -- a float of 32 bits is its text
 pub usual_float : (text : List ℕ) (width : ℤ) → width ≡ pos 32 → float_literal text width ≡ text
 usual_float text width w = ap (float_literal text) w ∙ append-nil text
+
+-- so its text is read as the float
+pub float_read : (rules : Rules) (digits text : List ℕ) (width : ℤ) → IsUtf8 text → text ≡ digits → width ≡ pos 32
+    → IsSpellableBy rules (Float (record { text = chars digits; width = width }))
+    → IsReadAs rules (Float (record { text = chars digits; width = width })) text
+float_read rules digits text width u same w h =
+    spelled_read rules (Float (record { text = chars digits; width = width })) text u
+    (ap chars same ∙ sym (usual_float (chars digits) width w)) h

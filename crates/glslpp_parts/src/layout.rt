@@ -1,6 +1,6 @@
 //! Words on their lines.
 
-ghost use Rattle.std.specs.Prelude.{◌≡◌, ◌++◌, [], false, OnOk, IfOk, string_bytes};
+ghost use Rattle.std.specs.Prelude.{◌≡◌, ◌++◌, [], false, IsTrue, OnOk, IfOk, string_bytes};
 ghost use Rattle.std.proofs.Math.ListN.{replicate};
 ghost use Rattle.glslpp_parts.specs.Layout.{at_line, with_word, on_line, on_next_line, with_directive, with_mark};
 ghost use Rattle.glslpp_parts.specs.Layout.{finished};
@@ -75,7 +75,25 @@ impl Layout {
         if self.is_line_begun && gap == Gap::Space {
             self.text.push(' ')?;
         }
-        self.text.push_str(word)?;
+        push_text(&mut self.text, word)?;
+        self.is_line_begun = true;
+        Ok(())
+    }
+
+    /// Whether the text has come to this line, and has memory for one letter more.
+    #[inline(always)]
+    pub(crate) fn takes_letter(&self, line: u32) -> bool
+        ensures { IsTrue result → at_line self.now line ≡ self.now }
+    {
+        line <= self.line && self.text.len() < self.text.capacity()
+    }
+
+    /// Appends a word to the last line, without a gap.
+    #[inline(always)]
+    pub(crate) fn push_beside(&mut self, word: &str) -> Result<(), AllocError>
+        ensures { OnOk result (self.new ≡ with_word self.old Gap.Nothing word.now) }
+    {
+        push_text(&mut self.text, word)?;
         self.is_line_begun = true;
         Ok(())
     }
@@ -137,6 +155,18 @@ impl Layout {
         }
         Ok(self.text)
     }
+}
+
+// Appends a text. Many words have one character, for which no text is copied.
+#[inline(always)]
+fn push_text(text: &mut String, word: &str) -> Result<(), AllocError>
+    ensures { OnOk result (string_bytes text.new ≡ string_bytes text.old ++ word.now) }
+{
+    let bytes = word.as_bytes();
+    if bytes.len() == 1 && bytes[0] < 128 {
+        return text.push(bytes[0] as char);
+    }
+    text.push_str(word)
 }
 
 #[inline(never)]

@@ -1,6 +1,8 @@
 //! The output of a source, in each form.
 
-ghost use Rattle.std.specs.Prelude.{◌≡◌, ◌≢◌, ◌⊎◌, ⊤, [], true, false, None, Some, IsTrue, OnOk, IfOk, string_bytes};
+ghost use Rattle.std.specs.Prelude.{◌≡◌, ◌≢◌, ◌<◌, ◌⊎◌, ⊤, [], true, false, None, Some, IsTrue, OnOk, IfOk, pos};
+ghost use Rattle.std.specs.Prelude.{string_bytes};
+ghost use Rattle.std.specs.Fmt.{decimal};
 ghost use Rattle.std.specs.Str.{IsUtf8};
 ghost use Rattle.pp_lexer.specs.declared.token.TokenValue.TheVariants as value;
 ghost use Rattle.pp_rs.specs.TokenRefs.{token_of};
@@ -22,7 +24,7 @@ use crate::trace::Trace;
 use crate::words::{made_word, spelled_word, written_word};
 use pp_rs::pp::{SOURCE_TEXT, TokenRef, TokenSink, ValueRef};
 use pp_rs::rules::Rules;
-use pp_rs::token::{Location, NOWHERE, Punct, Token};
+use pp_rs::token::{Integer, Location, NOWHERE, Punct, Token};
 use std::alloc::{AllocError, Global};
 use std::marker::Model;
 
@@ -301,7 +303,9 @@ impl<'a> Output<'a> {
         }
     }
 
-    // A name and a punctuator are printed by their values, which is their text in the source but for continuations.
+    // A name and a punctuator are printed by their values, which is their text in the source but for continuations. So
+    // are most numbers: those that are as long in the source as the library spells them, without a letter that may be a
+    // capital there.
     #[inline(always)]
     fn push_on_its_line(&mut self, token: TokenRef<'_>) -> Result<(), AllocError>
         ensures form { self.new.form ≡ self.old.form }
@@ -316,10 +320,42 @@ impl<'a> Output<'a> {
         match token.value {
             ValueRef::Ident(name) => self.push_word(text, place, line, false, name),
             ValueRef::Punct(punct) => {
-                self.push_word(text, place, line, is_closing(punct), punct.spelling())
+                self.push_mark(text, place, line, is_closing(punct), punct.spelling())
+            }
+            ValueRef::Float(digits, 32) if is_written(digits, place) => {
+                self.push_word(text, place, line, false, digits)
+            }
+            ValueRef::Integer(integer) if is_digit(integer) && length_of(place) == 1 => {
+                self.push_word(text, place, line, false, digit(integer.value))
             }
             ValueRef::Integer(_) | ValueRef::Float(..) => self.push_number(token),
         }
+    }
+
+    // Puts a punctuator on its line. Most have one letter, and directly follow the last word on its line and in the
+    // source: those are put by a short way, without a call.
+    #[inline(never)]
+    fn push_mark(
+        &mut self,
+        text: u32,
+        place: Location,
+        line: u32,
+        is_closing: bool,
+        mark: &str,
+    ) -> Result<(), AllocError>
+        ensures form { self.new.form ≡ self.old.form }
+        ensures rules { self.new.rules ≡ self.old.rules }
+        ensures texts { self.new.texts ≡ self.old.texts }
+        ensures left_out { self.new.left_out ≡ self.old.left_out }
+        ensures puts { OnOk result (PutsText self.old text place is_closing line mark.now self.new) }
+        ensures text { IsUtf8 mark.now }
+    {
+        let is_beside = self.end == Some((text, place.start)) && self.texts.is_file(text);
+        if is_beside && mark.len() == 1 && self.layout.takes_letter(line) {
+            self.end = Some((text, place.end));
+            return self.layout.push_beside(mark);
+        }
+        self.push_word(text, place, line, is_closing, mark)
     }
 
     // Puts a word on its line. No gap is before a word that directly follows the last word in the source, nor before a
@@ -343,16 +379,14 @@ impl<'a> Output<'a> {
         if !self.texts.is_in_file(text, place) {
             return self.push_made_word(line, word);
         }
-        let start = place.start;
-        let is_beside = self.end == Some((text, start));
-        let gap = if is_beside || is_closing && !self.texts.is_after_blank(text, start) {
+        let is_beside = self.end == Some((text, place.start));
+        let gap = if is_beside || is_closing && !self.texts.is_after_blank(text, place.start) {
             Gap::Nothing
         } else {
             Gap::Space
         };
-        self.layout.push_word(line, gap, word)?;
         self.end = Some((text, place.end));
-        Ok(())
+        self.layout.push_word(line, gap, word)
     }
 
     // Puts a word on its line that isn't printed as the source has it.
@@ -595,5 +629,58 @@ fn is_closing(punct: Punct) -> bool
     match punct {
         Punct::Semicolon | Punct::Comma | Punct::RightParen | Punct::RightBracket => true,
         _ => false,
+    }
+}
+
+// How many bytes the place takes.
+#[inline(always)]
+fn length_of(place: Location) -> usize {
+    place.end.saturating_sub(place.start) as usize
+}
+
+// Whether the text of a float of 32 bits is as long in the source, and has no exponent, whose letter may be a capital
+// there.
+#[inline(always)]
+fn is_written(digits: &str, place: Location) -> bool {
+    if digits.len() != length_of(place) {
+        return false;
+    }
+    for byte in digits.as_bytes() {
+        if *byte == b'e' {
+            return false;
+        }
+    }
+    true
+}
+
+// Whether the library spells the integer by one digit.
+#[inline(always)]
+fn is_digit(integer: Integer) -> bool
+    ensures small { IsTrue result → integer.value < 10 }
+    ensures signed { IsTrue result → IsTrue integer.signed }
+    ensures width { IsTrue result → integer.width ≡ pos 32 }
+{
+    integer.value < 10 && integer.signed && integer.width == 32
+}
+
+// The digit of a number below ten.
+#[inline(always)]
+#[tactic(auto, using(std::proofs::lemmas::Fmt::decimal_digit))]
+fn digit(number: u64) -> &'static str
+    requires { number < 10 }
+    ensures text { result.now ≡ decimal number }
+    ensures ascii { IsUtf8 result.now }
+{
+    match number {
+        0 => "0",
+        1 => "1",
+        2 => "2",
+        3 => "3",
+        4 => "4",
+        5 => "5",
+        6 => "6",
+        7 => "7",
+        8 => "8",
+        _ => "9",
     }
 }

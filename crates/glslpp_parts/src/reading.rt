@@ -1,12 +1,13 @@
 //! Texts as the lexer reads them.
 
 ghost use Rattle.std.specs.Prelude.{◌≡◌, ◌-◌, ◌^◌, ◌<◌, ◌∷◌, [], ◌↔◌, IsTrue, false, length, IfOk, OnOk, MatchOption};
-ghost use Rattle.std.specs.Str.{chars};
+ghost use Rattle.std.specs.Str.{chars, IsAscii};
+ghost use Rattle.pp_lexer.specs.PlainItems.{value_of as plain_value};
 ghost use Rattle.pp_lexer.specs.Respelling.{lexer_value};
 ghost use Rattle.pp_rs.specs.TokenRefs.{value_of};
 ghost use Rattle.glslpp_parts.specs.Reading.{values_ahead, IsReadAs};
 
-use pp_rs::lexer::{Lexer, TokenValue as Word};
+use pp_rs::lexer::{Form, Lexer, PlainItem, TokenValue as Word, without_suffix};
 use pp_rs::pp::ValueRef;
 use pp_rs::rules::Rules;
 use pp_rs::token::{Float, PreprocessorError, Text};
@@ -30,8 +31,26 @@ pub(crate) fn read_next(lexer: &mut Lexer<'_>) -> Result<Option<Read>, AllocErro
     }
 }
 
-/// Whether the text, read again by these rules, is one token of this value.
+/// Whether the text, read again by these rules, is one token of this value. For most texts no memory is taken.
 pub(crate) fn is_read_as(
+    alloc: Global,
+    rules: Rules,
+    text: &str,
+    value: ValueRef<'_>,
+) -> Result<bool, AllocError>
+    requires { length text.now < 2 ^ 32 - 1 }
+    ensures { IfOk result (λ is. IsTrue is ↔ IsReadAs rules (value_of value.entry) text.now) }
+{
+    let mut lexer = Lexer::with_rules(alloc, text, rules);
+    match lexer.peek_word() {
+        Some(word) if word.rest.is_empty() => Ok(is_word_of(&word, value)),
+        _ => are_items_of(alloc, rules, text, value),
+    }
+}
+
+// Whether the items of the text are one token of this value, and the newline after it.
+#[inline(never)]
+fn are_items_of(
     alloc: Global,
     rules: Rules,
     text: &str,
@@ -51,6 +70,36 @@ pub(crate) fn is_read_as(
         return Ok(false);
     };
     Ok(read_next(&mut lexer)?.is_none())
+}
+
+// Whether the value of the word is this one.
+fn is_word_of(word: &PlainItem<'_>, value: ValueRef<'_>) -> bool
+    requires { IsAscii word.now.spelling.now }
+    ensures { IsTrue result ↔ (plain_value word.now.form word.now.spelling.now ≡ lexer_value (value_of value.entry)) }
+{
+    match (word.form, value) {
+        (Form::Identifier, ValueRef::Ident(name)) => is_ascii_text(word.spelling, name),
+        (Form::Integer(number), ValueRef::Integer(integer)) => {
+            integer.signed && integer.width == 32 && integer.value == number
+        }
+        (Form::Unsigned(number), ValueRef::Integer(integer)) => {
+            !integer.signed && integer.width == 32 && integer.value == number
+        }
+        (Form::Float, ValueRef::Float(text, 32)) => is_ascii_text(word.spelling, text),
+        (Form::SuffixedFloat, ValueRef::Float(text, 32)) => {
+            is_ascii_text(without_suffix(word.spelling), text)
+        }
+        (Form::Punct(a), ValueRef::Punct(b)) => a == b,
+        _ => false,
+    }
+}
+
+// Whether the text is this one of ASCII characters.
+fn is_ascii_text(ascii: &str, text: &str) -> bool
+    requires { IsAscii ascii.now }
+    ensures { IsTrue result ↔ (ascii.now ≡ chars text.now) }
+{
+    ascii == text
 }
 
 // Whether the lexer's value is this one.
