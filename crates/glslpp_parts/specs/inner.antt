@@ -1,3 +1,4 @@
 pub mod Added
 pub mod Adding
 pub mod Cutting
+pub mod Taking

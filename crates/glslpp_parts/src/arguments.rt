@@ -178,10 +178,10 @@ fn with_value_options<'a>(alloc: Global, command: Command<'a>) -> Result<Command
     ensures { IfOk result (λ new. options_of new ≡ options_of command.entry ++ value_options) }
 {
     let define = definition_option(alloc, "define", 'D', "NAME[=CONTENT]", DEFINE_HELP);
-    let undefine = definition_option(alloc, "undefine", 'U', "NAME", UNDEFINE_HELP);
-    let output = value_option(alloc, "output", 'o', "FILE", OUTPUT_HELP);
     let first = with_option(command, DEFINITIONS, define)?;
+    let undefine = definition_option(alloc, "undefine", 'U', "NAME", UNDEFINE_HELP);
     let second = with_option(first, DEFINITIONS, undefine)?;
+    let output = value_option(alloc, "output", 'o', "FILE", OUTPUT_HELP);
     let third = with_option(second, OUTPUT, output)?;
     Ok(third)
 }
@@ -191,10 +191,10 @@ fn with_language_options<'a>(alloc: Global, command: Command<'a>) -> Result<Comm
     ensures { IfOk result (λ new. options_of new ≡ options_of command.entry ++ language_options) }
 {
     let rules = rules_option(alloc);
-    let standard = long_option(alloc, "std", "VERSION", STANDARD_HELP);
-    let extension = extension_option(alloc);
     let first = with_option(command, LANGUAGE, rules)?;
+    let standard = long_option(alloc, "std", "VERSION", STANDARD_HELP);
     let second = with_option(first, LANGUAGE, standard)?;
+    let extension = extension_option(alloc);
     let third = with_option(second, DEFINITIONS, extension)?;
     Ok(third)
 }
@@ -240,12 +240,12 @@ fn with_forms<'a>(alloc: Global, command: Command<'a>) -> Result<Command<'a>, Al
     ensures { IfOk result (λ new. options_of new ≡ options_of command.entry ++ forms) }
 {
     let compact = compact_flag(alloc)?;
-    let tokens = tokens_flag(alloc)?;
-    let directives = long_flag(alloc, "directives", DIRECTIVES_HELP);
-    let definitions = definitions_flag(alloc)?;
     let first = with_option(command, OUTPUT, compact)?;
+    let tokens = tokens_flag(alloc)?;
     let second = with_option(first, OUTPUT, tokens)?;
+    let directives = long_flag(alloc, "directives", DIRECTIVES_HELP);
     let third = with_option(second, OUTPUT, directives)?;
+    let definitions = definitions_flag(alloc)?;
     let fourth = with_option(third, OUTPUT, definitions)?;
     Ok(fourth)
 }
@@ -299,10 +299,10 @@ fn with_include_options<'a>(alloc: Global, command: Command<'a>) -> Result<Comma
     ensures { IfOk result (λ new. options_of new ≡ options_of command.entry ++ include_options) }
 {
     let folder = definition_option(alloc, "folder", 'I', "DIR", FOLDER_HELP);
-    let include = listed_option(alloc, "include", "FILE", INCLUDE_HELP);
-    let names = long_flag(alloc, "line-names", LINE_NAMES_HELP);
     let first = with_option(command, INCLUDES, folder)?;
+    let include = listed_option(alloc, "include", "FILE", INCLUDE_HELP);
     let second = with_option(first, INCLUDES, include)?;
+    let names = long_flag(alloc, "line-names", LINE_NAMES_HELP);
     let third = with_option(second, OUTPUT, names)?;
     Ok(third)
 }
@@ -329,12 +329,12 @@ fn with_general_options<'a>(alloc: Global, command: Command<'a>) -> Result<Comma
     ensures { IfOk result (λ new. options_of new ≡ options_of command.entry ++ general_options) }
 {
     let first_error = long_flag(alloc, "first-error", "End at the first error");
-    let undef = long_flag(alloc, "undef", "Define no predefined name");
-    let budget = budget_option(alloc);
-    let page = page_flag(alloc)?;
     let first = with_option(command, MESSAGES, first_error)?;
+    let undef = long_flag(alloc, "undef", "Define no predefined name");
     let second = with_option(first, DEFINITIONS, undef)?;
+    let budget = budget_option(alloc);
     let third = with_option(second, MESSAGES, budget)?;
+    let page = page_flag(alloc)?;
     let fourth = with_option(third, OUTPUT, page)?;
     Ok(fourth)
 }
@@ -368,12 +368,12 @@ fn with_message_options<'a>(alloc: Global, command: Command<'a>) -> Result<Comma
     ensures { IfOk result (λ new. options_of new ≡ options_of command.entry ++ message_options) }
 {
     let most = most_errors_option(alloc);
-    let format = error_format_option(alloc);
-    let colour = colour_option(alloc);
-    let name = long_option(alloc, "stdin-name", "NAME", NAME_HELP);
     let first = with_option(command, MESSAGES, most)?;
+    let format = error_format_option(alloc);
     let second = with_option(first, MESSAGES, format)?;
+    let colour = colour_option(alloc);
     let third = with_option(second, MESSAGES, colour)?;
+    let name = long_option(alloc, "stdin-name", "NAME", NAME_HELP);
     let fourth = with_option(third, MESSAGES, name)?;
     Ok(fourth)
 }
@@ -427,8 +427,8 @@ fn with_foreign_options<'a>(alloc: Global, command: Command<'a>) -> Result<Comma
     ensures { IfOk result (λ new. options_of new ≡ options_of command.entry ++ foreign) }
 {
     let only = short_flag(alloc, "only", 'E', ONLY_HELP);
-    let stage = definition_option(alloc, "stage", 'S', "STAGE", STAGE_HELP);
     let first = with_option(command, FOREIGN, only)?;
+    let stage = definition_option(alloc, "stage", 'S', "STAGE", STAGE_HELP);
     let second = with_option(first, FOREIGN, stage)?;
     Ok(second)
 }
@@ -666,18 +666,25 @@ fn form_of(matches: &ArgMatches<'_>) -> Form
 // The `-D` and `-U` options, in their order.
 fn changes_of<'a>(alloc: Global, matches: &ArgMatches<'a>) -> Result<Vec<Change<'a>>, AllocError> {
     let mut changes = Vec::new(alloc);
-    let undefined = words_of(alloc, matches, "undefine")?;
+    push_changes(matches, &mut changes)?;
+    Ok(changes)
+}
+
+fn push_changes<'a>(
+    matches: &ArgMatches<'a>,
+    changes: &mut Vec<Change<'a>>,
+) -> Result<(), AllocError> {
+    let undefined = matches.get_strs("undefine").unwrap_or(&[]);
     let undefined_places = places_of(matches, "undefine");
+    let defined = matches.get_strs("define").unwrap_or(&[]);
     let mut taken = 0;
-    let defined = words_of(alloc, matches, "define")?;
-    for (word, place) in defined.as_slice().iter().zip(places_of(matches, "define")) {
+    for (word, place) in defined.iter().zip(places_of(matches, "define")) {
         let end = count_before(*place, undefined_places);
-        push_undefined(undefined.as_slice(), taken, end, &mut changes)?;
+        push_undefined(undefined, taken, end, changes)?;
         taken = end;
         changes.push(definition_of(word))?;
     }
-    push_undefined(undefined.as_slice(), taken, undefined.len(), &mut changes)?;
-    Ok(changes)
+    push_undefined(undefined, taken, undefined.len(), changes)
 }
 
 /// The words that an argument was given, in order.

@@ -54,13 +54,13 @@ pub(crate) fn of_unfinished_expression<'a>(
         return Ok(Some(cause));
     }
     let message = match (&last.value, name_of(last)) {
-        (_, Some("defined")) => String::from_str(alloc, "no macro name after `defined`")?,
+        (_, Some("defined")) => String::from_str(alloc, "no macro name after `defined`"),
         (TokenValue::Punct(punct), _) if *punct != Punct::RightParen => {
-            format!(in alloc; "operator `{}` has no right operand", punct.spelling())?
+            format!(in alloc; "operator `{}` has no right operand", punct.spelling())
         }
         _ => return Ok(None),
     };
-    Ok(Some(Cause::new(message, line.site_of(last))))
+    Ok(Some(Cause::new(message?, line.site_of(last))))
 }
 
 // The last parenthesis that opens and isn't closed.
@@ -101,7 +101,8 @@ pub(crate) fn of_unexpected_token<'a>(
     value: &Value,
     used: &Option<MacroUse<'a>>,
 ) -> Result<Option<String>, AllocError> {
-    if line.word().is_empty() {
+    let word = line.word();
+    if word.is_empty() {
         let message = format!(in alloc; "`{}` is not a directive", place.here)?;
         return Ok(Some(message));
     }
@@ -109,34 +110,49 @@ pub(crate) fn of_unexpected_token<'a>(
         return Ok(None);
     };
     let text = line.text_of(token);
-    let message = match line.word() {
-        word @ ("if" | "elif" | "line") => {
-            let found = Unexpected {
-                word,
-                before,
-                token,
-                text,
-            };
-            return of_token_in_expression(alloc, &found, value);
-        }
-        "else" if name_of(token) == Some("if") => {
-            String::from_str(alloc, "`#else if` is not a directive: use `#elif`")?
-        }
-        word @ ("else" | "endif") => format!(in alloc; "extra token `{text}` after `#{word}`")?,
-        "define" | "undef" | "ifdef" | "ifndef" if before.is_empty() => match name_of(token) {
-            Some(name) => format!(in alloc; "`{name}` is a name of GLSL's own")?,
-            None => String::from_str(alloc, NAMES_ALONE)?,
-        },
-        word @ ("undef" | "ifdef" | "ifndef") => {
-            format!(in alloc; "extra token `{text}` after the name of `#{word}`")?
-        }
-        "define" => {
+    let found = Unexpected {
+        word,
+        before,
+        token,
+        text,
+    };
+    if line.has_expression() {
+        return of_token_in_expression(alloc, &found, value);
+    }
+    let message = match word {
+        "else" | "endif" => of_token_after_word(alloc, &found),
+        "define" if !before.is_empty() => {
             let word = word_of_use(alloc, line.rules, used)?;
             return of_token_in_definition(alloc, before, token, text, value, word);
         }
+        "define" | "undef" | "ifdef" | "ifndef" => of_token_as_name(alloc, &found),
         _ => return Ok(None),
     };
-    Ok(Some(message))
+    Ok(Some(message?))
+}
+
+// Why a token isn't expected after an `#else` or `#endif`.
+fn of_token_after_word(alloc: Global, found: &Unexpected<'_>) -> Result<String, AllocError> {
+    if is_else_if(found) {
+        return String::from_str(alloc, "`#else if` is not a directive: use `#elif`");
+    }
+    format!(in alloc; "extra token `{}` after `#{}`", found.text, found.word)
+}
+
+fn is_else_if(found: &Unexpected<'_>) -> bool {
+    found.word == "else" && name_of(found.token) == Some("if")
+}
+
+// Why a token isn't expected in place of a macro's name, or after it.
+fn of_token_as_name(alloc: Global, found: &Unexpected<'_>) -> Result<String, AllocError> {
+    let (word, text) = (found.word, found.text);
+    if !found.before.is_empty() {
+        return format!(in alloc; "extra token `{text}` after the name of `#{word}`");
+    }
+    match name_of(found.token) {
+        Some(name) => format!(in alloc; "`{name}` is a name of GLSL's own"),
+        None => String::from_str(alloc, NAMES_ALONE),
+    }
 }
 
 // The word of the directive by whose rules a token of a macro's content is judged: that of the `#line` in which the
@@ -149,10 +165,12 @@ fn word_of_use(
     let Some(used) = used else {
         return Ok("define");
     };
-    let word = match &DirectiveLine::of(alloc, rules, used.site)? {
+    let line = DirectiveLine::of(alloc, rules, used.site)?;
+    let word = match &line {
         Some(line) if line.word() == "line" => "line",
         _ => "define",
     };
+    drop(line);
     Ok(word)
 }
 
@@ -167,11 +185,11 @@ fn of_token_in_definition(
 ) -> Result<Option<String>, AllocError> {
     let message = match before {
         [_, open, parameters @ ..] if is_list(open, parameters) => match parameters.last() {
-            _ if text.starts_with('.') => String::from_str(alloc, "GLSL has no variadic macros")?,
+            _ if text.starts_with('.') => String::from_str(alloc, "GLSL has no variadic macros"),
             Some(last) if name_of(last).is_some() => {
-                format!(in alloc; "expected `,` or `)` before `{text}`")?
+                format!(in alloc; "expected `,` or `)` before `{text}`")
             }
-            _ => format!(in alloc; "expected the name of a parameter before `{text}`")?,
+            _ => format!(in alloc; "expected the name of a parameter before `{text}`"),
         },
         _ => {
             let found = Unexpected {
@@ -183,7 +201,7 @@ fn of_token_in_definition(
             return of_token_in_expression(alloc, &found, value);
         }
     };
-    Ok(Some(message))
+    Ok(Some(message?))
 }
 
 // Whether the parameters of a macro begin with a parenthesis that isn't closed yet.
@@ -231,29 +249,41 @@ fn of_token_in_expression(
     found: &Unexpected<'_>,
     value: &Value,
 ) -> Result<Option<String>, AllocError> {
-    let text = found.text;
-    let place = if found.word == "line" {
-        "a `#line`"
-    } else {
-        "an `#if`"
-    };
     if is_in_defined(found.before) {
         return of_token_in_defined(alloc, found);
     }
+    let text = found.text;
     let message = match &found.token.value {
-        TokenValue::Float(_) => { format!(in alloc; "floating-point number `{text}` in {place}")? }
+        TokenValue::Float(_) => {
+            let place = place_of(found.word);
+            format!(in alloc; "floating-point number `{text}` in {place}")
+        }
         TokenValue::Ident(_) if is_unknown(value) => {
-            format!(in alloc; "`{text}` is not a number")?
+            format!(in alloc; "`{text}` is not a number")
         }
-        TokenValue::Ident(_) | TokenValue::Integer(_) | TokenValue::Punct(Punct::LeftParen)
-            if found.word == "line" => { format!(in alloc; "extra token `{text}` after `#line`")? }
-        TokenValue::Ident(_) | TokenValue::Integer(_) => {
-            format!(in alloc; "missing operator before `{text}`")?
-        }
-        TokenValue::Punct(punct) => return of_punct_in_expression(alloc, found, *punct, place),
+        TokenValue::Ident(_) | TokenValue::Integer(_) => missing_operator(alloc, found),
+        TokenValue::Punct(punct) => return of_punct_in_expression(alloc, found, *punct),
         _ => return Ok(None),
     };
-    Ok(Some(message))
+    Ok(Some(message?))
+}
+
+// Where the expression of a directive with this word is.
+fn place_of(word: &str) -> &'static str {
+    if word == "line" {
+        "a `#line`"
+    } else {
+        "an `#if`"
+    }
+}
+
+// What is said of a token with which another operand begins: a `#line` takes only some.
+fn missing_operator(alloc: Global, found: &Unexpected<'_>) -> Result<String, AllocError> {
+    let text = found.text;
+    if found.word == "line" {
+        return format!(in alloc; "extra token `{text}` after `#line`");
+    }
+    format!(in alloc; "missing operator before `{text}`")
 }
 
 // Whether the library read a name that is no macro's as such, which it does in a `#line`.
@@ -285,14 +315,14 @@ fn of_token_in_defined(
 ) -> Result<Option<String>, AllocError> {
     let message = match found.before {
         [.., last] if name_of(last).is_some() && !is_defined(last) => {
-            format!(in alloc; "expected `)` before `{}`", found.text)?
+            format!(in alloc; "expected `)` before `{}`", found.text)
         }
         _ if is_punct(found.token, Punct::RightParen) => {
-            String::from_str(alloc, "no macro name after `defined`")?
+            String::from_str(alloc, "no macro name after `defined`")
         }
-        _ => String::from_str(alloc, NAMES_ALONE)?,
+        _ => String::from_str(alloc, NAMES_ALONE),
     };
-    Ok(Some(message))
+    Ok(Some(message?))
 }
 
 // Why a punctuator isn't expected in an expression.
@@ -300,37 +330,59 @@ fn of_punct_in_expression(
     alloc: Global,
     found: &Unexpected<'_>,
     punct: Punct,
-    place: &str,
 ) -> Result<Option<String>, AllocError> {
+    if takes_operands(punct) {
+        return of_operator(alloc, found, punct);
+    }
     let text = found.text;
-    let message = match (punct, found.before.last()) {
-        (Punct::Equal, _) if matches!(found.word, "if" | "elif") => {
-            String::from_str(alloc, "`=` in an `#if`: use `==`")?
+    let message = match punct {
+        Punct::Equal if matches!(found.word, "if" | "elif") => {
+            String::from_str(alloc, "`=` in an `#if`: use `==`")
         }
-        (Punct::LeftParen, Some(last)) if name_of(last).is_some() => {
-            let name = name_of(last).unwrap_or("");
-            format!(in alloc; "missing operator before `(`: `{name}` is not a function-like macro")?
+        Punct::LeftParen => of_opening(alloc, found),
+        Punct::Bang | Punct::Tilde => format!(in alloc; "missing operator before `{text}`"),
+        _ => {
+            let place = place_of(found.word);
+            format!(in alloc; "`{text}` is not valid in {place}")
         }
-        (Punct::LeftParen | Punct::Bang | Punct::Tilde, _) => {
-            format!(in alloc; "missing operator before `{text}`")?
-        }
-        (punct, Some(last)) if takes_operands(punct) && operator_of(last).is_some() => {
-            let operator = operator_of(last).unwrap_or("");
-            format!(in alloc; "operator `{operator}` has no right operand")?
-        }
-        (Punct::RightParen, _) if open_parenthesis(found.before).is_none() => {
-            String::from_str(alloc, "`)` without `(`")?
-        }
-        (Punct::RightParen, Some(last)) if is_punct(last, Punct::LeftParen) => {
-            String::from_str(alloc, "no expression between `(` and `)`")?
-        }
-        (Punct::RightParen, _) => return Ok(None),
-        (punct, _) if takes_operands(punct) => {
-            format!(in alloc; "operator `{text}` has no left operand")?
-        }
-        _ => { format!(in alloc; "`{text}` is not valid in {place}")? }
     };
-    Ok(Some(message))
+    Ok(Some(message?))
+}
+
+// Why a `(` isn't expected in an expression.
+fn of_opening(alloc: Global, found: &Unexpected<'_>) -> Result<String, AllocError> {
+    match found.before.last().and_then(name_of) {
+        Some(name) if found.word != "line" => {
+            format!(in alloc; "missing operator before `(`: `{name}` is not a function-like macro")
+        }
+        _ => missing_operator(alloc, found),
+    }
+}
+
+// Why a binary operator or a `)` isn't expected in an expression.
+fn of_operator(
+    alloc: Global,
+    found: &Unexpected<'_>,
+    punct: Punct,
+) -> Result<Option<String>, AllocError> {
+    let message = match found.before.last().and_then(operator_of) {
+        Some(operator) => format!(in alloc; "operator `{operator}` has no right operand"),
+        None if punct == Punct::RightParen => return of_closing(alloc, found.before),
+        None => format!(in alloc; "operator `{}` has no left operand", found.text),
+    };
+    Ok(Some(message?))
+}
+
+// Why a `)` isn't expected after these tokens.
+fn of_closing(alloc: Global, before: &[Token]) -> Result<Option<String>, AllocError> {
+    let message = match before.last() {
+        _ if open_parenthesis(before).is_none() => String::from_str(alloc, "`)` without `(`"),
+        Some(last) if is_punct(last, Punct::LeftParen) => {
+            String::from_str(alloc, "no expression between `(` and `)`")
+        }
+        _ => return Ok(None),
+    };
+    Ok(Some(message?))
 }
 
 // The operator of an expression that a token is.

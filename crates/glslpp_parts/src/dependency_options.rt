@@ -70,16 +70,16 @@ pub(crate) fn with_dependency_options<'a>(
     ensures { IfOk result (λ new. options_of new ≡ options_of command.entry ++ dependency_options) }
 {
     let only = long_flag(alloc, "dependencies", DEPENDENCIES_HELP);
-    let beside = long_flag(alloc, "write-dependencies", WRITE_DEPENDENCIES_HELP);
-    let file = long_option(alloc, "dependency-file", "FILE", DEPENDENCY_FILE_HELP);
-    let target = listed_option(alloc, "target", "TARGET", TARGET_HELP);
-    let quoted = listed_option(alloc, "quoted-target", "TARGET", QUOTED_TARGET_HELP);
-    let phony = long_flag(alloc, "phony-targets", PHONY_HELP);
     let first = with_option(command, DEPENDENCIES, only)?;
+    let beside = long_flag(alloc, "write-dependencies", WRITE_DEPENDENCIES_HELP);
     let second = with_option(first, DEPENDENCIES, beside)?;
+    let file = long_option(alloc, "dependency-file", "FILE", DEPENDENCY_FILE_HELP);
     let third = with_option(second, DEPENDENCIES, file)?;
+    let target = listed_option(alloc, "target", "TARGET", TARGET_HELP);
     let fourth = with_option(third, DEPENDENCIES, target)?;
+    let quoted = listed_option(alloc, "quoted-target", "TARGET", QUOTED_TARGET_HELP);
     let fifth = with_option(fourth, DEPENDENCIES, quoted)?;
+    let phony = long_flag(alloc, "phony-targets", PHONY_HELP);
     let sixth = with_option(fifth, DEPENDENCIES, phony)?;
     Ok(sixth)
 }

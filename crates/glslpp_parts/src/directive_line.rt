@@ -5,7 +5,7 @@ ghost use Rattle.std.specs.Prelude.{◌-◌, ◌^◌, ◌<◌, length};
 use crate::diagnostic::Site;
 use crate::place::Place;
 use pp_rs::SOURCE_LIMIT;
-use pp_rs::lexer::{Lexer, Token, TokenValue};
+use pp_rs::lexer::{Lexer, LexerItem, Token, TokenValue};
 use pp_rs::rules::Rules;
 use pp_rs::token::{PreprocessorError, Punct};
 use std::alloc::{AllocError, Global};
@@ -45,14 +45,55 @@ impl<'a> DirectiveLine<'a> {
         if !text.trim_start().starts_with('#') || text.len() >= SOURCE_LIMIT {
             return Ok(None);
         }
-        Ok(Some(DirectiveLine {
+        let mut line = DirectiveLine {
             rules,
             place,
             offset,
             number,
             text,
-            tokens: tokens_of(alloc, rules, text)?,
-        }))
+            tokens: Vec::new(alloc),
+        };
+        match line.read(alloc) {
+            Ok(()) => Ok(Some(line)),
+            Err(error) => {
+                drop(line);
+                Err(error)
+            }
+        }
+    }
+
+    // Reads the tokens up to the first error.
+    fn read(&mut self, alloc: Global) -> Result<(), AllocError>
+        requires { length self.old.text.now < 2 ^ 32 - 1 }
+    {
+        let mut lexer = Lexer::with_rules(alloc, self.text, self.rules);
+        'tokens: while let Some(item) = lexer.next() {
+            if !self.take_item(item)? {
+                return Ok(());
+            }
+        }
+        Ok(())
+    }
+
+    // Takes a token. Returns whether there is one, and no error.
+    fn take_item(&mut self, item: LexerItem) -> Result<bool, AllocError> {
+        match item {
+            Ok(token) => {
+                self.take_token(token)?;
+                Ok(true)
+            }
+            Err((PreprocessorError::OutOfMemory, _)) => Err(AllocError),
+            Err((_error, _)) => Ok(false),
+        }
+    }
+
+    fn take_token(&mut self, token: Token) -> Result<(), AllocError> {
+        if !is_of_directive(&token) {
+            drop(token);
+            return Ok(());
+        }
+        self.tokens.push(token)?;
+        Ok(())
     }
 
     /// The word of the directive, such as `if`.
@@ -122,24 +163,8 @@ impl<'a> DirectiveLine<'a> {
     }
 }
 
-// The tokens of a directive after its `#`.
-fn tokens_of(alloc: Global, rules: Rules, text: &str) -> Result<Vec<Token>, AllocError>
-    requires { length text.now < 2 ^ 32 - 1 }
-{
-    let mut lexer = Lexer::with_rules(alloc, text, rules);
-    let mut tokens = Vec::new(alloc);
-    'tokens: while let Some(item) = lexer.next() {
-        match item {
-            Ok(token) if is_of_directive(&token) => tokens.push(token)?,
-            Ok(_token) => {}
-            Err((PreprocessorError::OutOfMemory, _)) => return Err(AllocError),
-            Err((_error, _)) => return Ok(tokens),
-        }
-    }
-    Ok(tokens)
-}
-
-fn is_of_directive(token: &Token) -> bool {
+/// Whether a token is one of a directive after its `#`.
+pub(crate) fn is_of_directive(token: &Token) -> bool {
     match token.value {
         TokenValue::Hash => !token.start_of_line,
         TokenValue::NewLine => false,

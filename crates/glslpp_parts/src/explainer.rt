@@ -1,6 +1,6 @@
 //! From errors to messages: the library's sentences, and what the source adds to them.
 
-ghost use Rattle.std.specs.Prelude.{◌≡◌, IfOk, IfSome};
+ghost use Rattle.std.specs.Prelude.{◌≡◌, ◌++◌, List, ℕ, IfOk, IfSome, IsTrue, string_bytes};
 ghost use Rattle.pp_rs.specs.Sentences.{sentence_of};
 ghost use Rattle.glslpp_parts.specs.Reports.{IsErrorMessage};
 
@@ -63,36 +63,66 @@ impl Explainer {
         ensures { IfOk result (λ found. IfSome found (λ diagnostic.
             IsErrorMessage (sentence_of error.now) diagnostic)) }
     {
+        match self.explained(texts, error, text, location, &used) {
+            Ok(Some(mut diagnostic)) => {
+                diagnostic.used = used;
+                Ok(Some(diagnostic))
+            }
+            other => {
+                drop(used);
+                other
+            }
+        }
+    }
+
+    // The message without the use of the macro.
+    fn explained<'a>(
+        &mut self,
+        texts: &Texts<'a>,
+        error: &PreprocessorError,
+        text: u32,
+        location: Location,
+        used: &Option<MacroUse<'a>>,
+    ) -> Result<Option<Diagnostic<'a>>, AllocError>
+        ensures { IfOk result (λ found. IfSome found (λ diagnostic.
+            IsErrorMessage (sentence_of error.now) diagnostic)) }
+    {
         if self.is_consequence(texts, error, text, location)? {
             return Ok(None);
         }
-        let severity = Severity::Error;
         let site = Site::of(texts, text, cause_of(error, location));
-        if let Some(cause) = self.cause(texts, error, text, location, site, &used)? {
-            return Ok(Some(Diagnostic {
-                severity,
-                warning: None,
-                message: cause.message,
-                is_of_cause: true,
-                site: cause.site,
-                note: cause.note,
-                used,
-            }));
+        match self.cause(texts, error, text, location, site, used)? {
+            Some(cause) => Ok(Some(diagnostic_of(cause, true))),
+            None => {
+                let said = self.said(texts, error, text, location, site, used)?;
+                Ok(Some(said))
+            }
         }
-        let more = self.more(texts, error, text, location, site)?;
-        let end = end_of_definitions(texts, text, location, &used);
+    }
+
+    // The library's sentence, with what the source adds to it.
+    fn said<'a>(
+        &mut self,
+        texts: &Texts<'a>,
+        error: &PreprocessorError,
+        text: u32,
+        location: Location,
+        site: Site<'a>,
+        used: &Option<MacroUse<'a>>,
+    ) -> Result<Diagnostic<'a>, AllocError>
+        ensures { IfOk result (λ diagnostic. IsErrorMessage (sentence_of error.now) diagnostic) }
+    {
+        let end = end_of_definitions(texts, text, location, used);
         let note = self.note_on_call(texts, error, end, site)?;
-        let mut message = format!(in self.alloc; "{error}")?;
-        message.push_str(more.as_str())?;
-        Ok(Some(Diagnostic {
-            severity,
-            warning: None,
-            message,
-            is_of_cause: false,
+        let more = self.more(texts, error, text, location, site)?;
+        let message = sentence_with(self.alloc, error, more.as_str());
+        drop(more);
+        let said = Cause {
+            message: message?,
             site,
             note,
-            used,
-        }))
+        };
+        Ok(diagnostic_of(said, false))
     }
 
     // What caused an error, if the source shows it.
@@ -108,53 +138,82 @@ impl Explainer {
         let Some(place) = site.place() else {
             return Ok(None);
         };
-        let line = DirectiveLine::of(self.alloc, self.rules, site)?;
         let end = End {
             text,
             before: location.start,
         };
-        let message = match (error, &line) {
-            (PreprocessorError::UnexpectedEndOfInput, Some(line)) if line.has_expression() => {
-                return match macro_at_end(line) {
+        let line = DirectiveLine::of(self.alloc, self.rules, site)?;
+        let cause = match &line {
+            Some(line) => self.cause_on_line(texts, error, line, end, site, place, used),
+            None => self.cause_in_text(texts, error, end, site, place),
+        };
+        drop(line);
+        cause
+    }
+
+    // The cause of an error on the line of a directive.
+    fn cause_on_line<'a>(
+        &mut self,
+        texts: &Texts<'a>,
+        error: &PreprocessorError,
+        line: &DirectiveLine<'a>,
+        end: End,
+        site: Site<'a>,
+        place: Place<'a>,
+        used: &Option<MacroUse<'a>>,
+    ) -> Result<Option<Cause<'a>>, AllocError> {
+        match error {
+            PreprocessorError::UnexpectedEndOfInput if line.has_expression() => {
+                match macro_at_end(line) {
                     Some(name) => self.empty_macro(texts, line, name, end),
                     None => of_unfinished_expression(self.alloc, line, site),
-                };
-            }
-            (PreprocessorError::UnexpectedEndOfInput, _) => {
-                return self.unterminated_call(texts, text);
-            }
-            (PreprocessorError::DefineRedefined, _) => {
-                return self.redefinition(texts, end, site, place.here);
-            }
-            (PreprocessorError::DivisionByZero, Some(line)) => {
-                return self.division(error, line, Punct::Slash);
-            }
-            (PreprocessorError::RemainderByZero, Some(line)) => {
-                return self.division(error, line, Punct::Percent);
-            }
-            (PreprocessorError::UnexpectedToken(value), Some(line)) => {
-                if let Some(name) = macro_before(line, place) {
-                    return self.empty_macro(texts, line, name, end);
                 }
-                of_unexpected_token(self.alloc, line, place, value, used)?
             }
-            (PreprocessorError::UnexpectedNewLine, Some(line)) => {
-                Some(of_early_end(self.alloc, line)?)
+            PreprocessorError::DivisionByZero => self.division(error, line, Punct::Slash),
+            PreprocessorError::RemainderByZero => self.division(error, line, Punct::Percent),
+            PreprocessorError::UnexpectedToken(value) => match macro_before(line, place) {
+                Some(name) => self.empty_macro(texts, line, name, end),
+                None => {
+                    let message = of_unexpected_token(self.alloc, line, place, value, used)?;
+                    Ok(cause_at(site, message))
+                }
+            },
+            PreprocessorError::UnexpectedNewLine => {
+                let message = of_early_end(self.alloc, line)?;
+                Ok(Some(Cause::new(message, site)))
             }
-            (PreprocessorError::IntegerOverflow, Some(line)) if line.word() == place.here => {
-                Some(format!(in self.alloc; "integer out of range in `#{}`", line.word())?)
+            PreprocessorError::IntegerOverflow if line.word() == place.here => {
+                let word = line.word();
+                let message = format!(in self.alloc; "integer out of range in `#{word}`")?;
+                Ok(Some(Cause::new(message, site)))
             }
-            (PreprocessorError::IntegerOverflow, _)
+            _ => self.cause_in_text(texts, error, end, site, place),
+        }
+    }
+
+    // The cause of an error, whether or not it is on the line of a directive.
+    fn cause_in_text<'a>(
+        &mut self,
+        texts: &Texts<'a>,
+        error: &PreprocessorError,
+        end: End,
+        site: Site<'a>,
+        place: Place<'a>,
+    ) -> Result<Option<Cause<'a>>, AllocError> {
+        match error {
+            PreprocessorError::UnexpectedEndOfInput => self.unterminated_call(texts, end.text),
+            PreprocessorError::DefineRedefined => self.redefinition(texts, end, site, place.here),
+            PreprocessorError::IntegerOverflow
                 if place.here.starts_with(|c: char| c.is_ascii_digit()) => {
-                Some(of_integer(self.alloc, place.here)?)
+                let message = of_integer(self.alloc, place.here)?;
+                Ok(Some(Cause::new(message, site)))
             }
-            (PreprocessorError::FloatParsingError, _) => of_float(self.alloc, place.here)?,
-            _ => None,
-        };
-        Ok(match message {
-            Some(message) => Some(Cause::new(message, site)),
-            None => None,
-        })
+            PreprocessorError::FloatParsingError => {
+                let message = of_float(self.alloc, place.here)?;
+                Ok(cause_at(site, message))
+            }
+            _ => Ok(None),
+        }
     }
 
     // The macro call of a text that doesn't end.
@@ -168,14 +227,17 @@ impl Explainer {
         };
         let site = Site::of(texts, text, location);
         let name = site.place().map_or("", |place| place.here);
-        let message = format!(in self.alloc; "unterminated call of macro `{name}`")?;
-        let mut cause = Cause::new(message, site);
         let end = End {
             text,
             before: location.start,
         };
-        cause.note = self.note_on_macro(texts, name, end, DEFINED_HERE)?;
-        Ok(Some(cause))
+        let note = self.note_on_macro(texts, name, end, DEFINED_HERE)?;
+        let message = format!(in self.alloc; "unterminated call of macro `{name}`")?;
+        Ok(Some(Cause {
+            message,
+            site,
+            note,
+        }))
     }
 
     // A macro that is defined again.
@@ -186,14 +248,16 @@ impl Explainer {
         site: Site<'a>,
         name: &str,
     ) -> Result<Option<Cause<'a>>, AllocError> {
-        let message = format!(in self.alloc; "macro `{name}` redefined")?;
-        let mut cause = Cause::new(message, site);
         let note = self.note_on_macro(texts, name, end, "the previous definition is here")?;
-        cause.note = Some(note.unwrap_or(Note {
-            message: "the previous definition is here",
-            site: Site::OnCommandLine(None),
-        }));
-        Ok(Some(cause))
+        let message = format!(in self.alloc; "macro `{name}` redefined")?;
+        Ok(Some(Cause {
+            message,
+            site,
+            note: Some(note.unwrap_or(Note {
+                message: "the previous definition is here",
+                site: Site::OnCommandLine(None),
+            })),
+        }))
     }
 
     // The operator that divides by zero, if the line has only one of its kind.
@@ -219,10 +283,13 @@ impl Explainer {
         end: End,
     ) -> Result<Option<Cause<'a>>, AllocError> {
         let name = line.text_of(token);
+        let note = self.note_on_macro(texts, name, end, DEFINED_HERE)?;
         let message = format!(in self.alloc; "macro `{name}` gives no operand")?;
-        let mut cause = Cause::new(message, line.site_of(token));
-        cause.note = self.note_on_macro(texts, name, end, DEFINED_HERE)?;
-        Ok(Some(cause))
+        Ok(Some(Cause {
+            message,
+            site: line.site_of(token),
+            note,
+        }))
     }
 
     // What the directives of a text say. They are read the first time.
@@ -288,25 +355,39 @@ impl Explainer {
         site: Site<'_>,
     ) -> Result<String, AllocError> {
         let mut more = String::new(self.alloc);
+        self.push_more(&mut more, texts, error, text, location, site)?;
+        Ok(more)
+    }
+
+    // Appends that.
+    fn push_more(
+        &mut self,
+        more: &mut String,
+        texts: &Texts<'_>,
+        error: &PreprocessorError,
+        text: u32,
+        location: Location,
+        site: Site<'_>,
+    ) -> Result<(), AllocError> {
         let Some(place) = site.place() else {
-            return Ok(more);
+            return Ok(());
         };
         match error {
-            PreprocessorError::ErrorDirective => push_reason(&mut more, place.behind.trim())?,
+            PreprocessorError::ErrorDirective => push_reason(more, place.behind.trim()),
             PreprocessorError::UnknownDirective => {
-                push_directive_name(&mut more, place.here, self.rules.asks_includes)?;
+                push_directive_name(more, place.here, self.rules.asks_includes)
             }
             PreprocessorError::UnexpectedHash if is_in_define(place.before) => {
-                more.push_str(": GLSL ES has no operators `#` and `##`")?;
+                more.push_str(": GLSL ES has no operators `#` and `##`")
             }
             PreprocessorError::UnexpectedHash if !place.before.trim().is_empty() => {
-                more.push_str(": a directive begins its line")?;
+                more.push_str(": a directive begins its line")
             }
             PreprocessorError::UnexpectedCharacter if is_replaced(texts, site) => {
-                more.push_str(": this byte isn't UTF-8")?;
+                more.push_str(": this byte isn't UTF-8")
             }
             PreprocessorError::UnexpectedCharacter => {
-                push_character(&mut more, place.here, place.behind)?;
+                push_character(more, place.here, place.behind)
             }
             PreprocessorError::TooFewDefineArguments | PreprocessorError::TooManyDefineArguments
                 if site.line().is_some() => {
@@ -314,11 +395,10 @@ impl Explainer {
                     text,
                     before: location.start,
                 };
-                self.push_argument_counts(&mut more, texts, end, place, error)?;
+                self.push_argument_counts(more, texts, end, place, error)
             }
-            _ => {}
+            _ => Ok(()),
         }
-        Ok(more)
     }
 
     // What is said beside a call with too few or too many arguments: where its macro is defined.
@@ -402,6 +482,38 @@ impl Explainer {
             Some(given) => Some((wanted, given)),
             None => None,
         })
+    }
+}
+
+// The library's sentence on an error, with more behind it.
+fn sentence_with(alloc: Global, error: &PreprocessorError, more: &str) -> Result<String, AllocError>
+    ensures { IfOk result (λ message. string_bytes message ≡ sentence_of error.now ++ more.now) }
+{
+    format!(in alloc; "{error}{more}")
+}
+
+// The message for an error, and whether it says the cause that the source shows.
+fn diagnostic_of(said: Cause<'_>, is_of_cause: bool) -> Diagnostic<'_>
+    ensures cause { IsTrue is_of_cause → (sentence : List ℕ) → IsErrorMessage sentence result }
+    ensures sentence { (sentence more : List ℕ) → string_bytes said.entry.message ≡ sentence ++ more
+        → IsErrorMessage sentence result }
+{
+    Diagnostic {
+        severity: Severity::Error,
+        warning: None,
+        message: said.message,
+        is_of_cause,
+        site: said.site,
+        note: said.note,
+        used: None,
+    }
+}
+
+// What causes an error there, if something is said of it.
+fn cause_at(site: Site<'_>, message: Option<String>) -> Option<Cause<'_>> {
+    match message {
+        Some(message) => Some(Cause::new(message, site)),
+        None => None,
     }
 }
 

@@ -7,13 +7,14 @@ use crate::comment_check::{count_line_ends, is_continued, nested_comment};
 use crate::diagnostic::{Diagnostic, Note, Site};
 use crate::explainer::is_near;
 use crate::findings::Findings;
+use crate::reading::{TokenReader, read_tokens};
 use crate::texts::File;
 use crate::undefined_names::UndefinedName;
 use crate::used_names::UsedNames;
 use crate::warning::{Warning, Warnings};
-use pp_rs::lexer::{Comments, Lexer, Token, TokenValue};
+use pp_rs::lexer::{Comments, Token, TokenValue};
 use pp_rs::rules::Rules;
-use pp_rs::token::{Location, PreprocessorError, Punct};
+use pp_rs::token::{Location, Punct};
 use std::alloc::{AllocError, Global};
 
 /// Returns what the warnings find in a file whose text has this number and is read by these rules, in its order. These
@@ -45,31 +46,58 @@ fn find<'a>(
 ) -> Result<Vec<Diagnostic<'a>>, AllocError>
     requires { length file.text.now < 2 ^ 32 - 1 }
 {
-    let source = file.text;
     let mut findings = Findings::new(alloc, file, number, warnings);
-    if warnings.comment {
-        inspect_comments(&mut findings, source)?;
+    match inspect_text(alloc, file.text, rules, &mut findings, number, undefined) {
+        Ok(()) => findings.in_order(),
+        Err(error) => {
+            drop(findings);
+            Err(error)
+        }
+    }
+}
+
+// Finds what the warnings say of a text with this number.
+fn inspect_text(
+    alloc: Global,
+    text: &str,
+    rules: Rules,
+    findings: &mut Findings<'_>,
+    number: u32,
+    undefined: &[UndefinedName],
+) -> Result<(), AllocError>
+    requires { length text.now < 2 ^ 32 - 1 }
+{
+    if findings.is_looking_for(Warning::Comment) {
+        inspect_comments(findings, text)?;
     }
     for name in undefined {
         if name.text == number {
             findings.push(Warning::Undef, name.location, name.message.as_str())?;
         }
     }
-    let used = if warnings.unused_macros {
-        UsedNames::of(alloc, rules, source)?
-    } else {
-        UsedNames::none(alloc)
-    };
-    let mut lexer = Lexer::with_rules(alloc, source, rules);
-    let mut inspector = Inspector::new(alloc, findings, used);
-    'tokens: while let Some(item) = lexer.next() {
-        match item {
-            Ok(token) => inspector.take(&token)?,
-            Err((PreprocessorError::OutOfMemory, _)) => return Err(AllocError),
-            Err((_error, _)) => inspector.stage = Stage::Passed,
-        }
+    let mut used = UsedNames::none(alloc);
+    let end = inspect_tokens(alloc, text, rules, findings, &mut used);
+    drop(used);
+    end
+}
+
+// Finds what the warnings say of the tokens of a text, whose names are noted.
+fn inspect_tokens(
+    alloc: Global,
+    text: &str,
+    rules: Rules,
+    findings: &mut Findings<'_>,
+    used: &mut UsedNames,
+) -> Result<(), AllocError>
+    requires { length text.now < 2 ^ 32 - 1 }
+{
+    if findings.is_looking_for(Warning::UnusedMacros) {
+        used.read(rules, text)?;
     }
-    inspector.findings.in_order()
+    let mut inspector = Inspector::new(alloc, findings, used);
+    let end = read_tokens(alloc, rules, text, &mut inspector);
+    drop(inspector);
+    end
 }
 
 // Finds comments in which text may be lost, at most one on each line.
@@ -139,10 +167,10 @@ struct Guard<'a> {
 
 /// What is found, and how far the source was read.
 #[derive(Drop)]
-struct Inspector<'a> {
+struct Inspector<'f, 'a> {
     alloc: Global,
-    findings: Findings<'a>,
-    used: UsedNames,
+    findings: &'f mut Findings<'a>,
+    used: &'f mut UsedNames,
     stage: Stage,
     // How many directives were read.
     directives: usize,
@@ -150,8 +178,24 @@ struct Inspector<'a> {
     guard: Option<Guard<'a>>,
 }
 
-impl<'a> Inspector<'a> {
-    fn new(alloc: Global, findings: Findings<'a>, used: UsedNames) -> Inspector<'a> {
+impl<'f, 'a> TokenReader for Inspector<'f, 'a> {
+    fn take(&mut self, token: &Token) -> Result<(), AllocError> {
+        let end = self.check(token);
+        self.stage = self.next_stage(token);
+        end
+    }
+
+    fn take_error(&mut self) {
+        self.stage = Stage::Passed;
+    }
+}
+
+impl<'f, 'a> Inspector<'f, 'a> {
+    fn new(
+        alloc: Global,
+        findings: &'f mut Findings<'a>,
+        used: &'f mut UsedNames,
+    ) -> Inspector<'f, 'a> {
         Inspector {
             alloc,
             findings,
@@ -162,42 +206,42 @@ impl<'a> Inspector<'a> {
         }
     }
 
-    fn take(&mut self, token: &Token) -> Result<(), AllocError> {
+    // Looks at a token, up to which the line was read.
+    fn check(&mut self, token: &Token) -> Result<(), AllocError> {
         let location = token.location;
-        self.stage = match (self.stage, &token.value) {
-            (_, TokenValue::NewLine) => Stage::Passed,
-            (_, TokenValue::Hash) if token.start_of_line => Stage::Hash,
-            (Stage::Hash, TokenValue::Ident(word)) => self.stage_after(word.as_str()),
-            (Stage::Define, TokenValue::Ident(name)) => {
-                self.take_defined(name.as_str(), location)?;
-                Stage::Name
-            }
-            (Stage::Undef, TokenValue::Ident(name)) => {
-                self.check_reserved(name.as_str(), location)?;
-                Stage::End
-            }
+        match (self.stage, &token.value) {
+            (_, TokenValue::NewLine) => Ok(()),
+            (_, TokenValue::Hash) if token.start_of_line => Ok(()),
+            (Stage::Define, TokenValue::Ident(name)) => self.take_defined(name.as_str(), location),
+            (Stage::Undef, TokenValue::Ident(name)) => self.check_reserved(name.as_str(), location),
             (Stage::Condition, TokenValue::Ident(name)) => {
-                self.take_tested(name.as_str(), location)?;
-                Stage::End
+                self.take_tested(name.as_str(), location)
             }
-            (Stage::Name, TokenValue::Punct(Punct::LeftParen)) => Stage::Passed,
+            (Stage::Name, TokenValue::Punct(Punct::LeftParen)) => Ok(()),
             (Stage::Name, _) if !token.leading_whitespace => {
                 let text = "no space between the macro's name and its body";
-                self.findings.push(Warning::Space, location, text)?;
-                Stage::Passed
+                self.findings.push(Warning::Space, location, text)
             }
             (Stage::End, _) => {
                 let text = "more words than the directive takes";
-                self.findings.push(Warning::ExtraTokens, location, text)?;
-                Stage::Passed
+                self.findings.push(Warning::ExtraTokens, location, text)
             }
             (_, TokenValue::Punct(punct)) if token.start_of_line => {
-                self.take_mark(*punct, location)?;
-                Stage::Passed
+                self.take_mark(*punct, location)
             }
+            _ => Ok(()),
+        }
+    }
+
+    // How far the line is read with this token.
+    fn next_stage(&mut self, token: &Token) -> Stage {
+        match (self.stage, &token.value) {
+            (_, TokenValue::Hash) if token.start_of_line => Stage::Hash,
+            (Stage::Hash, TokenValue::Ident(word)) => self.stage_after(word.as_str()),
+            (Stage::Define, TokenValue::Ident(_)) => Stage::Name,
+            (Stage::Undef | Stage::Condition, TokenValue::Ident(_)) => Stage::End,
             _ => Stage::Passed,
-        };
-        Ok(())
+        }
     }
 
     // Takes the word of a directive.
@@ -259,6 +303,17 @@ impl<'a> Inspector<'a> {
         let Some(guard) = self.guard.take() else {
             return Ok(());
         };
+        let end = self.compare_guard(&guard, name, location);
+        drop(guard);
+        end
+    }
+
+    fn compare_guard(
+        &mut self,
+        guard: &Guard<'a>,
+        name: &str,
+        location: Location,
+    ) -> Result<(), AllocError> {
         let tested = guard.name.as_str();
         if self.directives != 2 || !is_near(name.as_bytes(), tested.as_bytes()) || name == tested {
             return Ok(());

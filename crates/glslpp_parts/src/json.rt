@@ -66,13 +66,7 @@ fn push_call(
     let Some(spot) = texts.spot(call.text, call.name) else {
         return Ok(());
     };
-    push_name(output, "call_", spot)?;
-    let before = texts.bytes_before(call.text);
-    let (start, end) = (
-        spot.start.saturating_add(before),
-        spot.end.saturating_add(before),
-    );
-    write!(output, ",\"call_start\":{start},\"call_end\":{end}")
+    push_spot(output, "call_", texts, spot)
 }
 
 // Appends the number of an integer.
@@ -286,8 +280,7 @@ fn push_name(output: &mut String, before: &str, spot: Spot<'_>) -> Result<(), Al
     push_string(output, spot.name)
 }
 
-// Appends the place in its text, in bytes, and its line and column if that text is a file's. The contents of the
-// command line count as one text, each with a line end.
+// Appends the place in its text, in bytes, and its line and column if that text is a file's.
 fn push_place<'a>(
     output: &mut String,
     columns: &mut ColumnsOfTexts<'a>,
@@ -300,22 +293,47 @@ fn push_place<'a>(
     let Some(spot) = texts.spot(text, location) else {
         return Ok(());
     };
-    let before = texts.bytes_before(text);
-    let (start, end) = (
-        spot.start.saturating_add(before),
-        spot.end.saturating_add(before),
-    );
-    push_name(output, "", spot)?;
-    write!(output, ",\"start\":{start},\"end\":{end}")?;
+    push_spot(output, "", texts, spot)?;
     if !spot.is_in_file {
         return Ok(());
     }
-    write!(output, ",\"line\":{}", location.line)?;
+    push_line(output, columns, spot, location.line)
+}
+
+// Appends the name of the text of a spot and its bounds there, in bytes, each after this. The contents of the command
+// line count as one text, each with a line end.
+fn push_spot(
+    output: &mut String,
+    before: &str,
+    texts: &Texts<'_>,
+    spot: Spot<'_>,
+) -> Result<(), AllocError>
+    ensures { OnOk result (IsLonger (string_bytes output.old) (string_bytes output.new)) }
+{
+    push_name(output, before, spot)?;
+    let shift = texts.bytes_before(spot.number);
+    let (start, end) = (
+        spot.start.saturating_add(shift),
+        spot.end.saturating_add(shift),
+    );
+    write!(output, ",\"{before}start\":{start},\"{before}end\":{end}")
+}
+
+// Appends the line of a spot of a file, and its column.
+fn push_line<'a>(
+    output: &mut String,
+    columns: &mut ColumnsOfTexts<'a>,
+    spot: Spot<'a>,
+    line: u32,
+) -> Result<(), AllocError>
+    ensures { OnOk result (IsLonger (string_bytes output.old) (string_bytes output.new)) }
+{
+    write!(output, ",\"line\":{line}")?;
     match first_byte(spot) {
         Some(start) => write!(
             output,
             ",\"column\":{}",
-            columns.column(text, spot.text, start)
+            columns.column(spot.number, spot.text, start)
         ),
         None => Ok(()),
     }

@@ -10,6 +10,7 @@ use crate::texts::Texts;
 use pp_rs::rules::Rules;
 use std::alloc::{AllocError, Global};
 use std::collections::BTreeMap;
+use std::mem;
 
 /// A name that may be defined.
 #[derive(Drop)]
@@ -42,20 +43,6 @@ impl Listing {
         definitions: &[Definition<'_>],
         extensions: &[String],
     ) -> Result<Listing, AllocError> {
-        let mut names = BTreeMap::new(alloc);
-        for (name, content) in definitions {
-            let line = format!(in alloc; "#define {name} {content}")?;
-            push_line(alloc, &mut names, name, line)?;
-        }
-        for name in extensions {
-            let line = format!(in alloc; "#define {name} 1")?;
-            push_line(alloc, &mut names, name.as_str(), line)?;
-        }
-        for number in 0..texts.count() {
-            if texts.is_file(number) {
-                push_lines_of(alloc, rules, texts.text(number), &mut names)?;
-            }
-        }
         let mut listing = Listing {
             alloc,
             text: String::new(alloc),
@@ -63,23 +50,70 @@ impl Listing {
             is_given: Vec::new(alloc),
             is_refused: Vec::new(alloc),
         };
-        for (name, lines) in names {
-            listing.push_entry(name.as_str(), lines)?;
+        match listing.fill(rules, texts, definitions, extensions) {
+            Ok(()) => Ok(listing),
+            Err(error) => {
+                drop(listing);
+                Err(error)
+            }
         }
-        Ok(listing)
+    }
+
+    // Asks for all names that are defined somewhere.
+    fn fill(
+        &mut self,
+        rules: Rules,
+        texts: &Texts<'_>,
+        definitions: &[Definition<'_>],
+        extensions: &[String],
+    ) -> Result<(), AllocError> {
+        let mut names = Names {
+            alloc: self.alloc,
+            lines: BTreeMap::new(self.alloc),
+        };
+        let end = match names.fill(rules, texts, definitions, extensions) {
+            Ok(()) => self.push_entries(&mut names),
+            Err(error) => Err(error),
+        };
+        drop(names);
+        end
+    }
+
+    // Asks for these names, whose definitions are moved.
+    fn push_entries(&mut self, names: &mut Names) -> Result<(), AllocError> {
+        for (name, lines) in names.lines.iter_mut() {
+            let lines = mem::replace(lines, Vec::new(self.alloc));
+            self.push_entry(name.as_str(), lines)?;
+        }
+        Ok(())
     }
 
     // Asks for a name with these definitions.
     fn push_entry(&mut self, name: &str, lines: Vec<String>) -> Result<(), AllocError> {
-        self.push_text_line("#ifdef ", name)?;
         let line = u32::try_from(self.is_given.len()).unwrap_or(u32::MAX);
+        match self.push_question(name, lines.as_slice()) {
+            Ok(()) => {
+                self.entries.push(Entry {
+                    line: line.saturating_add(1),
+                    lines,
+                })?;
+                Ok(())
+            }
+            Err(error) => {
+                drop(lines);
+                Err(error)
+            }
+        }
+    }
+
+    // Appends the lines that ask for it. The second is given if it is defined.
+    fn push_question(&mut self, name: &str, lines: &[String]) -> Result<(), AllocError> {
+        self.push_text_line("#ifdef ", name)?;
         self.push_text_line("1", "")?;
-        for line in lines.as_slice() {
+        for line in lines {
             self.push_text_line("", line.as_str())?;
         }
-        self.push_text_line("#endif", "")?;
-        self.entries.push(Entry { line, lines })?;
-        Ok(())
+        self.push_text_line("#endif", "")
     }
 
     fn push_text_line(&mut self, word: &str, rest: &str) -> Result<(), AllocError> {
@@ -132,19 +166,99 @@ fn set(flags: &mut [bool], line: u32) {
     }
 }
 
-// Appends a definition of a name, unless it is there.
-fn push_line(
+// The names that are defined somewhere, each with the lines that define it.
+#[derive(Drop)]
+struct Names {
     alloc: Global,
-    names: &mut BTreeMap<String, Vec<String>>,
-    name: &str,
-    line: String,
-) -> Result<(), AllocError> {
-    let name = String::from_str(alloc, name)?;
-    let lines = names.entry(name)?.or_insert(Vec::new(alloc));
-    if !lines.iter().any(|other| other.as_str() == line.as_str()) {
-        lines.push(line)?;
+    lines: BTreeMap<String, Vec<String>>,
+}
+
+impl Names {
+    // Adds the names that these texts and definitions define, and the macros of these extensions.
+    fn fill(
+        &mut self,
+        rules: Rules,
+        texts: &Texts<'_>,
+        definitions: &[Definition<'_>],
+        extensions: &[String],
+    ) -> Result<(), AllocError> {
+        for (name, content) in definitions {
+            let line = format!(in self.alloc; "#define {name} {content}")?;
+            self.push_line(name, line)?;
+        }
+        for name in extensions {
+            let line = format!(in self.alloc; "#define {name} 1")?;
+            self.push_line(name.as_str(), line)?;
+        }
+        for number in 0..texts.count() {
+            if texts.is_file(number) {
+                self.push_lines_of(rules, texts.text(number))?;
+            }
+        }
+        Ok(())
     }
-    Ok(())
+
+    // Appends the definitions of a text.
+    fn push_lines_of(&mut self, rules: Rules, text: &str) -> Result<(), AllocError> {
+        let outline = Outline::of(self.alloc, rules, text)?;
+        let end = self.push_outlined(&outline, text);
+        drop(outline);
+        end
+    }
+
+    // Appends the definitions of a text with this outline.
+    fn push_outlined(&mut self, outline: &Outline, text: &str) -> Result<(), AllocError> {
+        for (name, start) in outline.names()?.as_slice() {
+            let rest = text.get(*start as usize..).unwrap_or("");
+            let line = define_line(self.alloc, rest)?;
+            self.push_line(name, line)?;
+        }
+        Ok(())
+    }
+
+    // Appends a definition of a name, unless it is there.
+    fn push_line(&mut self, name: &str, line: String) -> Result<(), AllocError> {
+        match self.lines_without(name, line.as_str()) {
+            Ok(Some(lines)) => Ok(lines.push(line)?),
+            Ok(None) => {
+                drop(line);
+                Ok(())
+            }
+            Err(error) => {
+                drop(line);
+                Err(error)
+            }
+        }
+    }
+
+    // The definitions of a name, if this line is none of them.
+    fn lines_without(
+        &mut self,
+        name: &str,
+        line: &str,
+    ) -> Result<Option<&mut Vec<String>>, AllocError> {
+        let name = String::from_str(self.alloc, name)?;
+        let lines = self.lines.entry(name)?.or_insert(Vec::new(self.alloc));
+        if lines.iter().any(|other| other.as_str() == line) {
+            return Ok(None);
+        }
+        Ok(Some(lines))
+    }
+}
+
+// The `#define` line of a definition whose name begins a text.
+fn define_line(alloc: Global, text: &str) -> Result<String, AllocError> {
+    let written = written_line(alloc, text)?;
+    let line = spaced_line(alloc, written.as_str().strip_prefix('#').unwrap_or(""));
+    drop(written);
+    line
+}
+
+// The same with single spaces.
+fn spaced_line(alloc: Global, body: &str) -> Result<String, AllocError> {
+    let mut line = String::from_str(alloc, "#define")?;
+    push_words(&mut line, body)?;
+    Ok(line)
 }
 
 // Appends the words of a text, each after a space.
@@ -160,25 +274,6 @@ fn push_words(line: &mut String, text: &str) -> Result<(), AllocError> {
             line.push(c)?;
             is_blank = false;
         }
-    }
-    Ok(())
-}
-
-// Appends the definitions of a text.
-fn push_lines_of(
-    alloc: Global,
-    rules: Rules,
-    text: &str,
-    names: &mut BTreeMap<String, Vec<String>>,
-) -> Result<(), AllocError> {
-    let outline = Outline::of(alloc, rules, text)?;
-    for (name, start) in outline.names()?.as_slice() {
-        let rest = text.get(*start as usize..).unwrap_or("");
-        let written = written_line(alloc, rest)?;
-        let body = written.as_str().strip_prefix('#').unwrap_or("");
-        let mut line = String::from_str(alloc, "#define")?;
-        push_words(&mut line, body)?;
-        push_line(alloc, names, name, line)?;
     }
     Ok(())
 }

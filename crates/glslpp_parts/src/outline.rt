@@ -1,10 +1,11 @@
 //! The directives of a source, in live and dead text, for messages.
 
 use crate::columns::Columns;
+use crate::reading::{TokenReader, read_tokens};
 use pp_rs::SOURCE_LIMIT;
-use pp_rs::lexer::{Lexer, Token, TokenValue};
+use pp_rs::lexer::{Token, TokenValue};
 use pp_rs::rules::Rules;
-use pp_rs::token::{Location, PreprocessorError, Punct};
+use pp_rs::token::{Location, Punct};
 use std::alloc::{AllocError, Global};
 use std::collections::BTreeMap;
 
@@ -36,21 +37,28 @@ pub(crate) struct Outline {
 impl Outline {
     /// The directives of this text, which is read by these rules. Of one that is too long it has none.
     pub(crate) fn of(alloc: Global, rules: Rules, text: &str) -> Result<Outline, AllocError> {
-        if text.len() >= SOURCE_LIMIT {
-            return Ok(Reader::new(alloc, text).outline);
-        }
-        let mut lexer = Lexer::with_rules(alloc, text, rules);
-        let mut reader = Reader::new(alloc, text);
-        'tokens: while let Some(item) = lexer.next() {
-            match item {
-                Ok(token) => reader.take(&token)?,
-                Err((PreprocessorError::OutOfMemory, _)) => return Err(AllocError),
-                Err((_error, _)) => {}
-            }
-        }
-        let mut outline = reader.outline;
-        outline.unterminated = reader.calls.iter().find_map(|name| *name);
+        let mut outline = Outline {
+            alloc,
+            defines: Vec::new(alloc),
+            by_name: BTreeMap::new(alloc),
+            strays: Vec::new(alloc),
+            unterminated: None,
+        };
+        outline.read(rules, text)?;
         Ok(outline)
+    }
+
+    // Reads a text, unless it is too long.
+    fn read(&mut self, rules: Rules, text: &str) -> Result<(), AllocError> {
+        if text.len() >= SOURCE_LIMIT {
+            return Ok(());
+        }
+        let alloc = self.alloc;
+        let mut reader = Reader::new(alloc, text, self);
+        let end = read_tokens(alloc, rules, text, &mut reader);
+        reader.note_unterminated();
+        drop(reader);
+        end
     }
 
     /// The place of the name in the first macro call of the source that doesn't end.
@@ -106,9 +114,9 @@ enum Stage {
     Parameters,
 }
 
-/// The outline of what was read of a source.
+/// What reads a source, and notes its outline.
 #[derive(Drop)]
-struct Reader<'a> {
+struct Reader<'o, 'a> {
     alloc: Global,
     columns: Columns<'a>,
     stage: Stage,
@@ -119,11 +127,24 @@ struct Reader<'a> {
     name: Option<Location>,
     // For each parenthesis of the text that is open the name of the macro that is called by it, if one is.
     calls: Vec<Option<Location>>,
-    outline: Outline,
+    outline: &'o mut Outline,
 }
 
-impl<'a> Reader<'a> {
-    fn new(alloc: Global, source: &'a str) -> Reader<'a> {
+impl<'o, 'a> TokenReader for Reader<'o, 'a> {
+    fn take(&mut self, token: &Token) -> Result<(), AllocError> {
+        match token.value {
+            TokenValue::Hash if token.start_of_line => self.is_in_directive = true,
+            TokenValue::NewLine => self.is_in_directive = false,
+            _ if !self.is_in_directive => self.take_text(token)?,
+            _ => {}
+        }
+        self.stage = self.next_stage(token)?;
+        Ok(())
+    }
+}
+
+impl<'o, 'a> Reader<'o, 'a> {
+    fn new(alloc: Global, source: &'a str, outline: &'o mut Outline) -> Reader<'o, 'a> {
         Reader {
             alloc,
             columns: Columns::new(source),
@@ -132,24 +153,18 @@ impl<'a> Reader<'a> {
             is_in_directive: false,
             name: None,
             calls: Vec::new(alloc),
-            outline: Outline {
-                alloc,
-                defines: Vec::new(alloc),
-                by_name: BTreeMap::new(alloc),
-                strays: Vec::new(alloc),
-                unterminated: None,
-            },
+            outline,
         }
     }
 
-    fn take(&mut self, token: &Token) -> Result<(), AllocError> {
-        match token.value {
-            TokenValue::Hash if token.start_of_line => self.is_in_directive = true,
-            TokenValue::NewLine => self.is_in_directive = false,
-            _ if !self.is_in_directive => self.take_text(token)?,
-            _ => {}
-        }
-        self.stage = match (self.stage, &token.value) {
+    // Notes the first call that doesn't end.
+    fn note_unterminated(&mut self) {
+        self.outline.unterminated = self.calls.iter().find_map(|name| *name);
+    }
+
+    // How far the line is read with this token.
+    fn next_stage(&mut self, token: &Token) -> Result<Stage, AllocError> {
+        Ok(match (self.stage, &token.value) {
             (_, TokenValue::Hash) if token.start_of_line => Stage::Hash,
             (Stage::Hash, TokenValue::Ident(word)) => {
                 self.take_directive(word.as_str(), token.location)?
@@ -168,8 +183,7 @@ impl<'a> Reader<'a> {
             }
             (Stage::Parameters, TokenValue::Punct(Punct::Comma)) => Stage::Parameters,
             _ => Stage::Text,
-        };
-        Ok(())
+        })
     }
 
     // Takes a token that isn't on the line of a directive.

@@ -7,11 +7,12 @@
 ghost use Rattle.std.specs.Prelude.{◌-◌, ◌^◌, ◌<◌, length};
 
 use crate::condition::{Branch, BranchWord, DefinitionLine, Tested};
-use crate::directive_line::{is_punct, name_of};
-use pp_rs::lexer::{Lexer, Token as Word, TokenValue as WordValue};
+use crate::directive_line::{is_of_directive, is_punct, name_of};
+use pp_rs::lexer::{Lexer, LexerItem, Token as Word, TokenValue as WordValue};
 use pp_rs::rules::Rules;
 use pp_rs::token::{Location, PreprocessorError, Punct};
 use std::alloc::{AllocError, Global};
+use std::mem;
 
 /// A line of the text that asks for a name.
 #[derive(Drop)]
@@ -44,7 +45,7 @@ struct Block {
     first: usize,
 }
 
-// The lines of the text that ask about a condition.
+// The lines of the text that ask about the condition of a branch.
 #[derive(Drop)]
 struct Asked {
     // The line that is given if it is computed.
@@ -62,6 +63,25 @@ impl Asked {
             tested: Vec::new(alloc),
         }
     }
+
+    // Notes that a `defined` with the words that belong to it stands as a number at this byte offset.
+    fn stand_in(&mut self, words: &[Word], offset: u32) {
+        for word in words {
+            for tested in self.tested.iter_mut() {
+                if tested.location == word.location {
+                    tested.stand_in = Some(offset);
+                }
+            }
+        }
+    }
+}
+
+// A line of a source.
+#[derive(Drop)]
+struct Line {
+    // The words after its `#`, if it is a directive.
+    words: Vec<Word>,
+    is_directive: bool,
 }
 
 /// Where an operand of `&&` and one of `||` begin among the words of a condition, and what is open since.
@@ -106,6 +126,8 @@ pub(crate) struct Probe {
     pub definitions: Vec<DefinitionLine>,
     is_explaining: bool,
     blocks: Vec<Block>,
+    // What is asked about the next branch.
+    asked: Asked,
 }
 
 impl Probe {
@@ -118,7 +140,19 @@ impl Probe {
     ) -> Result<Probe, AllocError>
         requires { length source.now < 2 ^ 32 - 1 }
     {
-        let mut probe = Probe {
+        let mut probe = Probe::new(alloc, is_explaining);
+        match probe.read(rules, source) {
+            Ok(()) => Ok(probe),
+            Err(error) => {
+                drop(probe);
+                Err(error)
+            }
+        }
+    }
+
+    // No text yet.
+    fn new(alloc: Global, is_explaining: bool) -> Probe {
+        Probe {
             alloc,
             text: String::new(alloc),
             line: 1,
@@ -128,27 +162,66 @@ impl Probe {
             definitions: Vec::new(alloc),
             is_explaining,
             blocks: Vec::new(alloc),
-        };
-        let mut lexer = Lexer::with_rules(alloc, source, rules);
-        let mut words = Vec::new(alloc);
-        let mut is_directive = false;
-        'words: while let Some(item) = lexer.next() {
-            match item {
-                Ok(word) => match word.value {
-                    WordValue::Hash if word.start_of_line => is_directive = true,
-                    WordValue::NewLine => {
-                        probe.take_directive(words.as_slice(), word.location.start)?;
-                        words.clear();
-                        is_directive = false;
-                    }
-                    _ if is_directive => words.push(word)?,
-                    _ => {}
-                },
-                Err((PreprocessorError::OutOfMemory, _)) => return Err(AllocError),
-                Err((_error, _)) => {}
-            }
+            asked: Asked::none(alloc),
         }
-        Ok(probe)
+    }
+
+    // Takes the directives of a source.
+    fn read(&mut self, rules: Rules, source: &str) -> Result<(), AllocError>
+        requires { length source.now < 2 ^ 32 - 1 }
+    {
+        let mut line = Line {
+            words: Vec::new(self.alloc),
+            is_directive: false,
+        };
+        let end = self.read_lines(rules, source, &mut line);
+        drop(line);
+        end
+    }
+
+    // Does the same with a line that nothing is on.
+    fn read_lines(&mut self, rules: Rules, source: &str, line: &mut Line) -> Result<(), AllocError>
+        requires { length source.now < 2 ^ 32 - 1 }
+    {
+        let mut lexer = Lexer::with_rules(self.alloc, source, rules);
+        'words: while let Some(item) = lexer.next() {
+            self.take_item(item, line)?;
+        }
+        Ok(())
+    }
+
+    // Takes a word, or passes an error.
+    fn take_item(&mut self, item: LexerItem, line: &mut Line) -> Result<(), AllocError> {
+        match item {
+            Ok(word) => self.take_word(word, line),
+            Err((PreprocessorError::OutOfMemory, _)) => Err(AllocError),
+            Err((_error, _)) => Ok(()),
+        }
+    }
+
+    // Takes a word, which is put on the line if that is a directive.
+    fn take_word(&mut self, word: Word, line: &mut Line) -> Result<(), AllocError> {
+        if line.is_directive && is_of_directive(&word) {
+            line.words.push(word)?;
+            return Ok(());
+        }
+        let end = self.begin_or_end(&word, line);
+        drop(word);
+        end
+    }
+
+    // Takes a `#`, with which a directive begins, or the newline with which the line ends.
+    fn begin_or_end(&mut self, word: &Word, line: &mut Line) -> Result<(), AllocError> {
+        match word.value {
+            WordValue::Hash if word.start_of_line => line.is_directive = true,
+            WordValue::NewLine => {
+                self.take_directive(line.words.as_slice(), word.location.start)?;
+                line.words.clear();
+                line.is_directive = false;
+            }
+            _ => {}
+        }
+        Ok(())
     }
 
     /// The question on a line of the text.
@@ -238,56 +311,67 @@ impl Probe {
             "undef" => self.push_definition(words, false, end),
             "extension" => self.push_extension(words, end),
             "pragma" => self.push_directive("", words),
-            "include" => {
-                let Location {
-                    end: start,
-                    line,
-                    ..
-                } = first.location;
-                self.inclusions.push(Inclusion {
-                    line: self.line,
-                    rest: Location { start, end, line },
-                })?;
-                self.push_directive("include", &[])
-            }
+            "include" => self.push_inclusion(first, end),
             "ifdef" => self.open_by_name(BranchWord::Ifdef, words, end),
             "ifndef" => self.open_by_name(BranchWord::Ifndef, words, end),
-            "if" => {
-                self.open_block()?;
-                let asked = self.ask(rest, true)?;
-                self.push_directive("if", rest)?;
-                self.push_branch(BranchWord::If, first, end, asked)
-            }
-            "elif" => {
-                let Some(block) = self.blocks.pop() else {
-                    return Ok(());
-                };
-                self.blocks.push(Block {
-                    elifs: block.elifs.saturating_add(1),
-                    ..block
-                })?;
-                self.push_directive("else", &[])?;
-                let asked = self.ask(rest, true)?;
-                self.push_directive("if", rest)?;
-                self.push_branch(BranchWord::Elif, first, end, asked)
-            }
+            "if" => self.open_by_condition(first, rest, end),
+            "elif" => self.part_block(first, rest, end),
             "else" => {
-                let asked = Asked::none(self.alloc);
                 self.push_directive("", words)?;
-                self.push_branch(BranchWord::Else, first, end, asked)
+                self.push_branch(BranchWord::Else, first, end)
             }
-            "endif" => {
-                let Some(block) = self.blocks.last().copied() else {
-                    return Ok(());
-                };
-                let asked = Asked::none(self.alloc);
-                self.push_ends(block.elifs.saturating_add(1))?;
-                self.push_branch(BranchWord::Endif, first, end, asked)?;
-                self.blocks.pop();
-                Ok(())
-            }
+            "endif" => self.close_block(first, end),
             _ => Ok(()),
         }
+    }
+
+    // Takes an `#include` with this word.
+    fn push_inclusion(&mut self, word: &Word, end: u32) -> Result<(), AllocError> {
+        self.inclusions.push(Inclusion {
+            line: self.line,
+            rest: Location {
+                start: word.location.end,
+                end,
+                line: word.location.line,
+            },
+        })?;
+        self.push_directive("include", &[])
+    }
+
+    // Takes an `#if` with this word and condition.
+    fn open_by_condition(
+        &mut self,
+        word: &Word,
+        condition: &[Word],
+        end: u32,
+    ) -> Result<(), AllocError> {
+        self.open_block()?;
+        self.ask(condition, true)?;
+        self.push_directive("if", condition)?;
+        self.push_branch(BranchWord::If, word, end)
+    }
+
+    // Takes an `#elif` with this word and condition, if a block is open.
+    fn part_block(&mut self, word: &Word, condition: &[Word], end: u32) -> Result<(), AllocError> {
+        let Some(block) = self.blocks.last_mut() else {
+            return Ok(());
+        };
+        block.elifs = block.elifs.saturating_add(1);
+        self.push_directive("else", &[])?;
+        self.ask(condition, true)?;
+        self.push_directive("if", condition)?;
+        self.push_branch(BranchWord::Elif, word, end)
+    }
+
+    // Takes an `#endif` with this word, if a block is open.
+    fn close_block(&mut self, word: &Word, end: u32) -> Result<(), AllocError> {
+        let Some(block) = self.blocks.last().copied() else {
+            return Ok(());
+        };
+        self.push_ends(block.elifs.saturating_add(1))?;
+        self.push_branch(BranchWord::Endif, word, end)?;
+        self.blocks.pop();
+        Ok(())
     }
 
     // Takes a `#define` or an `#undef`.
@@ -354,9 +438,9 @@ impl Probe {
             return Ok(());
         };
         self.open_block()?;
-        let asked = self.ask(rest.get(..1).unwrap_or(&[]), false)?;
+        self.ask(rest.get(..1).unwrap_or(&[]), false)?;
         self.push_directive("", words)?;
-        self.push_branch(word, first, end, asked)
+        self.push_branch(word, first, end)
     }
 
     // Opens a block after the last branch.
@@ -371,13 +455,7 @@ impl Probe {
     }
 
     // Asks whether what follows the directive with this word is read, of which the line ends at this byte offset.
-    fn push_branch(
-        &mut self,
-        word: BranchWord,
-        first: &Word,
-        end: u32,
-        asked: Asked,
-    ) -> Result<(), AllocError> {
+    fn push_branch(&mut self, word: BranchWord, first: &Word, end: u32) -> Result<(), AllocError> {
         let (around, first_branch) = match self.blocks.last() {
             Some(block) => (block.around, block.first),
             None => (None, self.branches.len()),
@@ -386,7 +464,7 @@ impl Probe {
             reached_line,
             value_line,
             tested,
-        } = asked;
+        } = mem::replace(&mut self.asked, Asked::none(self.alloc));
         self.branches.push(Branch {
             word,
             start: first.location.start,
@@ -407,38 +485,28 @@ impl Probe {
     }
 
     // Asks about the condition with these words, which is an expression or a name.
-    fn ask(&mut self, words: &[Word], is_expression: bool) -> Result<Asked, AllocError> {
-        let mut asked = Asked::none(self.alloc);
+    fn ask(&mut self, words: &[Word], is_expression: bool) -> Result<(), AllocError> {
         if self.is_explaining {
-            asked.reached_line = self.line;
+            self.asked.reached_line = self.line;
             self.push_answer()?;
-            self.ask_for_definitions(words, &mut asked)?;
+            self.ask_for_definitions(words)?;
             if is_expression {
-                self.ask_for_value(words, &mut asked)?;
+                self.ask_for_value(words)?;
             }
         }
         if is_expression {
             self.ask_for_names(words)?;
         }
-        Ok(asked)
+        Ok(())
     }
 
     // Asks which names of a condition are defined.
-    fn ask_for_definitions(&mut self, words: &[Word], asked: &mut Asked) -> Result<(), AllocError> {
+    fn ask_for_definitions(&mut self, words: &[Word]) -> Result<(), AllocError> {
         for (index, word) in words.iter().enumerate() {
-            let after = index.saturating_add(1);
             match name_of(word) {
                 Some(name) if name != "defined" => {
-                    self.push_directive("ifdef", words.get(index..after).unwrap_or(&[]))?;
-                    asked.tested.push(Tested {
-                        name: String::from_str(self.alloc, name)?,
-                        location: word.location,
-                        is_defined: false,
-                        line: self.line,
-                        stand_in: None,
-                    })?;
-                    self.push_answer()?;
-                    self.push_directive("endif", &[])?;
+                    let alone = words.get(index..index.saturating_add(1)).unwrap_or(&[]);
+                    self.ask_for_definition(name, word.location, alone)?;
                 }
                 _ => {}
             }
@@ -446,39 +514,67 @@ impl Probe {
         Ok(())
     }
 
+    // Asks whether a name is defined, which is this word alone.
+    fn ask_for_definition(
+        &mut self,
+        name: &str,
+        location: Location,
+        alone: &[Word],
+    ) -> Result<(), AllocError> {
+        self.push_directive("ifdef", alone)?;
+        self.asked.tested.push(Tested {
+            name: String::from_str(self.alloc, name)?,
+            location,
+            is_defined: false,
+            line: self.line,
+            stand_in: None,
+        })?;
+        self.push_answer()?;
+        self.push_directive("endif", &[])
+    }
+
     // Asks what a condition becomes, with a 0 in place of each `defined` and what belongs to it.
-    fn ask_for_value(&mut self, words: &[Word], asked: &mut Asked) -> Result<(), AllocError> {
-        asked.value_line = self.line;
+    fn ask_for_value(&mut self, words: &[Word]) -> Result<(), AllocError> {
+        self.asked.value_line = self.line;
         let mut next = 0;
         for (index, word) in words.iter().enumerate() {
-            if index < next {
-                continue;
-            }
-            next = index.saturating_add(1);
-            if name_of(word) == Some("defined") {
-                next = end_of_name(words, index);
-                self.text.push(' ')?;
-                let offset = u32::try_from(self.text.len()).unwrap_or(u32::MAX);
-                stand_in(asked, words.get(index..next).unwrap_or(&[]), offset);
-                self.text.push('0')?;
-            } else {
-                self.push_words(words.get(index..next).unwrap_or(&[]))?;
+            if index >= next {
+                next = end_of_operand(words, index);
+                self.push_operand_value(word, words.get(index..next).unwrap_or(&[]))?;
             }
         }
         self.push_line_end()
     }
 
+    // Appends the words of an operand, or a 0 if the first is `defined`.
+    fn push_operand_value(&mut self, first: &Word, words: &[Word]) -> Result<(), AllocError> {
+        if name_of(first) != Some("defined") {
+            return self.push_words(words);
+        }
+        self.text.push(' ')?;
+        let offset = u32::try_from(self.text.len()).unwrap_or(u32::MAX);
+        self.asked.stand_in(words, offset);
+        self.text.push('0')
+    }
+
     // Asks for the names of a condition, each only if what is before it makes it count.
     fn ask_for_names(&mut self, words: &[Word]) -> Result<(), AllocError> {
         let mut groups = Vec::new(self.alloc);
+        let end = self.ask_by_groups(words, &mut groups);
+        drop(groups);
+        end
+    }
+
+    // Does the same with no group yet.
+    fn ask_by_groups(&mut self, words: &[Word], groups: &mut Vec<Group>) -> Result<(), AllocError> {
         groups.push(Group::new(0))?;
         let mut next = 0;
         for index in 0..words.len() {
             if index >= next {
-                next = self.ask_at(words, index, &mut groups)?;
+                next = self.ask_at(words, index, groups)?;
             }
         }
-        for group in groups {
+        for group in groups.as_slice() {
             self.push_ends(group.ands.saturating_add(group.ors))?;
         }
         Ok(())
@@ -499,18 +595,13 @@ impl Probe {
             WordValue::Ident(name) => {
                 let end = end_of_name(words, index);
                 if name.as_str() != "defined" {
-                    self.push_question(name.as_str(), word.location)?;
-                    self.push_words(words.get(index..end).unwrap_or(&[]))?;
-                    self.push_line_end()?;
+                    let used = words.get(index..end).unwrap_or(&[]);
+                    self.ask_for_name(name.as_str(), word.location, used)?;
                 }
                 return Ok(end);
             }
             WordValue::Punct(Punct::LeftParen) => groups.push(Group::new(after))?,
-            WordValue::Punct(Punct::RightParen) if groups.len() > 1 => {
-                if let Some(group) = groups.pop() {
-                    self.push_ends(group.ands.saturating_add(group.ors))?;
-                }
-            }
+            WordValue::Punct(Punct::RightParen) => self.close_group(groups)?,
             WordValue::Punct(punct @ (Punct::LogicalAnd | Punct::LogicalOr))
                 if groups.len() <= DEEPEST => {
                 if let Some(group) = groups.last_mut() {
@@ -520,6 +611,29 @@ impl Probe {
             _ => {}
         }
         Ok(after)
+    }
+
+    // Asks for a name, which is used by these words.
+    fn ask_for_name(
+        &mut self,
+        name: &str,
+        location: Location,
+        used: &[Word],
+    ) -> Result<(), AllocError> {
+        self.push_question(name, location)?;
+        self.push_words(used)?;
+        self.push_line_end()
+    }
+
+    // Closes the innermost group, unless it is that of the whole condition.
+    fn close_group(&mut self, groups: &mut Vec<Group>) -> Result<(), AllocError> {
+        if groups.len() <= 1 {
+            return Ok(());
+        }
+        match groups.pop() {
+            Some(group) => self.push_ends(group.ands.saturating_add(group.ors)),
+            None => Ok(()),
+        }
     }
 
     // Opens an `#if` for the left operand of an `&&` or `||`, in which is what follows if its right one counts.
@@ -593,14 +707,11 @@ impl Probe {
     }
 }
 
-// Notes that a `defined` with the words that belong to it stands as a number at this byte offset.
-fn stand_in(asked: &mut Asked, words: &[Word], offset: u32) {
-    for word in words {
-        for tested in asked.tested.iter_mut() {
-            if tested.location == word.location {
-                tested.stand_in = Some(offset);
-            }
-        }
+// The index after a word, or after what belongs to it if it is `defined`.
+fn end_of_operand(words: &[Word], index: usize) -> usize {
+    match words.get(index) {
+        Some(word) if name_of(word) == Some("defined") => end_of_name(words, index),
+        _ => index.saturating_add(1),
     }
 }
 

@@ -1,13 +1,15 @@
 //! Texts as the lexer reads them.
 
 ghost use Rattle.std.specs.Prelude.{◌≡◌, ◌-◌, ◌^◌, ◌<◌, ◌∷◌, [], ◌↔◌, IsTrue, false, length, IfOk, OnOk, MatchOption};
+ghost use Rattle.std.specs.Prelude.{Ok, Some};
 ghost use Rattle.std.specs.Str.{chars, IsAscii};
 ghost use Rattle.pp_lexer.specs.PlainItems.{value_of as plain_value};
 ghost use Rattle.pp_lexer.specs.Respelling.{lexer_value};
 ghost use Rattle.pp_rs.specs.TokenRefs.{value_of};
 ghost use Rattle.glslpp_parts.specs.Reading.{values_ahead, IsReadAs};
+ghost use Rattle.glslpp_parts.specs.inner.Taking.{IsTaken};
 
-use pp_rs::lexer::{Form, Lexer, PlainItem, TokenValue as Word, without_suffix};
+use pp_rs::lexer::{Form, Lexer, LexerItem, PlainItem, Token, TokenValue as Word, without_suffix};
 use pp_rs::pp::ValueRef;
 use pp_rs::rules::Rules;
 use pp_rs::token::{Float, PreprocessorError, Text};
@@ -28,6 +30,44 @@ pub(crate) fn read_next(lexer: &mut Lexer<'_>) -> Result<Option<Read>, AllocErro
         Some(Err((PreprocessorError::OutOfMemory, _))) => Err(AllocError),
         Some(Err((error, _))) => Ok(Some(Err(error))),
         None => Ok(None),
+    }
+}
+
+/// What takes the tokens of a text, in live and dead text alike.
+pub(crate) trait TokenReader {
+    /// Takes the next token.
+    fn take(&mut self, token: &Token) -> Result<(), AllocError>;
+
+    /// Takes an error that is in place of a token.
+    fn take_error(&mut self) {}
+}
+
+/// Gives the reader each token of a text, which these rules read.
+pub(crate) fn read_tokens<R: TokenReader>(
+    alloc: Global,
+    rules: Rules,
+    text: &str,
+    reader: &mut R,
+) -> Result<(), AllocError>
+    requires { length text.now < 2 ^ 32 - 1 }
+{
+    let mut lexer = Lexer::with_rules(alloc, text, rules);
+    'tokens: while let Some(item) = lexer.next() {
+        let end = give_item(&item, reader);
+        drop(item);
+        end?;
+    }
+    Ok(())
+}
+
+fn give_item<R: TokenReader>(item: &LexerItem, reader: &mut R) -> Result<(), AllocError> {
+    match item {
+        Ok(token) => reader.take(token),
+        Err((PreprocessorError::OutOfMemory, _)) => Err(AllocError),
+        Err(_) => {
+            reader.take_error();
+            Ok(())
+        }
     }
 }
 
@@ -60,16 +100,67 @@ fn are_items_of(
     ensures { IfOk result (λ is. IsTrue is ↔ IsReadAs rules (value_of value.entry) text.now) }
 {
     let mut lexer = Lexer::with_rules(alloc, text, rules);
-    let Some(Ok(word)) = read_next(&mut lexer)? else {
-        return Ok(false);
-    };
-    if !is_same(&word, value) {
+    if !take_value(&mut lexer, value)? {
         return Ok(false);
     }
-    let Some(Ok(Word::NewLine)) = read_next(&mut lexer)? else {
+    if !take_newline(&mut lexer)? {
         return Ok(false);
-    };
-    Ok(read_next(&mut lexer)?.is_none())
+    }
+    take_end(&mut lexer)
+}
+
+// Takes what comes next, and returns whether it is this value.
+fn take_value(lexer: &mut Lexer<'_>, value: ValueRef<'_>) -> Result<bool, AllocError>
+    requires { lexer.old.spent ≡ false }
+    ensures is { IfOk result (λ is. IsTaken is (Ok (lexer_value (value_of value.entry)))
+        (values_ahead lexer.old) (values_ahead lexer.new)) }
+    ensures spent { OnOk result (lexer.new.spent ≡ false) }
+{
+    let read = read_next(lexer)?;
+    let is = is_value(&read, value);
+    drop(read);
+    Ok(is)
+}
+
+// Takes what comes next, and returns whether it is a newline.
+fn take_newline(lexer: &mut Lexer<'_>) -> Result<bool, AllocError>
+    requires { lexer.old.spent ≡ false }
+    ensures is { IfOk result (λ is. IsTaken is (Ok Word.NewLine) (values_ahead lexer.old)
+        (values_ahead lexer.new)) }
+    ensures spent { OnOk result (lexer.new.spent ≡ false) }
+{
+    let read = read_next(lexer)?;
+    let is = is_newline(&read);
+    drop(read);
+    Ok(is)
+}
+
+// Returns whether nothing comes next.
+fn take_end(lexer: &mut Lexer<'_>) -> Result<bool, AllocError>
+    requires { lexer.old.spent ≡ false }
+    ensures { IfOk result (λ is. IsTrue is ↔ (values_ahead lexer.old ≡ [])) }
+{
+    let read = read_next(lexer)?;
+    let is = read.is_none();
+    drop(read);
+    Ok(is)
+}
+
+// Whether this value was read.
+fn is_value(read: &Option<Read>, value: ValueRef<'_>) -> bool
+    ensures { IsTrue result ↔ (read.now ≡ Some (Ok (lexer_value (value_of value.entry)))) }
+{
+    match read {
+        Some(Ok(word)) => is_same(word, value),
+        _ => false,
+    }
+}
+
+// Whether a newline was read.
+fn is_newline(read: &Option<Read>) -> bool
+    ensures { IsTrue result ↔ (read.now ≡ Some (Ok Word.NewLine)) }
+{
+    matches!(read, Some(Ok(Word::NewLine)))
 }
 
 // Whether the value of the word is this one.

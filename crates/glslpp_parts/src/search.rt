@@ -3,7 +3,7 @@
 ghost use Rattle.std.specs.Prelude.{◌-◌, ◌^◌, ◌<◌, length};
 
 use crate::quoting::is_name_char;
-use pp_rs::lexer::{Lexer, TokenValue};
+use pp_rs::lexer::{Lexer, LexerItem, TokenValue};
 use pp_rs::rules::Rules;
 use pp_rs::token::Punct;
 use std::alloc::Global;
@@ -30,24 +30,65 @@ pub(crate) fn count_arguments(alloc: Global, rules: Rules, text: &str) -> Option
     requires { length text.now < 2 ^ 32 - 1 }
 {
     let mut lexer = Lexer::with_rules(alloc, text, rules);
-    let mut depth = 0usize;
-    let mut count = 0usize;
+    let mut counter = Counter { depth: 0, count: 0 };
     'tokens: while let Some(item) = lexer.next() {
-        match item.ok()?.value {
-            TokenValue::NewLine => {}
-            TokenValue::Punct(Punct::LeftParen) => {
-                depth = depth.saturating_add(1);
-                count = count.max(depth.saturating_sub(1).min(1));
-            }
-            TokenValue::Punct(Punct::RightParen) => {
-                depth = depth.saturating_sub(1);
-                if depth == 0 {
-                    return Some(count);
-                }
-            }
-            TokenValue::Punct(Punct::Comma) if depth == 1 => count = count.max(1).saturating_add(1),
-            _ => count = count.max(1),
+        let end = counter.take_item(&item);
+        drop(item);
+        match end {
+            End::Open => {}
+            End::Closed => return Some(counter.count),
+            End::Refused => return None,
         }
     }
     None
+}
+
+/// Whether the arguments of a call end with a token.
+#[derive(Clone, Copy)]
+enum End {
+    /// They go on.
+    Open,
+    /// They end.
+    Closed,
+    /// There is an error in its place.
+    Refused,
+}
+
+// The arguments of a call, up to a token.
+#[derive(Clone, Copy)]
+struct Counter {
+    // How many parentheses are open.
+    depth: usize,
+    // How many arguments have begun.
+    count: usize,
+}
+
+impl Counter {
+    fn take_item(&mut self, item: &LexerItem) -> End {
+        match item {
+            Ok(token) => self.take(&token.value),
+            Err(_) => End::Refused,
+        }
+    }
+
+    fn take(&mut self, value: &TokenValue) -> End {
+        match value {
+            TokenValue::NewLine => {}
+            TokenValue::Punct(Punct::LeftParen) => {
+                self.depth = self.depth.saturating_add(1);
+                self.count = self.count.max(self.depth.saturating_sub(1).min(1));
+            }
+            TokenValue::Punct(Punct::RightParen) => {
+                self.depth = self.depth.saturating_sub(1);
+                if self.depth == 0 {
+                    return End::Closed;
+                }
+            }
+            TokenValue::Punct(Punct::Comma) if self.depth == 1 => {
+                self.count = self.count.max(1).saturating_add(1);
+            }
+            _ => self.count = self.count.max(1),
+        }
+        End::Open
+    }
 }

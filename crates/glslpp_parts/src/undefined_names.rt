@@ -19,6 +19,7 @@ use pp_rs::pp::{Origin, Preprocessor, SOURCE_TEXT};
 use pp_rs::rules::Rules;
 use pp_rs::token::{Location, Token, TokenValue};
 use std::alloc::{AllocError, Global};
+use std::mem;
 
 /// A name in a condition that is not defined.
 #[derive(Drop)]
@@ -104,9 +105,19 @@ impl<'a> UndefinedNames<'a> {
             history: MacroHistory::new(alloc),
             ended_at: None,
         };
-        names.push_probe(SOURCE_TEXT, source)?;
-        names.history.begin(SOURCE_TEXT, None)?;
-        Ok(names)
+        match names.begin(source) {
+            Ok(()) => Ok(names),
+            Err(error) => {
+                drop(names);
+                Err(error)
+            }
+        }
+    }
+
+    // Begins with the source.
+    fn begin(&mut self, source: File<'a>) -> Result<(), AllocError> {
+        self.push_probe(SOURCE_TEXT, source)?;
+        self.history.begin(SOURCE_TEXT, None)
     }
 
     // Makes the probe of a text. One that is too long has none.
@@ -303,24 +314,37 @@ impl<'a> UndefinedNames<'a> {
 
     /// What was found, in all conditions or in those up to one with an error.
     pub fn finish(mut self, is_whole: bool) -> Result<Conditions, AllocError> {
-        let mut are_known = !self.has_line_numbers && (is_whole || self.ended_at.is_some());
+        let mut conditions = Conditions::none(self.alloc);
+        let end = self.fill(&mut conditions, is_whole);
+        drop(self);
+        match end {
+            Ok(()) => Ok(conditions),
+            Err(error) => {
+                drop(conditions);
+                Err(error)
+            }
+        }
+    }
+
+    // Moves what was found.
+    fn fill(&mut self, conditions: &mut Conditions, is_whole: bool) -> Result<(), AllocError> {
         if let Some((text, line)) = self.ended_at {
             self.forget_after(text, line);
         }
         self.history.end()?;
-        let mut branches = Vec::new(self.alloc);
-        for (number, probe) in self.probes {
-            let mut found = probe.branches;
-            note_taken(self.alloc, found.as_mut_slice())?;
-            are_known = are_known && is_consistent(found.as_slice());
-            branches.push((number, found))?;
+        mem::swap(&mut conditions.undefined, &mut self.found);
+        mem::swap(&mut conditions.history, &mut self.history);
+        conditions.are_known = !self.has_line_numbers && (is_whole || self.ended_at.is_some());
+        for (number, probe) in self.probes.iter_mut() {
+            let mut branches = mem::replace(&mut probe.branches, Vec::new(self.alloc));
+            let noted = note_taken(self.alloc, branches.as_mut_slice());
+            if !is_consistent(branches.as_slice()) {
+                conditions.are_known = false;
+            }
+            conditions.branches.push((*number, branches))?;
+            noted?;
         }
-        Ok(Conditions {
-            undefined: self.found,
-            branches,
-            are_known,
-            history: self.history,
-        })
+        Ok(())
     }
 
     // Notes that nothing is known of the branches from a line of the probe of a text on, and of those after the

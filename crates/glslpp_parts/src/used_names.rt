@@ -2,9 +2,9 @@
 
 ghost use Rattle.std.specs.Prelude.{◌-◌, ◌^◌, ◌<◌, length};
 
-use pp_rs::lexer::{Lexer, Token, TokenValue};
+use crate::reading::{TokenReader, read_tokens};
+use pp_rs::lexer::{Token, TokenValue};
 use pp_rs::rules::Rules;
-use pp_rs::token::PreprocessorError;
 use std::alloc::{AllocError, Global};
 use std::collections::BTreeSet;
 
@@ -28,21 +28,25 @@ impl UsedNames {
     pub fn of(alloc: Global, rules: Rules, source: &str) -> Result<UsedNames, AllocError>
         requires { length source.now < 2 ^ 32 - 1 }
     {
-        let mut lexer = Lexer::with_rules(alloc, source, rules);
+        let mut used = UsedNames::none(alloc);
+        used.read(rules, source)?;
+        Ok(used)
+    }
+
+    /// Adds the names of a source, which is read by these rules.
+    pub(crate) fn read(&mut self, rules: Rules, source: &str) -> Result<(), AllocError>
+        requires { length source.now < 2 ^ 32 - 1 }
+    {
+        let alloc = self.alloc;
         let mut reader = Reader {
             alloc,
             stage: Stage::Text,
             own: String::new(alloc),
-            used: UsedNames::none(alloc),
+            used: self,
         };
-        'tokens: while let Some(item) = lexer.next() {
-            match item {
-                Ok(token) => reader.take(&token)?,
-                Err((PreprocessorError::OutOfMemory, _)) => return Err(AllocError),
-                Err((_error, _)) => {}
-            }
-        }
-        Ok(reader.used)
+        let end = read_tokens(alloc, rules, source, &mut reader);
+        drop(reader);
+        end
     }
 
     /// Whether a name is among them.
@@ -72,17 +76,17 @@ enum Stage {
     Undef,
 }
 
-/// The names that were read.
+/// What reads a source, and notes the names in it.
 #[derive(Drop)]
-struct Reader {
+struct Reader<'u> {
     alloc: Global,
     stage: Stage,
     // The name whose `#define` this line is, or nothing.
     own: String,
-    used: UsedNames,
+    used: &'u mut UsedNames,
 }
 
-impl Reader {
+impl<'u> TokenReader for Reader<'u> {
     fn take(&mut self, token: &Token) -> Result<(), AllocError> {
         self.stage = match (self.stage, &token.value) {
             (_, TokenValue::NewLine) => {
@@ -103,7 +107,9 @@ impl Reader {
         };
         Ok(())
     }
+}
 
+impl<'u> Reader<'u> {
     fn use_name(&mut self, name: &str) -> Result<(), AllocError> {
         if self.own.as_str() == name {
             return Ok(());

@@ -1,10 +1,13 @@
 //! The names that GLSL predefines, by the `#version` of a source.
 
-ghost use Rattle.std.specs.Prelude.{◌≡◌, ◌-◌, ◌^◌, ◌<◌, ◌++◌, [], ◌∷◌, false, OnOk, IfOk, MatchOption, is_some, length};
+ghost use Rattle.std.specs.Prelude.{◌≡◌, ◌-◌, ◌^◌, ◌<◌, ◌++◌, [], ◌∷◌, false, None, OnOk, IfOk, MatchOption};
+ghost use Rattle.std.specs.Prelude.{is_some, length};
+ghost use Rattle.std.specs.Option.{option_and_then};
 ghost use Rattle.std.specs.Str.{chars};
 ghost use Rattle.pp_lexer.specs.Respelling.{read_values};
 ghost use Rattle.glslpp_parts.specs.Reading.{values_ahead};
 ghost use Rattle.glslpp_parts.specs.Version.{after_newlines, version_line, after_hash, numbered, profile_of, is_word};
+ghost use Rattle.glslpp_parts.specs.Version.{is_hash, number_of};
 ghost use Rattle.glslpp_parts.specs.Version.{version_of, is_es, has_high_precision, has_core, is_compatible, said};
 ghost use Rattle.glslpp_parts.specs.Version.{as_one, predefined};
 
@@ -57,10 +60,20 @@ fn read_version(lexer: &mut Lexer<'_>) -> Result<Option<Version>, AllocError>
     ensures { IfOk result (λ version. version
         ≡ version_line (after_newlines (values_ahead lexer.old))) }
 {
-    match read_past_newlines(lexer)? {
-        Some(Ok(Word::Hash)) => read_after_hash(lexer),
-        _ => Ok(None),
+    let read = read_past_newlines(lexer)?;
+    let is_begun = is_hash(&read);
+    drop(read);
+    if !is_begun {
+        return Ok(None);
     }
+    read_after_hash(lexer)
+}
+
+// Whether a `#` was read.
+fn is_hash(read: &Option<Read>) -> bool
+    ensures { MatchOption read.now (result ≡ false) (λ read. result ≡ is_hash read) }
+{
+    matches!(read, Some(Ok(Word::Hash)))
 }
 
 // The first value or error that isn't a newline.
@@ -85,41 +98,78 @@ fn read_after_hash(lexer: &mut Lexer<'_>) -> Result<Option<Version>, AllocError>
     requires { lexer.old.spent ≡ false }
     ensures { IfOk result (λ version. version ≡ after_hash (values_ahead lexer.old)) }
 {
-    match read_next(lexer)? {
-        Some(read) if is_word(&read, "version") => read_number(lexer),
-        _ => Ok(None),
+    let read = read_next(lexer)?;
+    let is_version = is_next_word(&read, "version");
+    drop(read);
+    if !is_version {
+        return Ok(None);
     }
+    read_number(lexer)
 }
 
 fn read_number(lexer: &mut Lexer<'_>) -> Result<Option<Version>, AllocError>
     requires { lexer.old.spent ≡ false }
     ensures { IfOk result (λ version. version ≡ numbered (values_ahead lexer.old)) }
 {
-    let Some(Ok(Word::Integer(integer))) = read_next(lexer)? else {
+    let read = read_next(lexer)?;
+    let number = number_of(&read);
+    drop(read);
+    let Some(number) = number else {
         return Ok(None);
     };
     Ok(Some(Version {
-        number: integer.value,
+        number,
         profile: read_profile(lexer)?,
     }))
+}
+
+// The integer that was read.
+fn number_of(read: &Option<Read>) -> Option<u64>
+    ensures { result ≡ option_and_then number_of read.now }
+{
+    match read {
+        Some(Ok(Word::Integer(integer))) => Some(integer.value),
+        _ => None,
+    }
 }
 
 fn read_profile(lexer: &mut Lexer<'_>) -> Result<Option<Profile>, AllocError>
     requires { lexer.old.spent ≡ false }
     ensures { IfOk result (λ profile. profile ≡ profile_of (values_ahead lexer.old)) }
 {
-    let Some(read) = read_next(lexer)? else {
-        return Ok(None);
+    let read = read_next(lexer)?;
+    let profile = named_profile(&read);
+    drop(read);
+    Ok(profile)
+}
+
+// The profile that the word names that was read.
+fn named_profile(read: &Option<Read>) -> Option<Profile>
+    ensures { MatchOption read.now (result ≡ None) (λ read. (reads : _) → result ≡ profile_of (read ∷ reads)) }
+{
+    let Some(read) = read else {
+        return None;
     };
-    Ok(if is_word(&read, "es") {
+    if is_word(read, "es") {
         Some(Profile::Es)
-    } else if is_word(&read, "core") {
+    } else if is_word(read, "core") {
         Some(Profile::Core)
-    } else if is_word(&read, "compatibility") {
+    } else if is_word(read, "compatibility") {
         Some(Profile::Compatibility)
     } else {
         None
-    })
+    }
+}
+
+// Whether this word was read. It is ASCII.
+fn is_next_word(read: &Option<Read>, word: &str) -> bool
+    requires { chars word.now ≡ word.now }
+    ensures { MatchOption read.now (result ≡ false) (λ read. result ≡ is_word word.now read) }
+{
+    match read {
+        Some(read) => is_word(read, word),
+        None => false,
+    }
 }
 
 // Whether this word was read. It is ASCII.

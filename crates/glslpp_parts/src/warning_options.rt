@@ -20,8 +20,8 @@ pub(crate) fn with_warning_options<'a>(
     ensures { IfOk result (λ new. options_of new ≡ options_of command.entry ++ warning_options) }
 {
     let warning = definition_option(alloc, "warning", 'W', "KIND", WARNING_HELP);
-    let silent = short_flag(alloc, "silent", 'w', SILENT_HELP);
     let first = with_option(command, MESSAGES, warning)?;
+    let silent = short_flag(alloc, "silent", 'w', SILENT_HELP);
     let second = with_option(first, MESSAGES, silent)?;
     Ok(second)
 }

@@ -1,5 +1,5 @@
 use Rattle.glslpp_parts.proofs.VersionLemmas.{chars-version}
 use Rattle.glslpp_parts.proofs.version.read_after_hash.Goals as goal
 
-pub is_word-requires : goal.is_word-requires
-is_word-requires c = chars-version
+pub is_next_word-is_version-requires : goal.is_next_word-is_version-requires
+is_next_word-is_version-requires c = chars-version

@@ -1,11 +1,8 @@
-use Rattle.glslpp_parts.proofs.VersionLemmas.{chars-es, chars-core, chars-compatibility}
+use Rattle.glslpp_parts.specs.Reading.{values_ahead}
+use Rattle.glslpp_parts.proofs.VersionLemmas.{told_profile}
 use Rattle.glslpp_parts.proofs.version.read_profile.Goals as goal
 
-pub is_word-requires : goal.is_word-requires
-is_word-requires c = chars-es
-
-pub is_word-requires-else-is_word : goal.is_word-requires-else-is_word
-is_word-requires-else-is_word c = chars-core
-
-pub is_word-requires-else-is_word-2 : goal.is_word-requires-else-is_word-2
-is_word-requires-else-is_word-2 c = chars-compatibility
+pub returns : goal.returns
+returns c =
+    told_profile c.in_ok-read.read (values_ahead c.args.lexer.now) (values_ahead c.read_next.new.lexer) c.named_profile-profile.result
+    c.in_ok-read.ensures.next c.named_profile-profile.ensures
