@@ -5,17 +5,20 @@ use Rattle.std.specs.List.{AllByRecursion as Each}
 use Rattle.std.specs.Str.{chars}
 use Rattle.pp_macros.specs.LexerErrors.{ErrorAt, lexer_errors_by}
 use Rattle.pp_model.specs.Emitting.{answers_at, expansion_limit}
-use Rattle.pp_model.specs.Run.{Call, next, items_by, start_by, with_added, with_included, by_rules, Runs}
-use Rattle.pp_model.specs.Run as run
+use Rattle.pp_model.specs.Run.{Call, next, items_by}
+use Rattle.pp_model.specs.RunToEnd as run
+use Rattle.pp_model.specs.RunToEnd.{RunsToEnd, to_first_error}
 use Rattle.pp_model.specs.declared.call.Reply.{Reply}
 use Rattle.pp_model.specs.declared.call.Reply.TheVariants as reply
 use Rattle.pp_model.specs.declared.outcome.Outcome.{Outcome}
 use Rattle.pp_model.specs.declared.outcome.Outcome.TheVariants as outcome
-use Rattle.pp_rs.specs.Comes.{State, Comes}
+use Rattle.pp_rs.specs.Comes.{State, Comes, start_by, with_added, with_included}
 use Rattle.pp_rs.specs.Kept.{Preprocessing, Stands, errors_left, asked_line, rules_of}
 use Rattle.pp_rs.specs.declared.rules.Rules.{Rules}
-use Rattle.pp_rs.specs.Preprocessing.{outcome_of, Asks, GoesOn}
+use Rattle.pp_rs.specs.Preprocessing.{outcome_of, Asks}
 use Rattle.pp_rs.specs.Preprocessing as place
+use Rattle.pp_model.proofs.onward.RunsBeginLemmas.{run_to_end_begins}
+use Rattle.pp_rs.proofs.runs.ComesLemmas.{given_run}
 use Rattle.pp_c.specs.Preprocessed.{Given, token, error, outcomes_to_error, replies_to_next, ErrorsStand, IsPossibleAnswer, AreAnswersBy}
 use Rattle.pp_c.specs.Preprocessed as stand
 use Rattle.pp_c.specs.inner.Making.{Made, GivesNext}
@@ -42,11 +45,11 @@ made_rules p q calls answers (made.refused name content fault p1 r1 rest c a has
 made_rules p q calls answers (made.included text p1 q1 r1 rest c a w m e) = made_rules q1 q rest answers m ∙ w.rules
 made_rules p q calls answers (made.gave answer p1 q1 r1 rest c others a g m e b) = made_rules q1 q rest others m ∙ g.rules
 
--- a run with these answers, by these rules
+-- a run to the end with these answers, by these rules
 record HasRun (rules : Rules) (state : State) (calls : List Call) (outcomes : List Outcome) : Type 0 where
   pub replies : List Reply
-  pub runs : Runs (by_rules (answers_at expansion_limit)) rules state calls replies
-  pub gives : replies_to_next replies ≡ outcomes
+  pub runs : RunsToEnd (answers_at expansion_limit) rules state calls replies
+  pub gives : replies_to_next (to_first_error replies) ≡ outcomes
 
 run_gave : (rules : Rules) (answer : Option Given) (others : List (Option Given)) (p q : Preprocessing) (rest : List Call) (state : State)
     → rules_of p ≡ rules → Stands p state → GivesNext p answer q
@@ -56,7 +59,7 @@ run_gave rules None others p q rest state same stands g go =
     let r = go item.after item.goes_on in
     record {
       replies = reply.Given outcome.End ∷ r.replies;
-      runs = run.given outcome.End state item.after rest r.replies _ item.emits refl r.runs refl;
+      runs = given_run rules outcome.End state item.after rest r.replies item.emits r.runs;
       gives = ap (λ os. outcome.End ∷ os) r.gives;
     }
 run_gave rules (Some (token t)) others p q rest state same stands g go =
@@ -64,25 +67,28 @@ run_gave rules (Some (token t)) others p q rest state same stands g go =
     let r = go item.after item.goes_on in
     record {
       replies = reply.Given (outcome.Token t) ∷ r.replies;
-      runs = run.given (outcome.Token t) state item.after rest r.replies _ item.emits refl r.runs refl;
+      runs = given_run rules (outcome.Token t) state item.after rest r.replies item.emits r.runs;
       gives = ap (λ os. outcome.Token t ∷ os) r.gives;
     }
 run_gave rules (Some (error fault at None)) others p q rest state same stands g go =
     let item = g.given.item state stands in
     let asked = sym g.placed.1 in
+    let r = go item.after item.goes_on in
     record {
-      replies = reply.Given (outcome.Fault fault) ∷ [];
-      runs = run.failed fault state item.after rest _ (subst (λ a. Comes state (outcome_of (Some (Err fault)) a) item.after) asked item.emits) refl;
+      replies = reply.Given (outcome.Fault fault) ∷ r.replies;
+      runs = given_run rules (outcome.Fault fault) state item.after rest r.replies
+          (subst (λ a. Comes state (outcome_of (Some (Err fault)) a) item.after) asked item.emits) r.runs;
       gives = refl;
     }
 run_gave rules (Some (error fault at (Some line))) others p q rest state same stands g go =
     let item = g.given.item state stands in
     let asked = sym g.placed.1 in
-    let r = go item.after (subst (λ a. GoesOn (Some (Err fault)) a q item.after) asked item.goes_on) in
+    let r = go item.after item.goes_on in
     let o = outcome.Include (record { word = fault.1; rest = line }) in
     record {
       replies = reply.Given o ∷ r.replies;
-      runs = run.given o state item.after rest r.replies _ (subst (λ a. Comes state (outcome_of (Some (Err fault)) a) item.after) asked item.emits) refl r.runs refl;
+      runs = given_run rules o state item.after rest r.replies
+          (subst (λ a. Comes state (outcome_of (Some (Err fault)) a) item.after) asked item.emits) r.runs;
       gives = ap (λ os. o ∷ os) r.gives;
     }
 
@@ -183,8 +189,8 @@ answers_by rules source begun new calls answers stands errors same m =
     let r = run_made rules begun new calls answers (start_by rules (items_by rules source)) same stands m in
     let p = rw errors at (reported rules begun new calls answers same m) in
     record {
-      replies = r.replies;
-      run = r.runs;
+      replies = to_first_error r.replies;
+      run = run_to_end_begins rules source calls r.replies r.runs;
       gives = r.gives;
       left = p.left;
       places = p.places;

@@ -1,7 +1,8 @@
 -- What a call gives in C.
 use Rattle.std.proofs.Common.{◌≡◌, ◌∙◌, ℕ, ◌<◌, ◌^◌, ◌≢◌, inl, inr, true, Option, Some, None, refl, subst, List, ◌++◌, length, drop, ap, sym, arith}
 use Rattle.pp_macros.specs.LexerErrors.{lexer_errors_by}
-use Rattle.pp_model.specs.Run.{items_by, start_by}
+use Rattle.pp_model.specs.Run.{items_by}
+use Rattle.pp_rs.specs.Comes.{start_by}
 use Rattle.pp_rs.specs.Kept.{Preprocessing, Stands, errors_left, rules_of}
 use Rattle.pp_rs.specs.Rules.{pp_rs}
 use Rattle.pp_c.specs.Calls.{calls_from}

@@ -4,7 +4,8 @@ use Rattle.std.proofs.lemmas.List.{append-nil, replicate-append-replicate}
 use Rattle.std.proofs.Math.ListN.{replicate}
 use Rattle.std.specs.Prelude.{false}
 use Rattle.pp_macros.specs.LexerErrors.{lexer_errors_by}
-use Rattle.pp_model.specs.Run.{Call, next, items_by, start_by}
+use Rattle.pp_model.specs.Run.{Call, next, items_by}
+use Rattle.pp_rs.specs.Comes.{start_by}
 use Rattle.pp_rs.specs.Kept.{Preprocessing, Stands, is_spent, errors_left, rules_of}
 use Rattle.pp_rs.specs.declared.rules.Rules.{Rules}
 use Rattle.pp_c.specs.Preprocessed.{Given}

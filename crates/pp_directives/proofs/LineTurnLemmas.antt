@@ -1,5 +1,5 @@
 -- Reading the line of an `#if`, `#elif` or `#line`: each step of the code reads what the definitions read.
-use Rattle.std.proofs.Common.{◌≡◌, ◌∙◌, inl, inr, true, false, ℕ, ◌≤◌, List, [], ◌∷◌, ◌++◌, refl, sym, ap, subst, Option, Some, None, Bool}
+use Rattle.std.proofs.Common.{◌≡◌, ◌≢◌, ◌∙◌, inl, inr, true, false, ℕ, ◌≤◌, List, [], ◌∷◌, ◌++◌, refl, sym, ap, subst, Option, Some, None, Bool}
 use Rattle.std.specs.Prelude.{if◌then◌else◌, Result, Ok, Err, option_map, unwrap_or, ⊤}
 use Rattle.pp_model.specs.Places.{PlacedFault, fault_in, place_of}
 use Rattle.pp_model.specs.Numbering.{number_of}
@@ -32,12 +32,12 @@ use Rattle.pp_macros.specs.declared.calls.Taken.TheVariants as taken
 use Rattle.pp_macros.specs.declared.step.PlacedExit.{PlacedExit}
 use Rattle.pp_macros.specs.declared.step.PlacedExit.TheVariants.{Error, Continue, Finished}
 use Rattle.pp_macros.proofs.work.CallFallsLemmas.{IsLess, IsPending, turn_falls}
-use Rattle.pp_macros.proofs.taking.ListedLeadsLemmas.{IsListed, AnyList, list_simulates, list_shows, list_hides, list_keeps, list_sees, StandsListed, listed_leads, stands_listed, site_same, opened_less}
+use Rattle.pp_macros.proofs.taking.ListedLeadsLemmas.{IsListed, list_simulates, list_shows, list_hides, list_sees, StandsListed, listed_leads, site_same, opened_less}
 use Rattle.pp_macros.proofs.taking.ExpanderLemmas.{next_no_pause}
 use Rattle.pp_macros.proofs.open_frames.OpenSoundLemmas.{next_sound}
 use Rattle.pp_macros.proofs.open_frames.ReportedLemmas.{wants_taken, not_refused, painted_reported, taken_reported}
 use Rattle.pp_macros.proofs.work.ReachLemmas.{frame_steps_level}
-use Rattle.pp_macros.proofs.taking.SearchSimulates.{StandsHeld, next_simulates}
+use Rattle.pp_macros.proofs.taking.SearchSimulates.{next_simulates}
 use Rattle.pp_macros.proofs.work.SpendLemmas.{step_spends, next_left, next_spends, no_more}
 use Rattle.pp_macros.proofs.taking.PauseLemmas.{EmitsLater}
 use Rattle.pp_macros.proofs.taking.TurnLeadsLemmas.{LeadsTo, calls_same}
@@ -102,6 +102,10 @@ quiet_held (Ok read) h goes = tt
 quiet_held (Err Continue) h goes = cc
 quiet_held (Err Finished) h goes = tt
 quiet_held (Err (Error fault)) h goes = h
+
+-- and no pause
+holds_step : (o : Option (PlacedStep Read)) → IsHeld o → o ≢ Some (Err Continue)
+holds_step o h is = subst IsHeld is h
 
 free_held : (o : Option (PlacedStep Read)) → o ≡ None → IsHeld o
 free_held o e = subst IsHeld (sym e) tt
@@ -196,36 +200,20 @@ end_taken m q r t step e (seeks read opened c step1 m1 n p q1 r1 s t1 steps some
     no_end (gathered paren g) h = let is = h.0 in cc
 
 module _ (numbering : Numbering) (definitions : List Defined) where
-  held_stands : (o : Option (PlacedStep Read)) (l : Listing) (x : Listed) → IsHeld o → IsListed true numbering definitions [] (of_list l) x
-      → StandsHeld line_reading (IsListed true numbering definitions []) AnyList [] o (of_list l) x
-  held_stands None l x h listed = listed
-  held_stands (Some (Ok read)) l x h listed = listed
-  held_stands (Some (Err Finished)) l x h listed = listed
-  held_stands (Some (Err Continue)) l x h listed = absurd h
-  held_stands (Some (Err (Error fault))) l x h listed = absurd h
-
-  stands_held : (o : Option (PlacedStep Read)) (l : Listing) (x : Listed) → IsHeld o
-      → StandsHeld line_reading (IsListed true numbering definitions []) AnyList [] o (of_list l) x → IsListed true numbering definitions [] (of_list l) x
-  stands_held None l x h listed = listed
-  stands_held (Some (Ok read)) l x h listed = listed
-  stands_held (Some (Err Finished)) l x h listed = listed
-  stands_held (Some (Err Continue)) l x h listed = absurd h
-  stands_held (Some (Err (Error fault))) l x h listed = absurd h
-
   stands_here : (m : kept.Expander) (l : Listing) → IsOnLine numbering definitions m l → StandsListed true numbering definitions [] m l (expander_of m l)
   stands_here m l on = record {
     holds = refl;
     list = refl;
-    reader =
-        held_stands m.held l (expander_of m l).reader on.holds (refl, on.unhidden, on.line, on.defined, on.numbered);
+    reader = (refl, on.unhidden, on.line, on.defined, on.numbered);
     names = refl;
+    goes = holds_step m.held on.holds;
   }
 
   -- where the code stands is where the definitions stand
   here : (n : kept.Expander) (k : Listing) (f : Expander Listed) → StandsListed true numbering definitions [] n k f → IsHeld n.held → IsSound n (of_list k)
       → (f ≡ expander_of n k) × IsOnLine numbering definitions n k
   here n k f stands holds sound =
-      let listed = stands_held n.held k f.reader holds stands.reader in
+      let listed = stands.reader in
       let e = expander_of n k in (
         ap (λ (o : Option Given). record f { held = o }) stands.holds
             ∙ ap (λ (es : List Entry). record { held = e.held; list = es; reader = f.reader; hidden = f.hidden }) stands.list
@@ -240,8 +228,8 @@ GoesOn levels m l n k = EmitsLater line_reading (answers_at levels) (expander_of
 
 module _ (levels : ℕ) (numbering : Numbering) (definitions : List Defined) (m n : kept.Expander) (l k : Listing) (on : IsOnLine numbering definitions m l) where
   leads : (step : PlacedStep Taken) → TurnsTo m (of_list l) step n (of_list k) → wants_taken step ≡ false
-      → LeadsTo line_reading (IsListed true numbering definitions []) AnyList [] (list_simulates true numbering definitions []) (list_shows true numbering definitions
-      []) (list_hides true numbering definitions []) (list_keeps true numbering definitions []) (list_sees true numbering definitions []) (answers_at levels) step (expander_of m l) n (of_list k)
+      → LeadsTo line_reading (IsListed true numbering definitions []) [] (list_simulates true numbering definitions []) (list_shows true numbering definitions
+      []) (list_hides true numbering definitions []) (list_sees true numbering definitions []) (answers_at levels) step (expander_of m l) n (of_list k)
   leads step turns reported = listed_leads true numbering definitions [] (answers_at levels) m n l k step (expander_of m l)
       (stands_here numbering definitions m l on) turns reported
 
@@ -297,19 +285,19 @@ module _ (levels : ℕ) (numbering : Numbering) (definitions : List Defined) (m 
   fault_read fault turns reported =
       let h = leads (Err (Error fault)) turns reported in (
         h.0,
-        fault_found fault (outermost_call h.0.list) (outermost_frame_call n.frames) h.0 (ap outermost_call h.2 ∙ outermost_flat n.frames) (h.1, h.4),
+        fault_found fault (outermost_call h.0.list) (outermost_frame_call n.frames) h.0 (ap outermost_call h.2.list ∙ outermost_flat n.frames) (h.1, h.3),
       )
 
   module _ (c : MacroCall) (turns : TurnsTo m (of_list l) (Ok (taken.Call c)) n (of_list k)) where
     pending : IsPending levels m (of_list l) c n (of_list k)
     pending = turn_falls levels m (of_list l) on.sound (Ok (taken.Call c)) n (of_list k) turns refl
 
-    led : LeadsTo line_reading (IsListed true numbering definitions []) AnyList [] (list_simulates true numbering definitions []) (list_shows true numbering definitions
-        []) (list_hides true numbering definitions []) (list_keeps true numbering definitions []) (list_sees true numbering definitions []) (answers_at levels) (Ok (taken.Call c)) (expander_of m l) n (of_list k)
+    led : LeadsTo line_reading (IsListed true numbering definitions []) [] (list_simulates true numbering definitions []) (list_shows true numbering definitions
+        []) (list_hides true numbering definitions []) (list_sees true numbering definitions []) (answers_at levels) (Ok (taken.Call c)) (expander_of m l) n (of_list k)
     led = leads (Ok (taken.Call c)) turns refl
 
     site : site_of line_reading led.0 c.paren c.tokens ≡ site_at c numbering definitions (names_of n.frames ++ [])
-    site = site_same true numbering definitions [] n k c led.0 led.1 pending.free
+    site = site_same true numbering definitions [] n k c led.0 led.1
 
     -- a call that has a fault
     pub call_fault_read : (fault : PlacedFault) → answers_at levels c.opened.definition (site_at c numbering definitions (names_of n.frames ++ [])) (Err fault)
@@ -326,7 +314,7 @@ module _ (levels : ℕ) (numbering : Numbering) (definitions : List Defined) (m 
         × IsWorkLess levels m l p k
     call_read p opened =
         let less : IsLess levels m (of_list l) p (of_list k) =
-        opened_less true numbering definitions [] levels m n l k c p pending (stands_listed true numbering definitions [] n k led.0 led.1 pending.free).3 opened in
+        opened_less true numbering definitions [] levels m n l k c p pending led.1.reader.3 opened in
         let f : Expander Listed = record led.0 { list = macro_before c.opened.name c.opened.definition c.call opened.arguments led.0.list } in
         let stood : StandsListed true numbering definitions [] n k led.0 = led.1 in
         let stands : StandsListed true numbering definitions [] p k f =
@@ -336,6 +324,7 @@ module _ (levels : ℕ) (numbering : Numbering) (definitions : List Defined) (m 
           list = ap (macro_before c.opened.name c.opened.definition c.call opened.arguments) stood.list;
           reader = stood.reader;
           names = stood.names;
+          goes = stood.goes;
         }) in
         let at = here numbering definitions p k f stands (free_held p.held (ap (λ (q : kept.Expander). q.held) opened.opens ∙ pending.free)) less.sound in (
           subst (λ (e : Expander Listed). EmitsLater line_reading (answers_at levels) (expander_of m l) e) at.0
@@ -351,8 +340,8 @@ module _ (levels : ℕ) (numbering : Numbering) (definitions : List Defined) (m 
       let r = of_list l in
       let s = of_list k in
       let level = frame_steps_level (most_bodies r) (most_open r) levels in
-      let h = next_simulates line_reading (IsListed true numbering definitions []) AnyList [] (list_simulates true numbering definitions []) (list_shows true numbering definitions
-      []) (list_hides true numbering definitions []) (list_keeps true numbering definitions []) m n r s step (expander_of m l) (stands_here numbering definitions m l on) next reported in
+      let h = next_simulates line_reading (IsListed true numbering definitions []) [] (list_simulates true numbering definitions []) (list_shows true numbering definitions
+      []) (list_hides true numbering definitions []) m n r s step (expander_of m l) (stands_here numbering definitions m l on) next reported in
       let quiet = next_quiet m n r s step tt on.holds next reported in
       let sound : IsSound n s = next_sound None step m n r s next reported on.sound in
       let free : n.held ≡ None = (next_spends (frame_of levels r) (most_open r) level step m n r s next reported).free in

@@ -4,3 +4,4 @@ pub mod RunLemmas
 pub mod ReadsBeginLemmas
 pub mod EmitsBeginLemmas
 pub mod RunsBeginLemmas
+pub mod EmitsOnLemmas

@@ -5,9 +5,8 @@ use Rattle.std.proofs.lemmas.List.{take_more}
 use Rattle.std.proofs.lemmas.List.Elements.{All-nil, All-cons, All-push, All-head}
 use Rattle.pp_model.specs.Places.{Fault}
 use Rattle.pp_rs.specs.Rules.{pp_rs}
-use Rattle.pp_model.specs.Run.{with_added}
 use Rattle.pp_rs.specs.Adding.{IsAdded, refused, faulty, added}
-use Rattle.pp_rs.specs.Comes.{State}
+use Rattle.pp_rs.specs.Comes.{State, with_added}
 use Rattle.pp_rs.specs.Kept.{Preprocessing, rules_of}
 use Rattle.pp_rs.proofs.runs.AddingLemmas.{tokens_by_pp_rs}
 use Rattle.pp_print.specs.inner.Defining.{AreAdded}

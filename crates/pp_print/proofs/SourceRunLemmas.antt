@@ -3,8 +3,7 @@ use Rattle.std.proofs.Common.{◌≡◌, ℕ, List, ◌++◌, ◌⊎◌, inr, Op
 use Rattle.std.specs.Str.{chars}
 use Rattle.std.proofs.lemmas.Option.{IfSome_then}
 use Rattle.std.proofs.lemmas.Result.{IfOk-weaker}
-use Rattle.pp_model.specs.Run.{with_added}
-use Rattle.pp_rs.specs.Comes.{State}
+use Rattle.pp_rs.specs.Comes.{State, with_added}
 use Rattle.pp_rs.specs.Kept.{Preprocessing, Stands}
 use Rattle.pp_rs.specs.declared.token.Token.{Token}
 use Rattle.pp_print.specs.inner.Defining.{AreAdded}

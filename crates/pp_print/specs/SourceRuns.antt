@@ -4,10 +4,10 @@ use Rattle.std.specs.Prelude.{◌≡◌, ℕ, List, [], ◌∷◌, Result, Ok}
 use Rattle.std.specs.Borrow.{Bor}
 use Rattle.std.specs.Str.{chars}
 use Rattle.pp_model.specs.Places.{Fault}
-use Rattle.pp_model.specs.Run.{items_of, start, content_tokens, with_added}
+use Rattle.pp_model.specs.Run.{items_of, content_tokens}
 use Rattle.pp_model.specs.declared.outcome.Outcome.{Outcome}
 use Rattle.pp_model.specs.declared.outcome.Outcome.TheVariants as outcome
-use Rattle.pp_rs.specs.Comes.{State, Gives, IsRunFrom}
+use Rattle.pp_rs.specs.Comes.{State, Gives, IsRunFrom, start, with_added}
 use Rattle.pp_rs.specs.declared.token.Token.{Token}
 use Rattle.pp_print.specs.declared.ends.RunEnd.{RunEnd}
 use Rattle.pp_print.specs.declared.ends.RunEnd.TheVariants.{Done, Stopped}

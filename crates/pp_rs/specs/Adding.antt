@@ -4,8 +4,8 @@ use Rattle.std.specs.Str.{chars}
 use Rattle.pp_lexer.specs.PreprocessorError.{out_of_memory}
 use Rattle.pp_lexer.specs.declared.token.Token.{Token}
 use Rattle.pp_model.specs.Names.{Name}
-use Rattle.pp_model.specs.Run.{items_by, content_tokens, with_added}
-use Rattle.pp_rs.specs.Comes.{State}
+use Rattle.pp_model.specs.Run.{items_by, content_tokens}
+use Rattle.pp_rs.specs.Comes.{State, with_added}
 use Rattle.pp_macros.specs.Item.{Fault}
 use Rattle.pp_rs.specs.Kept.{Preprocessing, Stands, is_spent, most_items, errors_left, error_place}
 use Rattle.pp_rs.specs.Kept.{call_place, item_text, rules_of}

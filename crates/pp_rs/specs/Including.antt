@@ -1,10 +1,9 @@
 -- One call of `include` (docs/RULES.md, "Calls").
 use Rattle.std.specs.Prelude.{◌≡◌, ◌≤◌, ◌<◌, ◌-◌, ◌^◌, true, false, ℕ, List, ◌++◌, codes, length, None, Result}
 use Rattle.std.specs.Prelude.{Ok, Err}
-use Rattle.pp_model.specs.Run.{items_by, with_included}
-use Rattle.pp_model.specs.SourceReader.{is_full}
+use Rattle.pp_model.specs.Run.{items_by}
 use Rattle.pp_macros.specs.LexerErrors.{ErrorAt, lexer_errors_by}
-use Rattle.pp_rs.specs.Comes.{State}
+use Rattle.pp_rs.specs.Comes.{State, with_included, is_full}
 use Rattle.pp_rs.specs.Kept.{Preprocessing, Stands, is_spent, errors_left, error_place, asked_line, item_text, rules_of}
 use Rattle.pp_rs.specs.declared.pp.including.IncludeError.{IncludeError}
 use Rattle.pp_rs.specs.declared.pp.including.IncludeError.TheVariants.{TooLong, TooDeep, OutOfMemory}
@@ -20,7 +19,7 @@ pub record IsInserted (errors before after : List ErrorAt) : Type 0 where
 -- For each state that the preprocessor stood for, fewer texts are around than may be, and it now stands for that state
 -- with the text included. The last item asks for no text any more.
 pub record IsWithIncluded (text : List ℕ) (old new : Preprocessing) : Type 0 where
-  pub room : (state : State) → Stands old state → is_full state.reader ≡ false
+  pub room : (state : State) → Stands old state → is_full state ≡ false
   pub stands : (state : State) → Stands old state → Stands new (with_included (items_by (rules_of old) text) state)
   pub spent : is_spent new ≡ is_spent old
   pub errors : IsInserted (lexer_errors_by (rules_of old) text) (errors_left old) (errors_left new)
@@ -35,7 +34,7 @@ pub data IsIncluded (old : Preprocessing) (text : List ℕ) (answer : Result (Un
   -- memory ran out
   refused : answer ≡ Err OutOfMemory → new ≡ old → IsIncluded old text answer new
   -- the text would be inside too many others
-  too_deep : ((state : State) → Stands old state → is_full state.reader ≡ true)
+  too_deep : ((state : State) → Stands old state → is_full state ≡ true)
       → answer ≡ Err TooDeep
       → new ≡ old
       → IsIncluded old text answer new

@@ -8,8 +8,8 @@ use Rattle.pp_lexer.specs.declared.rules.Rules.{Rules}
 use Rattle.pp_lexer.specs.declared.token.Location.{Location}
 use Rattle.pp_lexer.specs.TokenValue.{is_ordinary}
 use Rattle.pp_model.specs.Emitting.{expansion_limit}
+use Rattle.pp_model.specs.Onward.{Onward}
 use Rattle.pp_model.specs.Reading.{Expander}
-use Rattle.pp_model.specs.SourceReader.{SourceReader}
 use Rattle.pp_model.specs.declared.place.Place.{Place}
 use Rattle.pp_model.specs.declared.read.Read.{Read}
 use Rattle.pp_model.specs.declared.splice.CallPlace.{CallPlace}
@@ -45,7 +45,7 @@ pub record Preprocessing : Type 0 where
   pub rules : Rules
 
 -- the preprocessor stands for this state of a run
-unfoldable pub Stands : Preprocessing → Expander SourceReader → Type 0
+unfoldable pub Stands : Preprocessing → Expander Onward → Type 0
 Stands p state = StandsFor p.expander p.source state
 
 -- an open macro gives this token next, as its body or an argument has it, and it is ordinary

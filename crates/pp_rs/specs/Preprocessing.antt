@@ -37,11 +37,6 @@ abbrev pub Asks : Rules → Option Item → Option Location → Type 0
 Asks rules answer (Some rest) = (rules.asks_includes ≡ true) × (is_unknown_directive answer ≡ true)
 Asks rules answer None = ⊤
 
--- the preprocessor stands for this state; after an error that asks for no text this says nothing
-abbrev pub GoesOn : Option Item → Option Location → Preprocessing → State → Type 0
-GoesOn (Some (Err fault)) None new state = ⊤
-GoesOn _ _ new state = Stands new state
-
 -- the answer is what comes next in this state, its text and the call from which it comes are kept, and the preprocessor
 -- stands for the state after it
 pub record Emitted (answer : Option Item) (state : State) (new : Preprocessing) : Type 0 where
@@ -49,7 +44,7 @@ pub record Emitted (answer : Option Item) (state : State) (new : Preprocessing) 
   pub emits : Comes state (outcome_of answer (asked_line new)) after
   pub text : IfSome (text_of emits.taken) (λ text. item_text new ≡ text)
   pub call : call_place new ≡ item_call emits.emits
-  pub goes_on : GoesOn answer (asked_line new) new after
+  pub goes_on : Stands new after
 
 -- the bound of the items to come falls with each item, and is 0 after the end
 abbrev pub IsLessLeft : Option Item → Preprocessing → Preprocessing → Type 0

@@ -1,5 +1,5 @@
 -- What came of a source while its `#include` lines were answered.
-use Rattle.std.proofs.Common.{◌≡◌, ◌∙◌, ◌⊎◌, inl, inr, ℕ, ◌<◌, Bool, true, false, List, [], ◌∷◌, ◌++◌, Contains, length, get_or, refl, ap, sym, subst, Option, None, Some, arith}
+use Rattle.std.proofs.Common.{◌≡◌, ◌∙◌, inl, inr, ℕ, ◌<◌, Bool, true, false, List, [], ◌∷◌, ◌++◌, Contains, length, get_or, refl, ap, sym, subst, Option, None, Some, arith}
 use Rattle.std.proofs.lemmas.Grind.{common_steps}
 use Rattle.std.specs.Prelude.{Ok, Err, MatchBool, IfSome}
 use Rattle.pp_lexer.specs.declared.token.Location.{Location}
@@ -7,16 +7,16 @@ use Rattle.pp_lexer.specs.declared.rules.Rules.{Rules}
 use Rattle.pp_lexer.specs.declared.token.Token.{Token}
 use Rattle.pp_model.specs.ItemCall.{text_of}
 use Rattle.pp_model.specs.Painting.{item_of}
-use Rattle.pp_model.specs.Run.{items_by, start_by, with_included}
+use Rattle.pp_model.specs.Run.{items_by}
 use Rattle.pp_model.specs.declared.outcome.IncludeLine.{IncludeLine}
 use Rattle.pp_model.specs.declared.outcome.Outcome.TheVariants as outcome
 use Rattle.pp_model.specs.declared.read.Taken.{Taken}
 use Rattle.pp_model.specs.declared.read.Taken.TheVariants as taken
-use Rattle.pp_rs.specs.Comes.{State, Comes}
-use Rattle.pp_rs.specs.Including.{IsIncluded, IsTriedInclude, IsWithIncluded, refused, too_deep, included, too_long, short}
+use Rattle.pp_rs.specs.Comes.{State, Comes, start_by, with_included}
+use Rattle.pp_rs.specs.Including.{IsTriedInclude, IsWithIncluded, refused, too_deep, included, too_long, short}
 use Rattle.pp_rs.specs.Kept.{Preprocessing, Stands, is_spent, asked_line, item_text, rules_of}
-use Rattle.pp_rs.specs.Preprocessing.{IsNextItem, IsGivenItem, GoesOn, outcome_of, is_refusal}
-use Rattle.uses.specs.Includes.{Files, HasCome, nothing, token, file, Includes, IsAsked, IsNamed, IsQuotedOn, IsWhole}
+use Rattle.pp_rs.specs.Preprocessing.{IsNextItem, IsGivenItem, outcome_of, is_refusal}
+use Rattle.uses.specs.Includes.{Files, HasCome, nothing, token, file, Includes, IsNamed, IsQuotedOn, IsWhole}
 use Rattle.uses.proofs.Item.{Fault, Item}
 
 lacks : (c : ℕ) (xs : List ℕ) → ((i : ℕ) → i < length xs → get_or xs i 0 ≡ c → ⊥) → Contains xs c → ⊥
@@ -83,7 +83,7 @@ module _ (files : Files) (rules : Rules) (source : List ℕ) (now new : Preproce
   -- the file is read next for which this item asks
   answered : (fault : Fault) (name text : List ℕ) (last : Preprocessing) (rest : Location) (asked : Option Location) (after : State)
       (comes : Comes h.state (outcome_of (Some (Err fault)) asked) after)
-      → asked ≡ Some rest → IfSome (text_of comes.taken) (λ t. item_text new ≡ t) → GoesOn (Some (Err fault)) asked new after
+      → asked ≡ Some rest → IfSome (text_of comes.taken) (λ t. item_text new ≡ t) → Stands new after
       → IsNamed read (item_text new) rest name → files name ≡ Some text → rules_of new ≡ rules → is_spent new ≡ false
       → IsWithIncluded text new last → SoFar files rules source last (read ++ text ∷ []) tokens
   answered fault name text last rest None after comes e is goes named found by unspent with = cc

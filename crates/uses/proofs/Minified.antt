@@ -13,7 +13,8 @@ use Rattle.pp_lexer.specs.TokenValue.{is_ordinary}
 use Rattle.pp_lexer.specs.declared.token.TokenValue.{TokenValue}
 use Rattle.uses.proofs.Texts.{chars_same, chars_of_encoded}
 use Rattle.pp_lexer.specs.declared.token.Token.{Token}
-use Rattle.pp_model.specs.Run.{items_of, start}
+use Rattle.pp_model.specs.Run.{items_of}
+use Rattle.pp_rs.specs.Comes.{start}
 use Rattle.pp_rs.specs.Kept.{Preprocessing, Stands, rules_of}
 use Rattle.pp_rs.specs.Preprocessing.{IsNextItem}
 use Rattle.uses.specs.Minified.{may_join, minified_text, separator, separator_at, separator_of, with_item, with_items}

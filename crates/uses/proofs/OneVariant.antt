@@ -4,10 +4,10 @@ use Rattle.std.specs.Prelude.{Ok, Result}
 use Rattle.std.specs.Str.{chars}
 use Rattle.pp_lexer.specs.Rules.{pp_rs}
 use Rattle.pp_lexer.specs.declared.token.Token.{Token}
-use Rattle.pp_model.specs.Run.{items_by, items_of, start, with_added, content_tokens}
+use Rattle.pp_model.specs.Run.{items_by, items_of, content_tokens}
 use Rattle.pp_model.specs.declared.outcome.Outcome.TheVariants.{End}
 use Rattle.pp_rs.specs.Adding.{IsAdded, refused, faulty, added, IsWithAdded}
-use Rattle.pp_rs.specs.Comes.{State, IsRunFrom}
+use Rattle.pp_rs.specs.Comes.{State, IsRunFrom, start, with_added}
 use Rattle.pp_rs.specs.Kept.{Preprocessing, Stands, rules_of}
 use Rattle.pp_rs.specs.Output.{output}
 use Rattle.pp_rs.specs.Trying.{IsTried, too_long, short, tried}

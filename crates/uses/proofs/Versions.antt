@@ -6,7 +6,8 @@ use Rattle.pp_lexer.specs.PlacedErrors.{placed}
 use Rattle.pp_lexer.specs.PreprocessorError.{out_of_memory}
 use Rattle.pp_lexer.specs.Rules.{pp_rs}
 use Rattle.pp_lexer.specs.declared.token.Token.{Token}
-use Rattle.pp_model.specs.Run.{items_of, start}
+use Rattle.pp_model.specs.Run.{items_of}
+use Rattle.pp_rs.specs.Comes.{start}
 use Rattle.pp_rs.specs.Kept.{Preprocessing, Stands, rules_of}
 use Rattle.pp_rs.specs.Preprocessing.{IsNextItem}
 use Rattle.uses.specs.Versions.{AsksFor, number, none, first_version_number, version_number}

@@ -1,16 +1,15 @@
 -- A source whose `#include` lines are answered with files that have names (docs/RULES.md, Directives 16 and Runs 6).
-use Rattle.std.specs.Prelude.{◌≡◌, ℕ, false, List, [], ◌∷◌, ◌++◌, Contains, Option, Some, None, String, string_bytes}
+use Rattle.std.specs.Prelude.{◌≡◌, ℕ, false, List, [], ◌∷◌, ◌++◌, Contains, Option, Some, String, string_bytes}
 use Rattle.std.specs.Prelude.{slice_get, slice_range, option_map, Ok}
 use Rattle.std.specs.BTreeMap.{BTreeMap, get_by_text}
 use Rattle.pp_lexer.specs.declared.rules.Rules.{Rules}
 use Rattle.pp_lexer.specs.declared.token.Location.{Location}
 use Rattle.pp_lexer.specs.declared.token.Token.{Token}
 use Rattle.pp_model.specs.ItemCall.{text_of}
-use Rattle.pp_model.specs.Run.{items_by, start_by, with_included}
-use Rattle.pp_model.specs.SourceReader.{is_full}
+use Rattle.pp_model.specs.Run.{items_by}
 use Rattle.pp_model.specs.declared.outcome.IncludeLine.{IncludeLine}
 use Rattle.pp_model.specs.declared.outcome.Outcome.TheVariants as outcome
-use Rattle.pp_rs.specs.Comes.{State, Comes}
+use Rattle.pp_rs.specs.Comes.{State, Comes, start_by, with_included, is_full}
 use Rattle.pp_rs.specs.Including.{IsTriedInclude}
 use Rattle.pp_rs.specs.Kept.{Preprocessing, asked_line, item_text}
 
@@ -51,7 +50,7 @@ pub data HasCome (files : Files) (rules : Rules) (source : List ℕ)
       → text_of comes.taken ≡ Some number
       → IsNamed read number line.rest name
       → files name ≡ Some text
-      → is_full after.reader ≡ false
+      → is_full after ≡ false
       → HasCome files rules source (read ++ text ∷ []) tokens (with_included (items_by rules text) after)
 
 -- all that comes of a source, up to its end, are these tokens

@@ -2,9 +2,9 @@
 use Rattle.std.specs.Prelude.{ℕ, List}
 use Rattle.pp_lexer.specs.declared.token.Token.{Token}
 use Rattle.pp_lexer.specs.declared.token.placed_error.PlacedError.{PlacedError}
-use Rattle.pp_model.specs.Run.{items_of, start}
+use Rattle.pp_model.specs.Run.{items_of}
 use Rattle.pp_model.specs.declared.outcome.Outcome.TheVariants as outcome
-use Rattle.pp_rs.specs.Comes.{State, Gives, IsRunFrom}
+use Rattle.pp_rs.specs.Comes.{State, Gives, IsRunFrom, start}
 
 -- the run of the source begins with these tokens
 abbrev pub BeginsWith : List ℕ → List Token → Type 0

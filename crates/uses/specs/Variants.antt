@@ -1,9 +1,9 @@
 -- A shader once for each content of the macro `QUALITY`.
 use Rattle.std.specs.Prelude.{◌≡◌, ℕ, List, [], ◌∷◌, ◌++◌, codes, Ok}
 use Rattle.pp_lexer.specs.declared.token.Token.{Token}
-use Rattle.pp_model.specs.Run.{items_of, content_tokens, start, with_added}
+use Rattle.pp_model.specs.Run.{items_of, content_tokens}
 use Rattle.pp_model.specs.declared.outcome.Outcome.TheVariants as outcome
-use Rattle.pp_rs.specs.Comes.{IsRunFrom}
+use Rattle.pp_rs.specs.Comes.{IsRunFrom, start, with_added}
 use Rattle.pp_rs.specs.Output.{output}
 
 -- The tokens of the source up to its end, if `QUALITY` is a macro with the tokens of the content as its body, as lines.

@@ -8,10 +8,10 @@ ghost use Rattle.pp_lexer.specs.PreprocessorError.{out_of_memory};
 ghost use Rattle.pp_lexer.specs.Spelling.{spelled_text, values_of};
 ghost use Rattle.pp_lexer.specs.TokenValue.{is_ordinary};
 ghost use Rattle.pp_lexer.specs.declared.token.Token.{Token as TheToken};
-ghost use Rattle.pp_model.specs.Run.{items_of, start};
+ghost use Rattle.pp_model.specs.Run.{items_of};
 ghost use Rattle.pp_model.specs.declared.outcome.Outcome.TheVariants.{Fault, End};
 ghost use Rattle.pp_rs.specs.Collecting.{tokens_before_error, first_error};
-ghost use Rattle.pp_rs.specs.Comes.{IsRunFrom};
+ghost use Rattle.pp_rs.specs.Comes.{IsRunFrom, start};
 
 use pp_rs::pp::{Preprocessor, PreprocessorItem, preprocess_all, spell_tokens};
 use pp_rs::token::{Location, PreprocessorError, Token, out_of_memory};

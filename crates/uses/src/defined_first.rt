@@ -3,8 +3,9 @@
 ghost use Rattle.std.specs.Prelude.{◌≡◌, ◌<◌, ◌^◌, ◌-◌, ◌⊎◌, ℕ, false, List, [], ◌∷◌, None, length, IfOk, IfErr};
 ghost use Rattle.pp_lexer.specs.Rules.{pp_rs};
 ghost use Rattle.pp_lexer.specs.PreprocessorError.{out_of_memory};
-ghost use Rattle.pp_model.specs.Run.{IsRun, add_define, next, items_of, start};
+ghost use Rattle.pp_model.specs.Run.{IsRun, add_define, next, items_of};
 ghost use Rattle.pp_model.specs.declared.call.Reply.TheVariants.{Added, Refused, Given};
+ghost use Rattle.pp_rs.specs.Comes.{start};
 ghost use Rattle.pp_rs.specs.Kept.{Stands, is_spent, rules_of};
 ghost use Rattle.pp_rs.specs.Preprocessing.{is_refusal, outcome_of};
 

@@ -3,9 +3,9 @@
 ghost use Rattle.std.specs.Prelude.{◌≡◌, List, ℕ, false, map, IfOk, string_bytes};
 ghost use Rattle.pp_lexer.specs.Rules.{pp_rs};
 ghost use Rattle.pp_lexer.specs.declared.token.Token.{Token as TheToken};
-ghost use Rattle.pp_model.specs.Run.{items_of, start};
+ghost use Rattle.pp_model.specs.Run.{items_of};
 ghost use Rattle.pp_model.specs.declared.outcome.Outcome.TheVariants.{End};
-ghost use Rattle.pp_rs.specs.Comes.{IsRunFrom, State};
+ghost use Rattle.pp_rs.specs.Comes.{IsRunFrom, State, start};
 ghost use Rattle.pp_rs.specs.Kept.{Stands, is_spent, rules_of};
 ghost use Rattle.pp_rs.specs.Output.{output};
 ghost use Rattle.uses.specs.Variants.{AreVariants, IsVariant};

@@ -2,7 +2,8 @@
 -- into this.
 use Rattle.std.specs.Prelude.{◌≡◌, ℕ, List, Option}
 use Rattle.pp_macros.specs.LexerErrors.{lexer_errors_by}
-use Rattle.pp_model.specs.Run.{Call, items_by, start_by}
+use Rattle.pp_model.specs.Run.{Call, items_by}
+use Rattle.pp_rs.specs.Comes.{start_by}
 use Rattle.pp_rs.specs.Kept.{Preprocessing, Stands, errors_left, rules_of}
 use Rattle.pp_rs.specs.declared.rules.Rules.{Rules}
 use Rattle.pp_c.specs.Preprocessed.{Given}

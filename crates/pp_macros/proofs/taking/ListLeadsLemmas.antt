@@ -27,7 +27,7 @@ use Rattle.pp_macros.proofs.work.CallFallsLemmas.{IsLess, IsPending, turn_falls}
 use Rattle.pp_macros.proofs.open_frames.FlatLemmas.{outermost_flat}
 use Rattle.pp_macros.proofs.taking.TurnLeadsLemmas.{LeadsTo}
 use Rattle.pp_macros.proofs.work.WorkFallsLemmas.{start_work}
-use Rattle.pp_macros.proofs.taking.ListedLeadsLemmas.{IsListed, AnyList, list_simulates, list_shows, list_hides, list_keeps, list_sees, StandsListed, listed_leads, stands_listed, site_same, opened_less}
+use Rattle.pp_macros.proofs.taking.ListedLeadsLemmas.{IsListed, list_simulates, list_shows, list_hides, list_sees, StandsListed, listed_leads, site_same, opened_less}
 use Rattle.pp_model.specs.declared.numbering.Numbering.{Numbering}
 
 -- What the loop over an argument has reached: the items so far, and a state from which the rest comes.
@@ -47,7 +47,7 @@ reached_start levels numbering definitions hidden tokens items m l e f g =
     let start : Listing = record { tokens = tokens; numbering = numbering; definitions = definitions; hidden = hidden; is_line = false } in
     rw (e, f, g) (record {
       state = reading_of tokens numbering (meaning_of definitions) hidden;
-      stands = record { holds = refl; list = refl; reader = (refl, refl, refl, refl, refl); names = refl };
+      stands = record { holds = refl; list = refl; reader = (refl, refl, refl, refl, refl); names = refl; goes = λ pause. cc };
       sound = record { names = record { apart = tt; defined = tt }; numbers = tt };
       goes_on = λ out collects. rw (no_items out) collects;
       least = omega (arith, start_work levels start);
@@ -112,7 +112,7 @@ module _ (levels : ℕ) (numbering : Numbering) (definitions : List Defined) (hi
       → Alone levels tokens numbering (meaning_of definitions) hidden (Err (fault_in (outermost_frame_call n.frames) fault))
   reached_fault fault turns reported =
       let h = listed_leads false numbering definitions hidden (answers_at levels) m n l k (Err (Error fault)) r.state r.stands turns reported in
-      let same : outermost_call h.0.list ≡ outermost_frame_call n.frames = ap outermost_call h.2 ∙ outermost_flat n.frames in
+      let same : outermost_call h.0.list ≡ outermost_frame_call n.frames = ap outermost_call h.2.list ∙ outermost_flat n.frames in
       let found = fault_in (outermost_call h.0.list) fault in
       rw (← same) (r.goes_on (Err found) (failed found r.state h.0 (Err found) h.1 refl))
 
@@ -129,20 +129,20 @@ module _ (levels : ℕ) (numbering : Numbering) (definitions : List Defined) (hi
       let found = fault_in (outermost_call h.0.list) fault in
       rw (← same) (r.goes_on (Err found) (failed found r.state h.0 (Err found)
       (h.2 fault (subst (λ (x : Site). answers_at levels c.opened.definition x (Err fault))
-      (sym (site_same false numbering definitions hidden n k c h.0 h.1 (pending c turns).free)) answers)).0 refl))
+      (sym (site_same false numbering definitions hidden n k c h.0 h.1)) answers)).0 refl))
 
   -- a call whose frame opened
   module _ (c : MacroCall) (turns : TurnsTo m (of_list l) (Ok (taken.Call c)) n (of_list k))
       (p : kept.Expander) (opened : IsOpened levels numbering definitions (names_of n.frames ++ hidden) c n p) where
-    led : LeadsTo argument_reading (IsListed false numbering definitions hidden) AnyList hidden (list_simulates false numbering definitions hidden)
-        (list_shows false numbering definitions hidden) (list_hides false numbering definitions hidden) (list_keeps false numbering definitions hidden)
+    led : LeadsTo argument_reading (IsListed false numbering definitions hidden) hidden (list_simulates false numbering definitions hidden)
+        (list_shows false numbering definitions hidden) (list_hides false numbering definitions hidden)
         (list_sees false numbering definitions hidden)
         (answers_at levels) (Ok (taken.Call c)) r.state n (of_list k)
     led = listed_leads false numbering definitions hidden (answers_at levels) m n l k (Ok (taken.Call c)) r.state r.stands turns refl
 
     less : IsLess levels m (of_list l) p (of_list k)
     less = opened_less false numbering definitions hidden levels m n l k c p (pending c turns)
-        (stands_listed false numbering definitions hidden n k led.0 led.1 (pending c turns).free).3 opened
+        led.1.reader.3 opened
 
     pub call_less : work_of levels p (of_list k) < work_of levels m (of_list l)
     call_less = less.falls
@@ -159,10 +159,11 @@ module _ (levels : ℕ) (numbering : Numbering) (definitions : List Defined) (hi
                 list = ap (macro_before c.opened.name c.opened.definition c.call opened.arguments) stands.list;
                 reader = stands.reader;
                 names = stands.names;
+                goes = stands.goes;
               });
           sound = less.sound;
           goes_on = λ out collects. r.goes_on out (emits_keeps r.state f
               (λ o g emits. (led.3 opened.arguments (subst (λ (x : Site). answers_at levels c.opened.definition x (Ok opened.arguments))
-              (sym (site_same false numbering definitions hidden n k c led.0 led.1 (pending c turns).free)) opened.answers) o g emits).0) out collects);
+              (sym (site_same false numbering definitions hidden n k c led.0 led.1)) opened.answers) o g emits).0) out collects);
           least = omega (arith, r.least, less.falls);
         }

@@ -1,6 +1,6 @@
 -- The expander over a list of tokens, an argument or a line, is the definitions' expander of it.
-use Rattle.std.proofs.Common.{◌≡◌, ◌∙◌, inl, inr, true, false, ℕ, zero, suc, ◌-◌, All, ◌≤◌, arith, List, [], ◌∷◌, ◌++◌, length, refl, sym, ap, subst, Option, Some, None, Bool}
-use Rattle.std.specs.Prelude.{if◌then◌else◌, ◌&&◌, ⊤}
+use Rattle.std.proofs.Common.{◌≡◌, ◌∙◌, inl, inr, true, false, ℕ, zero, suc, ◌-◌, All, ◌≤◌, arith, List, [], ◌∷◌, ◌++◌, length, refl, sym, ap, Option, Some, None, Bool}
+use Rattle.std.specs.Prelude.{if◌then◌else◌, ◌&&◌}
 use Rattle.pp_model.specs.declared.read.Read.{Read}
 use Rattle.pp_model.specs.Names.{Name, is_same_name, defined_name}
 use Rattle.pp_model.specs.Reading.{Reading, Expander, Listed}
@@ -18,7 +18,7 @@ use Rattle.pp_macros.specs.inner.Expander as kept
 use Rattle.pp_macros.specs.inner.Reader.{Reader, hidden_of, of_source, of_list, Listing, listed_step, Reads, shown_line, visible}
 use Rattle.pp_macros.specs.declared.calls.Taken.{Taken}
 use Rattle.pp_macros.proofs.work.CallFallsLemmas.{IsLess, IsPending, pending_opens}
-use Rattle.pp_macros.proofs.taking.SearchSimulates.{ReadsTo, StandsIn, StandsHeld, masked_flat}
+use Rattle.pp_macros.proofs.taking.SearchSimulates.{ReadsTo, StandsIn, masked_flat}
 use Rattle.pp_macros.proofs.taking.TurnLeadsLemmas.{LeadsTo, turn_leads, wants_taken}
 use Rattle.pp_model.specs.declared.numbering.Numbering.{Numbering}
 use Rattle.pp_model.specs.Numbering.{number_of}
@@ -32,10 +32,6 @@ listed_reading is_line = record {
   numbering = λ reader. reader.numbering;
   is_reserved = λ name. is_line && is_same_name name defined_name;
 }
-
--- of a list nothing stands after a fault, since it gives none
-abbrev pub AnyList : Reader → Listed → Type 0
-AnyList r x = ⊤
 
 module _ (is_line : Bool) (numbering : Numbering) (definitions : List Defined) (hidden : List Name) where
   -- a list that is read, where these names are defined and hidden
@@ -58,7 +54,7 @@ module _ (is_line : Bool) (numbering : Numbering) (definitions : List Defined) (
       )
 
   listed_simulates : (tokens : List Read) (old new : Listing) (x : Listed) (step : PlacedStep Read) → old.tokens ≡ tokens → IsListed (of_list old) x
-      → step ≡ listed_step tokens → new ≡ record old { tokens = after_listed tokens } → ReadsTo (listed_reading is_line) IsListed AnyList hidden step x (of_list new)
+      → step ≡ listed_step tokens → new ≡ record old { tokens = after_listed tokens } → ReadsTo (listed_reading is_line) IsListed hidden step x (of_list new)
   listed_simulates [] old new x step e (is, names, plain, same, counts) gives at =
       let y : Listed = record x { tokens = after_listed x.tokens } in
       let tokens : x.tokens ≡ [] = ap (λ (z : Listed). z.tokens) is ∙ e in
@@ -69,7 +65,7 @@ module _ (is_line : Bool) (numbering : Numbering) (definitions : List Defined) (
       rw gives (y, (sym (ap first_listed tokens), refl), after old new x (read ∷ rest) tokens is names plain same counts at)
 
   pub list_simulates : (r s : Reader) (x : Listed) (step : PlacedStep Read) → IsListed r x → Reads r step s → wants_memory step ≡ false
-      → ReadsTo (listed_reading is_line) IsListed AnyList hidden step x s
+      → ReadsTo (listed_reading is_line) IsListed hidden step x s
   list_simulates (of_list old) (of_list new) x step listed (inl h) reported = listed_simulates old.tokens old new x step refl listed h.0 h.1
   list_simulates (of_list old) (of_list new) x step listed (inr h) reported = absurd (let bad : true ≡ false = rw h at reported in cc)
   list_simulates (of_list old) (of_source new) x step listed h reported = absurd h
@@ -83,34 +79,27 @@ module _ (is_line : Bool) (numbering : Numbering) (definitions : List Defined) (
   list_hides (of_source source) y h = absurd h
   list_hides (of_list l) y (is, names, plain, same, counts) = names
 
-  pub list_keeps : (s : Reader) (y : Listed) → IsListed s y → AnyList s y
-  list_keeps s y h = tt
-
   pub list_sees : (s : Reader) (y : Listed) (name : Name) → IsListed s y
       → visible s name ≡ (if (listed_reading is_line).is_reserved name then None else (listed_reading is_line).visible y name)
   list_sees (of_source source) y name h = absurd h
   list_sees (of_list l) y name (is, names, plain, same, counts) = rw (plain, is) refl
 
   abbrev pub StandsListed : kept.Expander → Listing → Expander Listed → Type 0
-  StandsListed m l e = StandsIn (listed_reading is_line) IsListed AnyList hidden m (of_list l) e
+  StandsListed m l e = StandsIn (listed_reading is_line) IsListed hidden m (of_list l) e
 
   pub listed_leads : (A : Answers) (m n : kept.Expander) (l k : Listing) (step : PlacedStep Taken) (e : Expander Listed) → StandsListed m l e
       → TurnsTo m (of_list l) step n (of_list k) → wants_taken step ≡ false
-      → LeadsTo (listed_reading is_line) IsListed AnyList hidden list_simulates list_shows list_hides list_keeps list_sees A step e n (of_list k)
-  listed_leads A m n l k step e stands turns reported = turn_leads (listed_reading is_line) IsListed AnyList hidden list_simulates list_shows list_hides list_keeps list_sees A m n
+      → LeadsTo (listed_reading is_line) IsListed hidden list_simulates list_shows list_hides list_sees A step e n (of_list k)
+  listed_leads A m n l k step e stands turns reported = turn_leads (listed_reading is_line) IsListed hidden list_simulates list_shows list_hides list_sees A m n
       (of_list l) (of_list k) step e stands turns reported
 
-  pub stands_listed : (n : kept.Expander) (k : Listing) (f : Expander Listed) → StandsListed n k f → n.held ≡ None → IsListed (of_list k) f.reader
-  stands_listed n k f stands free = subst (λ (o : Option (PlacedStep Read)). StandsHeld (listed_reading is_line) IsListed AnyList hidden o
-      (of_list k) f.reader) free stands.reader
-
   -- where a call stands
-  pub site_same : (n : kept.Expander) (k : Listing) (c : MacroCall) (f : Expander Listed) → StandsListed n k f → n.held ≡ None
+  pub site_same : (n : kept.Expander) (k : Listing) (c : MacroCall) (f : Expander Listed) → StandsListed n k f
       → site_of (listed_reading is_line) f c.paren c.tokens ≡ site_at c numbering definitions (names_of n.frames ++ hidden)
-  site_same n k c f stands free =
-      let listed = stands_listed n k f stands free in
+  site_same n k c f stands =
+      let listed = stands.reader in
       let seen : f.reader.visible ≡ meaning_of definitions = ap (λ (x : Listed). x.visible) listed.0 ∙ ap meaning_of listed.3 in
-      let around = masked_flat (listed_reading is_line) IsListed AnyList hidden n (of_list k) f stands in
+      let around = masked_flat (listed_reading is_line) IsListed hidden n (of_list k) f stands in
       let counts : f.reader.numbering ≡ numbering = ap (λ (x : Listed). x.numbering) listed.0 ∙ listed.4 in
       rw (seen, counts, around) refl
 

@@ -1,7 +1,7 @@
 -- Taking and searching over frames is taking and searching over the splice list that they stand for, for every kind of
 -- reader.
-use Rattle.std.proofs.Common.{◌≡◌, ◌∙◌, ◌++◌, inl, inr, true, false, ℕ, Bool, List, [], ◌∷◌, refl, sym, ap, subst, Option, Some, None}
-use Rattle.std.specs.Prelude.{if◌then◌else◌, Result, Ok, Err, option_map, unwrap_or, IsSome}
+use Rattle.std.proofs.Common.{◌≡◌, ◌≢◌, ◌∙◌, ◌++◌, inl, inr, true, false, ℕ, Bool, List, [], ◌∷◌, refl, sym, ap, Option, Some, None}
+use Rattle.std.specs.Prelude.{if◌then◌else◌, Result, Ok, Err, option_map, unwrap_or}
 use Rattle.pp_lexer.specs.declared.token.PreprocessorError.TheVariants.{IntegerOverflow, UnexpectedEndOfInput}
 use Rattle.pp_model.specs.declared.place.Place.{Place}
 use Rattle.pp_model.specs.Places.{PlacedFault, place_of, unasked}
@@ -31,26 +31,21 @@ use Rattle.pp_macros.proofs.taking.TakingLemmas.{taken_flat}
 use Rattle.pp_macros.proofs.open_frames.ReportedLemmas.{taken_reported, painted_reported}
 use Rattle.pp_lexer.specs.declared.token.Integer.{Integer}
 
--- `KeepsR` is what stands after a fault too
-module _ {R : Type 0} (I : Reading R) (StandsR KeepsR : Reader → R → Type 0) (hidden : List Name) where
-  -- what a step of a reader is to the reader that it stands for; after a fault that asks for no text less is said
+module _ {R : Type 0} (I : Reading R) (StandsR : Reader → R → Type 0) (hidden : List Name) where
+  -- what a step of a reader is to the reader that it stands for
   abbrev pub ReadsTo : PlacedStep Read → R → Reader → Type 0
   ReadsTo (Ok read) x s = (y : R) × I.Reads x (given.Token read) y × StandsR s y
   ReadsTo (Err Continue) x s = (y : R) × StandsR s y × ((o : Given) (z : R) → I.Reads y o z → I.Reads x o z)
   ReadsTo (Err Finished) x s = (y : R) × I.Reads x given.End y × StandsR s y
-  ReadsTo (Err (Error fault)) x s = (y : R) × I.Reads x (given.Fault fault) y × (IsSome fault.1.asks → StandsR s y) × KeepsR s y
+  ReadsTo (Err (Error fault)) x s = (y : R) × I.Reads x (given.Fault fault) y × StandsR s y
 
-  -- what is held is held in the definitions' expander; after a fault that is held less is said of the reader
-  abbrev pub StandsHeld : Option (PlacedStep Read) → Reader → R → Type 0
-  StandsHeld (Some (Err (Error fault))) r x = (IsSome fault.1.asks → StandsR r x) × KeepsR r x
-  StandsHeld (Some (Err Continue)) r x = ⊥
-  StandsHeld _ r x = StandsR r x
-
+  -- what is held is held in the definitions' expander, and is no pause
   pub record StandsIn (m : kept.Expander) (r : Reader) (e : Expander R) : Type 0 where
     pub holds : e.held ≡ option_map outcome_of_step m.held
     pub list : e.list ≡ flat m.frames
-    pub reader : StandsHeld m.held r e.reader
+    pub reader : StandsR r e.reader
     pub names : e.hidden ≡ hidden
+    pub goes : m.held ≢ Some (Err Continue)
 
   -- the names that are open over frames are those that are open over their list
   pub masked_flat : (n : kept.Expander) (s : Reader) (f : Expander R) → StandsIn n s f → masked_names f ≡ names_of n.frames ++ hidden
@@ -62,46 +57,44 @@ module _ {R : Type 0} (I : Reading R) (StandsR KeepsR : Reader → R → Type 0)
   FetchesTo (Ok read) e n s = (f : Expander R) × taking.Fetches I e (given.Token read) f × StandsIn n s f
   FetchesTo (Err Continue) e n s = (f : Expander R) × StandsIn n s f × PausesTo I e f
   FetchesTo (Err Finished) e n s = (f : Expander R) × taking.Fetches I e given.End f × StandsIn n s f
-  FetchesTo (Err (Error fault)) e n s = (f : Expander R) × taking.Fetches I e (given.Fault fault) f × (e.hidden ≡ hidden) × (f.hidden ≡ hidden)
-      × (f.list ≡ flat n.frames) × (f.held ≡ None) × (n.held ≡ None) × (IsSome fault.1.asks → StandsR s f.reader) × KeepsR s f.reader
+  FetchesTo (Err (Error fault)) e n s = (f : Expander R) × taking.Fetches I e (given.Fault fault) f × StandsIn n s f
 
   -- what one step of taking is to the expander
   abbrev pub StepsTo : PlacedStep Read → Expander R → kept.Expander → Reader → Type 0
   StepsTo (Ok read) e n s = (f : Expander R) × Takes I e (given.Token read) f × StandsIn n s f
   StepsTo (Err Continue) e n s = (f : Expander R) × StandsIn n s f × PausesTo I e f
   StepsTo (Err Finished) e n s = (f : Expander R) × Takes I e given.End f × StandsIn n s f
-  StepsTo (Err (Error fault)) e n s = (f : Expander R) × Takes I e (given.Fault fault) f × (e.hidden ≡ hidden) × (f.hidden ≡ hidden)
-      × (f.list ≡ flat n.frames) × (f.held ≡ None) × (n.held ≡ None) × (IsSome fault.1.asks → StandsR s f.reader) × KeepsR s f.reader
+  StepsTo (Err (Error fault)) e n s = (f : Expander R) × Takes I e (given.Fault fault) f × StandsIn n s f
 
   module _ (simulates : (r s : Reader) (x : R) (step : PlacedStep Read) → StandsR r x → Reads r step s → wants_memory step ≡ false → ReadsTo step x s)
       (shows : (s : Reader) (y : R) (line : ℕ) → StandsR s y → I.shown_line y line ≡ shown_line s line)
-      (hides : (s : Reader) (y : R) → StandsR s y → hidden_of s ≡ hidden)
-      (keeps : (s : Reader) (y : R) → StandsR s y → KeepsR s y) where
+      (hides : (s : Reader) (y : R) → StandsR s y → hidden_of s ≡ hidden) where
+    -- where nothing is held, no pause is
+    no_pause : {held : Option (PlacedStep Read)} → held ≡ None → held ≢ Some (Err Continue)
+    no_pause free is = let bad : None ≡ Some (Err Continue) = sym free ∙ is in cc
+
     -- what is held
-    held_steps : (step : PlacedStep Read) (n : kept.Expander) (s : Reader) (e : Expander R) → e.held ≡ Some (outcome_of_step step) → e.list ≡ flat n.frames
-        → StandsHeld (Some step) s e.reader → e.hidden ≡ hidden → n.held ≡ None → FetchesTo step e n s
-    held_steps (Ok read) n s e is list reader names free = (
-      record e { held = None },
-      taking.held (given.Token read) e (record e { held = None }) is refl,
-      record { holds = rw free refl; list = list; reader = rw free reader; names = names },
-    )
-    held_steps (Err Continue) n s e is list reader names free = absurd reader
-    held_steps (Err Finished) n s e is list reader names free = (
-      record e { held = None },
-      taking.held given.End e (record e { held = None }) is refl,
-      record { holds = rw free refl; list = list; reader = rw free reader; names = names },
-    )
-    held_steps (Err (Error fault)) n s e is list reader names free =
-        (record e { held = None }, taking.held (given.Fault fault) e (record e { held = None }) is refl, names, names, list, refl, free, reader.0, reader.1)
+    let_go : (n : kept.Expander) (s : Reader) (e : Expander R) → e.list ≡ flat n.frames → StandsR s e.reader → e.hidden ≡ hidden → n.held ≡ None
+        → StandsIn n s (record e { held = None })
+    let_go n s e list reader names free =
+        record { holds = sym (ap (option_map outcome_of_step) free); list = list; reader = reader; names = names; goes = no_pause free }
+
+    held_steps : (step : PlacedStep Read) (n : kept.Expander) (s : Reader) (e : Expander R) → e.held ≡ Some (outcome_of_step step) → step ≢ Err Continue
+        → StandsIn n s (record e { held = None }) → FetchesTo step e n s
+    held_steps (Ok read) n s e is goes stands =
+        (record e { held = None }, taking.held (given.Token read) e (record e { held = None }) is refl, stands)
+    held_steps (Err Continue) n s e is goes stands = absurd (goes refl)
+    held_steps (Err Finished) n s e is goes stands =
+        (record e { held = None }, taking.held given.End e (record e { held = None }) is refl, stands)
+    held_steps (Err (Error fault)) n s e is goes stands =
+        (record e { held = None }, taking.held (given.Fault fault) e (record e { held = None }) is refl, stands)
 
     -- a token that is taken from the list or the reader, as `__LINE__` or as itself
-    taken_steps : (o : Given) (e f : Expander R) (n : kept.Expander) (s : Reader) → taking.Fetches I e o f → StandsIn n s f → e.hidden ≡ hidden → n.held ≡ None
-        → (o ≡ given.End → ⊥) → FetchesTo (step_of_outcome o) e n s
-    taken_steps (given.Token read) e f n s takes stands names free goes = (f, takes, stands)
-    taken_steps (given.Fault fault) e f n s takes stands names free goes =
-        let reader : StandsR s f.reader = rw free at stands.reader in
-        (f, takes, names, stands.names, stands.list, stands.holds ∙ ap (option_map outcome_of_step) free, free, (λ asks. reader), keeps s f.reader reader)
-    taken_steps given.End e f n s takes stands names free goes = absurd (goes refl)
+    taken_steps : (o : Given) (e f : Expander R) (n : kept.Expander) (s : Reader) → taking.Fetches I e o f → StandsIn n s f → (o ≡ given.End → ⊥)
+        → FetchesTo (step_of_outcome o) e n s
+    taken_steps (given.Token read) e f n s takes stands goes = (f, takes, stands)
+    taken_steps (given.Fault fault) e f n s takes stands goes = (f, takes, stands)
+    taken_steps given.End e f n s takes stands goes = absurd (goes refl)
 
     -- a taken token is never the end
     taken_no_end : (frames : List Frame) (r : Reader) (read : Read) → taken_in frames r read ≡ given.End → ⊥
@@ -113,33 +106,34 @@ module _ {R : Type 0} (I : Reading R) (StandsR KeepsR : Reader → R → Type 0)
         go false o e = cc
 
     list_steps : (m n : kept.Expander) (r : Reader) (move : PlacedStep Read) (e : Expander R) → StandsIn m r e → m.held ≡ None → n.held ≡ None
-        → StandsR r e.reader → StepsList move (flat m.frames) (flat n.frames) → FetchesTo (taken_as move n.frames r) e n r
-    list_steps m n r (Ok read) e stands free freed reader steps =
+        → StepsList move (flat m.frames) (flat n.frames) → FetchesTo (taken_as move n.frames r) e n r
+    list_steps m n r (Ok read) e stands free freed steps =
         let f : Expander R = record e { list = flat n.frames } in
         let none : e.held ≡ None = stands.holds ∙ ap (option_map outcome_of_step) free in
-        let becomes = taken_flat (I.shown_line e.reader) n.frames r read (λ line. shows r e.reader line reader) in
+        let becomes = taken_flat (I.shown_line e.reader) n.frames r read (λ line. shows r e.reader line stands.reader) in
         taken_steps (taken_in n.frames r read) e f n r
         (taking.listed (taken_in n.frames r read) read (flat n.frames) e f none (ap after_marks stands.list ∙ steps) (sym becomes) refl)
         (record {
           holds = none ∙ sym (ap (option_map outcome_of_step) freed);
           list = refl;
-          reader = rw freed reader;
+          reader = stands.reader;
           names = stands.names;
-        }) stands.names freed (taken_no_end n.frames r read)
-    list_steps m n r (Err Continue) e stands free freed reader steps =
+          goes = no_pause freed;
+        }) (taken_no_end n.frames r read)
+    list_steps m n r (Err Continue) e stands free freed steps =
         let none : e.held ≡ None = stands.holds ∙ ap (option_map outcome_of_step) free in (
           record e { list = flat n.frames },
           record {
-            holds = none
-                ∙ sym (ap (option_map outcome_of_step) freed);
+            holds = none ∙ sym (ap (option_map outcome_of_step) freed);
             list = refl;
-            reader = rw freed reader;
+            reader = stands.reader;
             names = stands.names;
+            goes = no_pause freed;
           },
           list_pauses I e (flat n.frames) none (ap after_marks stands.list ∙ steps),
         )
-    list_steps m n r (Err Finished) e stands free freed reader steps = absurd steps
-    list_steps m n r (Err (Error fault)) e stands free freed reader steps = absurd steps
+    list_steps m n r (Err Finished) e stands free freed steps = absurd steps
+    list_steps m n r (Err (Error fault)) e stands free freed steps = absurd steps
 
     -- the reader may pause where the list holds no token
     reader_fetches : (e : Expander R) (y : R) → e.held ≡ None → after_marks e.list ≡ []
@@ -159,99 +153,83 @@ module _ {R : Type 0} (I : Reading R) (StandsR KeepsR : Reader → R → Type 0)
 
     read_steps : (m n : kept.Expander) (r s : Reader) (move : PlacedStep Read) (e : Expander R) → StandsIn m r e → m.held ≡ None → n.held ≡ None → m.frames ≡ []
         → n.frames ≡ [] → ReadsTo move e.reader s → FetchesTo (taken_as move n.frames s) e n s
-    read_steps m n r s (Ok read) e stands free freed start end (y, reads, after) =
-        let f : Expander R = record e { list = []; reader = y } in
-        let none : e.held ≡ None = stands.holds ∙ ap (option_map outcome_of_step) free in
-        let empty : after_marks e.list ≡ [] = ap after_marks stands.list ∙ ap (λ fs. after_marks (flat fs)) start in
-        let becomes = taken_flat (I.shown_line y) n.frames s read (λ line. shows s y line after) in
-        let same : taken_in n.frames s read ≡ taking.shown_token (I.shown_line y) [] read = sym becomes
-        ∙ ap (λ fs. taking.shown_token (I.shown_line y) (flat fs) read) end in
-        taken_steps (taken_in n.frames s read) e f n s
-        (taking.read (given.Token read) (taken_in n.frames s read) y e f none empty reads same refl)
-        (record {
+    read_steps m n r s move e stands free freed start end = go move
+      where
+        none : e.held ≡ None
+        none = stands.holds ∙ ap (option_map outcome_of_step) free
+
+        empty : after_marks e.list ≡ []
+        empty = ap after_marks stands.list ∙ ap (λ fs. after_marks (flat fs)) start
+
+        onto : (y : R) → StandsR s y → StandsIn n s (record e { list = []; reader = y })
+        onto y after = record {
           holds = none ∙ sym (ap (option_map outcome_of_step) freed);
           list = sym (ap flat end);
-          reader = rw freed after;
+          reader = after;
           names = stands.names;
-        }) stands.names freed (taken_no_end n.frames s read)
-    read_steps m n r s (Err Continue) e stands free freed start end (y, after, on) =
-        let none : e.held ≡ None = stands.holds ∙ ap (option_map outcome_of_step) free in
-        let empty : after_marks e.list ≡ [] = ap after_marks stands.list ∙ ap (λ fs. after_marks (flat fs)) start in (
-          record e { list = []; reader = y },
-          record {
-            holds = none
-                ∙ sym (ap (option_map outcome_of_step) freed);
-            list = sym (ap flat end);
-            reader = rw freed after;
-            names = stands.names;
-          },
-          reader_pause e y none empty on,
-        )
-    read_steps m n r s (Err Finished) e stands free freed start end (y, reads, after) =
-        let none : e.held ≡ None = stands.holds ∙ ap (option_map outcome_of_step) free in
-        let empty : after_marks e.list ≡ [] = ap after_marks stands.list ∙ ap (λ fs. after_marks (flat fs)) start in (
+          goes = no_pause freed;
+        }
+
+        go : (move : PlacedStep Read) → ReadsTo move e.reader s → FetchesTo (taken_as move n.frames s) e n s
+        go (Ok read) (y, reads, after) =
+            let becomes = taken_flat (I.shown_line y) n.frames s read (λ line. shows s y line after) in
+            let same : taken_in n.frames s read ≡ taking.shown_token (I.shown_line y) [] read = sym becomes
+            ∙ ap (λ fs. taking.shown_token (I.shown_line y) (flat fs) read) end in
+            taken_steps (taken_in n.frames s read) e (record e { list = []; reader = y }) n s
+            (taking.read (given.Token read) (taken_in n.frames s read) y e (record e { list = []; reader = y }) none empty reads same refl)
+            (onto y after) (taken_no_end n.frames s read)
+        go (Err Continue) (y, after, on) = (record e { list = []; reader = y }, onto y after, reader_pause e y none empty on)
+        go (Err Finished) (y, reads, after) = (
           record e { list = []; reader = y },
           taking.read given.End given.End y e (record e { list = []; reader = y }) none empty reads refl refl,
-          record { holds = none ∙ sym (ap (option_map outcome_of_step) freed); list = sym (ap flat end); reader = rw freed after; names = stands.names },
+          onto y after,
         )
-    read_steps m n r s (Err (Error fault)) e stands free freed start end (y, reads, after, kept_then) =
-        let none : e.held ≡ None = stands.holds ∙ ap (option_map outcome_of_step) free in
-        let empty : after_marks e.list ≡ [] = ap after_marks stands.list ∙ ap (λ fs. after_marks (flat fs)) start in (
+        go (Err (Error fault)) (y, reads, after) = (
           record e { list = []; reader = y },
-          taking.read (given.Fault fault) (given.Fault fault) y e (record e
-              { list = []; reader = y }) none empty reads refl refl,
-          stands.names,
-          stands.names,
-          sym (ap flat end),
-          none,
-          freed,
-          after,
-          kept_then,
+          taking.read (given.Fault fault) (given.Fault fault) y e (record e { list = []; reader = y }) none empty reads refl refl,
+          onto y after,
         )
 
     moved_simulates : (frames : List Frame) (m n : kept.Expander) (r s : Reader) (move : PlacedStep Read) (e : Expander R) → StandsIn m r e → m.held ≡ None
-        → n.held ≡ None → m.frames ≡ frames → StandsR r e.reader → Moves frames r move n.frames s → wants_memory move ≡ false
+        → n.held ≡ None → m.frames ≡ frames → Moves frames r move n.frames s → wants_memory move ≡ false
         → FetchesTo (taken_as move n.frames s) e n s
-    moved_simulates [] m n r s move e stands free freed start reader moves reported =
-        read_steps m n r s move e stands free freed start moves.0 (simulates r s e.reader move reader moves.1 reported)
-    moved_simulates (f ∷ fs) m n r s move e stands free freed start reader (same, inr refused) reported =
+    moved_simulates [] m n r s move e stands free freed start moves reported =
+        read_steps m n r s move e stands free freed start moves.0 (simulates r s e.reader move stands.reader moves.1 reported)
+    moved_simulates (f ∷ fs) m n r s move e stands free freed start (same, inr refused) reported =
         absurd (let bad : true ≡ false = rw refused at reported in cc)
-    moved_simulates (f ∷ fs) m n r s move e stands free freed start reader (same, inl (is, becomes)) reported =
+    moved_simulates (f ∷ fs) m n r s move e stands free freed start (same, inl (is, becomes)) reported =
         let steps : StepsList move (flat m.frames) (flat n.frames) = rw (start, is, becomes) (frame_steps f fs) in
-        rw same (list_steps m n r move e stands free freed reader steps)
+        rw same (list_steps m n r move e stands free freed steps)
 
     fetch_simulates : (m n : kept.Expander) (r s : Reader) (step : PlacedStep Read) (e : Expander R) → StandsIn m r e → StepsFetching m r step n s
         → wants_memory step ≡ false → FetchesTo step e n s
     fetch_simulates m n r s step e stands (held step1 m1 n1 r1 s1 is at same) reported =
-        let reader : StandsHeld (Some step) r e.reader = subst (λ (o : Option (PlacedStep Read)). StandsHeld o r e.reader) is stands.reader in
         let e_holds : e.held ≡ Some (outcome_of_step step) = stands.holds ∙ ap (option_map outcome_of_step) is in
         let frames : n.frames ≡ m.frames = ap (λ (k : kept.Expander). k.frames) at in
-        held_steps step n s e e_holds (stands.list ∙ sym (ap flat frames)) (rw same reader) stands.names (ap (λ (k : kept.Expander). k.held) at)
+        held_steps step n s e e_holds (λ pause. stands.goes (is ∙ ap Some pause))
+        (let_go n s e (stands.list ∙ sym (ap flat frames)) (rw same stands.reader) stands.names (ap (λ (k : kept.Expander). k.held) at))
     fetch_simulates m n r s step e stands (moved move step1 m1 n1 r1 s1 free moves is freed) reported =
-        let reader : StandsR r e.reader = rw free at stands.reader in
-        rw is (moved_simulates m.frames m n r s move e stands free freed refl reader moves (taken_reported move n.frames s (rw is at reported)))
+        rw is (moved_simulates m.frames m n r s move e stands free freed refl moves (taken_reported move n.frames s (rw is at reported)))
 
-    masked_same : (n : kept.Expander) (s : Reader) (f : Expander R) → StandsIn n s f → n.held ≡ None → masked_names f ≡ masks n.frames s
-    masked_same n s f stands freed =
-        let reader : StandsR s f.reader = rw freed at stands.reader in
-        masked_flat n s f stands ∙ ap (λ (hs : List Name). names_of n.frames ++ hs) (sym (hides s f.reader reader))
+    masked_same : (n : kept.Expander) (s : Reader) (f : Expander R) → StandsIn n s f → masked_names f ≡ masks n.frames s
+    masked_same n s f stands =
+        masked_flat n s f stands ∙ ap (λ (hs : List Name). names_of n.frames ++ hs) (sym (hides s f.reader stands.reader))
 
     -- what comes first is painted over frames as it is over their list
-    painted_to : (first : PlacedStep Read) (e : Expander R) (n : kept.Expander) (s : Reader) → n.held ≡ None → FetchesTo first e n s
+    painted_to : (first : PlacedStep Read) (e : Expander R) (n : kept.Expander) (s : Reader) → FetchesTo first e n s
         → StepsTo (painted_step (masks n.frames s) first) e n s
-    painted_to (Ok read) e n s freed (f, fetches, stands) = (
+    painted_to (Ok read) e n s (f, fetches, stands) = (
       f,
       record {
         first = given.Token read;
         fetches = fetches;
-        paints = ap (λ (names : List Name). given.Token (painted_among names read)) (sym (masked_same n s f stands freed));
+        paints = ap (λ (names : List Name). given.Token (painted_among names read)) (sym (masked_same n s f stands));
       },
       stands,
     )
-    painted_to (Err Continue) e n s freed h = h
-    painted_to (Err Finished) e n s freed (f, fetches, stands) = (f, record { first = given.End; fetches = fetches; paints = refl }, stands)
-    painted_to (Err (Error fault)) e n s freed (f, fetches, h1, h2, h3, h4, h5, h6, h7) =
-        (f, record { first = given.Fault fault; fetches = fetches; paints = refl }, h1, h2, h3, h4, h5, h6, h7)
+    painted_to (Err Continue) e n s h = h
+    painted_to (Err Finished) e n s (f, fetches, stands) = (f, record { first = given.End; fetches = fetches; paints = refl }, stands)
+    painted_to (Err (Error fault)) e n s (f, fetches, stands) = (f, record { first = given.Fault fault; fetches = fetches; paints = refl }, stands)
 
     fetch_frees : (m n : kept.Expander) (r s : Reader) (step : PlacedStep Read) → StepsFetching m r step n s → n.held ≡ None
     fetch_frees m n r s step (held step1 m1 n1 r1 s1 is at same) = ap (λ (k : kept.Expander). k.held) at
@@ -263,7 +241,7 @@ module _ {R : Type 0} (I : Reading R) (StandsR KeepsR : Reader → R → Type 0)
     pub step_simulates : (m n : kept.Expander) (r s : Reader) (step : PlacedStep Read) (e : Expander R) → StandsIn m r e → StepsTaking m r step n s
         → wants_memory step ≡ false → StepsTo step e n s
     step_simulates m n r s step e stands steps reported =
-        rw steps.paints (painted_to steps.first e n s (step_frees m n r s step steps) (fetch_simulates m n r s steps.first e stands steps.fetches
+        rw steps.paints (painted_to steps.first e n s (fetch_simulates m n r s steps.first e stands steps.fetches
         (painted_reported (masks n.frames s) steps.first (rw steps.paints at reported))))
 
     -- what is taken next is taken by the definitions
@@ -273,23 +251,30 @@ module _ {R : Type 0} (I : Reading R) (StandsR KeepsR : Reader → R → Type 0)
 
     -- the step itself may be held
     held_back : (step : PlacedStep Read) (e : Expander R) (n : kept.Expander) (s : Reader) → is_pause step ≡ false → n.held ≡ None → StepsTo step e n s → NextTo step e n s
-    held_back (Ok read) e n s goes free (f, takes, stands) = (
-      f,
-      takes,
-      record { holds = refl; list = stands.list; reader = rw free at stands.reader; names = stands.names },
-      stands.holds
-          ∙ ap (option_map outcome_of_step) free,
-    )
-    held_back (Err Continue) e n s goes free h = cc
-    held_back (Err Finished) e n s goes free (f, takes, stands) = (
-      f,
-      takes,
-      record { holds = refl; list = stands.list; reader = rw free at stands.reader; names = stands.names },
-      stands.holds
-          ∙ ap (option_map outcome_of_step) free,
-    )
-    held_back (Err (Error fault)) e n s goes free (f, takes, names, names_then, list, none, freed, asked, kept_then) =
-        (f, takes, record { holds = refl; list = list; reader = (asked, kept_then); names = names_then }, none)
+    held_back step e n s goes free = go step goes
+      where
+        pauses : Option (PlacedStep Read) → Bool
+        pauses None = false
+        pauses (Some step) = is_pause step
+
+        keeps : (f : Expander R) (step : PlacedStep Read) → is_pause step ≡ false → StandsIn n s f
+            → StandsIn (record n { held = Some step }) s (record f { held = Some (outcome_of_step step) })
+        keeps f step goes stands = record {
+          holds = refl;
+          list = stands.list;
+          reader = stands.reader;
+          names = stands.names;
+          goes = λ is. let bad : true ≡ false = sym (ap pauses is) ∙ goes in cc;
+        }
+
+        none : (f : Expander R) → StandsIn n s f → f.held ≡ None
+        none f stands = stands.holds ∙ ap (option_map outcome_of_step) free
+
+        go : (step : PlacedStep Read) → is_pause step ≡ false → StepsTo step e n s → NextTo step e n s
+        go (Ok read) goes (f, takes, stands) = (f, takes, keeps f (Ok read) goes stands, none f stands)
+        go (Err Continue) goes h = cc
+        go (Err Finished) goes (f, takes, stands) = (f, takes, keeps f (Err Finished) goes stands, none f stands)
+        go (Err (Error fault)) goes (f, takes, stands) = (f, takes, keeps f (Err (Error fault)) goes stands, none f stands)
 
     pub next_simulates : (m n : kept.Expander) (r s : Reader) (step : PlacedStep Read) (e : Expander R) → StandsIn m r e → TakesNext m r step n s
         → wants_memory step ≡ false → NextTo step e n s
@@ -304,17 +289,16 @@ module _ {R : Type 0} (I : Reading R) (StandsR KeepsR : Reader → R → Type 0)
     next_frees m n r s step (now step1 m1 n1 r1 s1 steps goes) = step_frees m n r s step steps
     next_frees m n r s step (later step1 m1 between n1 r1 s1 t1 steps next) = next_frees between n s1 s step next
 
-    -- what stands with the end held stands without it
-    end_stands : (m n : kept.Expander) (r s : Reader) (e : Expander R) (stands : StandsIn m r e) (next : TakesNext m r (Err Finished) n s)
-        → StandsIn n s (next_simulates m n r s (Err Finished) e stands next refl).0
-    end_stands m n r s e stands next =
-        let h = next_simulates m n r s (Err Finished) e stands next refl in
-        let free : n.held ≡ None = next_frees m n r s (Err Finished) next in
+    -- what stands with what is taken next held stands without it
+    next_stands : (m n : kept.Expander) (r s : Reader) (step : PlacedStep Read) (e : Expander R) → TakesNext m r step n s → (h : NextTo step e n s) → StandsIn n s h.0
+    next_stands m n r s step e next h =
+        let free : n.held ≡ None = next_frees m n r s step next in
         record {
           holds = h.3 ∙ sym (ap (option_map outcome_of_step) free);
           list = h.2.list;
-          reader = subst (λ (o : Option (PlacedStep Read)). StandsHeld o s h.0.reader) (sym free) h.2.reader;
+          reader = h.2.reader;
           names = h.2.names;
+          goes = no_pause free;
         }
 
     -- after a token the expander stands for the state after it
@@ -322,30 +306,11 @@ module _ {R : Type 0} (I : Reading R) (StandsR KeepsR : Reader → R → Type 0)
         → (f : Expander R) × Takes I e (given.Token read) f × StandsIn n s f
     token_stands read m n r s e stands next =
         let h = next_simulates m n r s (Ok read) e stands next refl in
-        let free : n.held ≡ None = next_frees m n r s (Ok read) next in (
-          h.0,
-          h.1,
-          record {
-            holds = h.3 ∙ sym (ap (option_map outcome_of_step) free);
-            list = h.2.list;
-            reader = subst (λ (o : Option (PlacedStep Read)). StandsHeld o s h.0.reader) (sym free) h.2.reader;
-            names = h.2.names;
-          },
-        )
+        (h.0, h.1, next_stands m n r s (Ok read) e next h)
 
     -- the search for the end of a call is that of the definitions
     abbrev pub GathersTo : ℕ → Place → Expander R → Result Gathered PlacedFault → kept.Expander → Reader → Type 0
-    GathersTo k last e (Ok g) n s = (f : Expander R) × Gathers I k last e (Ok g) f × StandsIn n s f
-    GathersTo k last e (Err fault) n s = (f : Expander R) × Gathers I k last e (Err fault) f × (f.list ≡ flat n.frames) × (n.held ≡ None)
-        × (IsSome fault.1.asks → StandsIn n s f)
-
-    inside_to : (k l : ℕ) (last : Place) (read : Read) (e f : Expander R) (rest : Result Gathered PlacedFault) (n : kept.Expander) (s : Reader)
-        → Takes I e (given.Token read) f → calls.nesting k read.token.value ≡ calls.within l → GathersTo l (place_of read) f rest n s
-        → GathersTo k last e (before read rest) n s
-    inside_to k l last read e f (Ok g) n s takes is (h, gathers, stands) =
-        (h, calls.inside k l last read e f h (Ok g) (before read (Ok g)) takes is gathers refl, stands)
-    inside_to k l last read e f (Err fault) n s takes is (h, gathers, list, freed, asked) =
-        (h, calls.inside k l last read e f h (Err fault) (before read (Err fault)) takes is gathers refl, list, freed, asked)
+    GathersTo k last e g n s = (f : Expander R) × Gathers I k last e g f × StandsIn n s f
 
     pub gather_simulates : (k : ℕ) (last : Place) (m n : kept.Expander) (r s : Reader) (g : Result Gathered PlacedFault) (e : Expander R) → StandsIn m r e
         → GathersNext k last m r g n s → GathersTo k last e g n s
@@ -354,31 +319,14 @@ module _ {R : Type 0} (I : Reading R) (StandsR KeepsR : Reader → R → Type 0)
         rw is (h.0, calls.closed k last read e h.0 (Ok (record { tokens = []; closing = read.token.location })) h.1 out refl, h.2)
     gather_simulates k last m n r s g e stands (inside k1 l last1 read m1 between n1 r1 s1 t1 rest g1 next in_call more is) =
         let h = token_stands read m between r s1 e stands next in
-        rw is (inside_to k l last read e h.0 rest n s h.1 in_call (gather_simulates l (place_of read) between n s1 s rest h.0 h.2 more))
+        let (f, gathers, stood) = gather_simulates l (place_of read) between n s1 s rest h.0 h.2 more in
+        rw is (f, calls.inside k l last read e h.0 f rest (before read rest) h.1 in_call gathers refl, stood)
     gather_simulates k last m n r s g e stands (overfull k1 last1 read m1 n1 r1 s1 g1 next out is) =
         let h = token_stands read m n r s e stands next in
-        rw is (
-          h.0,
-          calls.overfull k last read e h.0 (Err (IntegerOverflow, place_of read)) h.1 out refl,
-          h.2.list,
-          next_frees m n r s (Ok read) next,
-          λ asks. h.2,
-        )
+        rw is (h.0, calls.overfull k last read e h.0 (Err (IntegerOverflow, place_of read)) h.1 out refl, h.2)
     gather_simulates k last m n r s g e stands (ended k1 last1 m1 n1 r1 s1 g1 next is) =
         let h = next_simulates m n r s (Err Finished) e stands next refl in
-        rw is (
-          h.0,
-          calls.ended k last e h.0 (Err (UnexpectedEndOfInput, last)) h.1 refl,
-          h.2.list,
-          next_frees m n r s (Err Finished) next,
-          λ asks. end_stands m n r s e stands next,
-        )
+        rw is (h.0, calls.ended k last e h.0 (Err (UnexpectedEndOfInput, last)) h.1 refl, next_stands m n r s (Err Finished) e next h)
     gather_simulates k last m n r s g e stands (failed k1 last1 fault m1 n1 r1 s1 g1 next reported is) =
         let h = next_simulates m n r s (Err (Error fault)) e stands next reported in
-        rw is (
-          h.0,
-          calls.failed k last fault e h.0 (Err (unasked fault)) h.1 refl,
-          h.2.list,
-          next_frees m n r s (Err (Error fault)) next,
-          λ asks. let bad : false ≡ true = asks in cc,
-        )
+        rw is (h.0, calls.failed k last fault e h.0 (Err (unasked fault)) h.1 refl, next_stands m n r s (Err (Error fault)) e next h)

@@ -29,13 +29,13 @@ use Rattle.pp_model.proofs.onward.StepLemmas.{onward_reads_one}
 use Rattle.pp_model.proofs.onward.EmitsBeginLemmas.{Giving, goes_on, holds, stops, emits_begin}
 
 -- a fault that asks for nothing is an error item, in whatever call it is
-item_in : (place : Option CallPlace) (fault : PlacedFault) → fault.1.asks ≡ None
+pub item_in : (place : Option CallPlace) (fault : PlacedFault) → fault.1.asks ≡ None
     → item_of (taken.Fault (fault_in place fault)) ≡ outcome.Fault (unplaced fault)
 item_in None fault asks = rw asks refl
 item_in (Some place) fault asks = rw asks refl
 
 -- what is held comes next
-held_next : {R : Type 0} (I : Reading R) (A : Answers) (e : Expander R) (fault : PlacedFault) → e.held ≡ Some (taken.Fault fault)
+pub held_next : {R : Type 0} (I : Reading R) (A : Answers) (e : Expander R) (fault : PlacedFault) → e.held ≡ Some (taken.Fault fault)
     → Emits I A e (found_among e.list (taken.Fault fault)) (record e { held = None })
 held_next I A e fault h =
     itself (taken.Fault fault) _ e (record e { held = None })

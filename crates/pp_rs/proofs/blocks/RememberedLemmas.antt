@@ -10,7 +10,7 @@ use Rattle.pp_model.specs.SourceReader.{has_directive, is_on_directive_line, has
 use Rattle.pp_model.specs.declared.directive.Directive.{Directive}
 use Rattle.pp_model.specs.declared.sight.Sight.{Sight}
 use Rattle.pp_model.specs.declared.sight.Sight.TheVariants as sight
-use Rattle.pp_macros.specs.inner.OpenBlocks.{last_block, is_live_in}
+use Rattle.pp_macros.specs.inner.OpenBlocks.{is_live_among}
 use Rattle.pp_macros.specs.declared.blocks.OpenBlock.{OpenBlock}
 use Rattle.pp_macros.specs.inner.Source.{Source, IsAfter}
 use Rattle.pp_macros.specs.inner.SourceMoves.{Note, notes_text, notes_directive, directive_line}
@@ -24,7 +24,7 @@ pub record IsRemembered (source : Source) (items : List Seen) (truths : Truths) 
   pub text : source.has_text ≡ has_live_text_before items truths position
   pub directive : source.has_directive ≡ has_directive (take position items)
   pub apart : IsApart items position
-  pub off_line : is_live_in (last_block source.blocks) ≡ true → source.rest ≢ [] → is_on_directive_line items position ≡ false
+  pub off_line : is_live_among source.dead_for_good source.blocks ≡ true → source.rest ≢ [] → is_on_directive_line items position ≡ false
 
 pub begins_no_text : (shown : Sight) → begins_with_hash shown ≡ true → is_text shown ≡ false
 begins_no_text (sight.Token token) h = cc
@@ -38,6 +38,12 @@ or_either true b true e = refl
 or_either true b false e = e
 or_either false b true e = refl
 or_either false b false e = e
+
+-- where the blocks stay, the text stays live or dead
+still_live : {count : ℕ} {note : Note} {old new : Source} → IsAfter count note old.blocks old new
+    → is_live_among old.dead_for_good old.blocks ≡ is_live_among new.dead_for_good new.blocks
+still_live {old = old} {new = new} b =
+    ap (λ (dead : Bool). is_live_among dead old.blocks) (sym b.dead_for_good) ∙ ap (is_live_among new.dead_for_good) (sym b.blocks)
 
 module _ (old new : Source) (items : List Seen) (truths : Truths) (position : ℕ) (front : old.rest ≡ drop position items)
     (before : IsRemembered old items truths position) where
@@ -53,7 +59,7 @@ module _ (old new : Source) (items : List Seen) (truths : Truths) (position : �
     apart_remembered = apart_further items position count found before.apart adds
 
   -- an item that is no number sign of a directive
-  module _ (live : Bool) (alive : is_live_in (last_block old.blocks) ≡ live) (is : is_live items truths position ≡ live)
+  module _ (live : Bool) (alive : is_live_among old.dead_for_good old.blocks ≡ live) (is : is_live items truths position ≡ live)
       (s : Seen) (rest : List Seen) (e : old.rest ≡ s ∷ rest) (quiet : is_directive_hash s.item ≡ false)
       (note : Note) (text : notes_text note ≡ (live && is_text (sight_of old.rest))) (none : notes_directive note ≡ false)
       (b : IsAfter 1 note old.blocks old new) where
@@ -77,12 +83,12 @@ module _ (old new : Source) (items : List Seen) (truths : Truths) (position : �
           apart = apart_remembered 1 note old.blocks b false none adds_none;
           off_line = λ there left.
               let next : position + 1 ≡ suc position = omega arith in
-              let still : live ≡ true = sym alive ∙ ap (λ (kept : List OpenBlock). is_live_in (last_block kept)) (sym b.blocks) ∙ there in
+              let still : live ≡ true = sym alive ∙ still_live b ∙ there in
               ap (is_on_directive_line items) next ∙ off_line_further items position s rest here quiet (off still);
         }
 
   -- the number sign of a directive, and what stands after it: in live text the line ends there
-  module _ (off : is_live_in (last_block old.blocks) ≡ true → is_on_directive_line items (suc (suc position)) ≡ false) (shown : Sight) (e : sight_of old.rest ≡ shown)
+  module _ (off : is_live_among old.dead_for_good old.blocks ≡ true → is_on_directive_line items (suc (suc position)) ≡ false) (shown : Sight) (e : sight_of old.rest ≡ shown)
       (a s : Seen) (rest : List Seen) (two : old.rest ≡ a ∷ s ∷ rest) (hash : is_directive_hash a.item ≡ true) (no_text : is_text shown ≡ false)
       (note : Note) (text : notes_text note ≡ false) (found : Bool) (noted : notes_directive note ≡ found) (adds : AddsDirective 2 old.rest found)
       (b : IsAfter 2 note old.blocks old new) where
@@ -99,7 +105,7 @@ module _ (old new : Source) (items : List Seen) (truths : Truths) (position : �
           directive = directive_remembered 2 note old.blocks b found noted adds_here;
           apart = apart_remembered 2 note old.blocks b found noted adds_here;
           off_line = λ there left.
-              let alive : is_live_in (last_block old.blocks) ≡ true = ap (λ (kept : List OpenBlock). is_live_in (last_block kept)) (sym b.blocks) ∙ there in
+              let alive : is_live_among old.dead_for_good old.blocks ≡ true = still_live b ∙ there in
               let place : position + 2 ≡ suc (suc position) = omega arith in
               ap (is_on_directive_line items) place ∙ off alive;
         }

@@ -1,5 +1,5 @@
 -- What adding a definition does to a preprocessor.
-use Rattle.std.proofs.Common.{◌≡◌, ◌∙◌, ℕ, ◌+◌, Bool, true, false, if◌then◌else◌, List, [], ◌∷◌, Option, Some, Ok, Err, IsSome, refl, ap, sym, subst}
+use Rattle.std.proofs.Common.{◌≡◌, ◌∙◌, ℕ, ◌+◌, Bool, true, false, if◌then◌else◌, List, [], ◌∷◌, Option, Some, Ok, Err, IsSome, refl, ap, sym, subst, arith}
 use Rattle.std.specs.Str.{chars}
 use Rattle.pp_lexer.specs.PreprocessorError.{out_of_memory}
 use Rattle.pp_lexer.specs.Rules.{pp_rs}
@@ -9,8 +9,10 @@ use Rattle.pp_model.specs.declared.read.Read.{Read}
 use Rattle.pp_model.specs.Names.{Name, is_same_name}
 use Rattle.pp_model.specs.Definitions.{Definitions, object_like, with_change}
 use Rattle.pp_model.specs.Reading.{Expander}
-use Rattle.pp_model.specs.Run.{items_by, items_of, content_tokens, with_added}
+use Rattle.pp_model.specs.Run.{items_by, items_of, content_tokens}
 use Rattle.pp_model.specs.inner.Run.{after_addition}
+use Rattle.pp_model.specs.Onward.{Onward}
+use Rattle.pp_rs.specs.Comes.{with_added}
 use Rattle.pp_model.specs.SourceReader.{SourceReader}
 use Rattle.pp_model.specs.Emitting.{expansion_limit}
 use Rattle.pp_rs.specs.Adding.{IsAdded, refused, faulty, added}
@@ -27,10 +29,10 @@ use Rattle.pp_macros.specs.inner.Source.{Source}
 use Rattle.pp_macros.specs.inner.Work.{most_reads}
 use Rattle.pp_rs.specs.inner.AllTexts.{all_unreported}
 use Rattle.pp_macros.specs.inner.Unreported.{unreported_with}
-use Rattle.pp_rs.specs.inner.Stands.{StandsForReader, StandsForHeld, StandsFor, IsAsDeep}
-use Rattle.pp_macros.specs.declared.step.PlacedExit.TheVariants.{Error, Continue, Finished}
+use Rattle.pp_rs.specs.inner.Stands.{StandsForReader, StandsOnward, StandsFor}
+use Rattle.pp_macros.specs.declared.step.PlacedExit.TheVariants.{Finished}
 use Rattle.pp_macros.proofs.open_frames.OpenSoundLemmas.{numbers_more}
-use Rattle.pp_rs.proofs.source.StandsAfterLemmas.{stands_with}
+use Rattle.pp_rs.proofs.source.AroundLemmas.{known_more}
 use Rattle.pp_rs.proofs.runs.LeftLemmas.{no_more_work}
 
 -- by pp-rs's rules a content has the tokens that it has by those of the preprocessor
@@ -41,29 +43,39 @@ tokens_by_pp_rs old content usual = ap (λ rules. content_tokens (items_by rules
 module _ (name : Name) (tokens : List Token) (old new : Source) (h : IsSetIn name tokens old new) where
   reader_added : (definitions : List Defined) → IsChanged name (Some (object_like (old.contents + 1) tokens)) old.definitions definitions → (r : SourceReader)
       → StandsForReader old r → StandsForReader (record old { definitions = definitions; contents = old.contents + 1 }) (after_addition name tokens r)
-  reader_added definitions c r s =
-      stands_with old r s definitions (with_change r.definitions name (Some (object_like (r.contents + 1) tokens))) (old.contents + 1) (r.contents + 1)
-      old.line_offset r.line_offset
-      (rw s.contents (ap (λ (m : Definitions). with_change m name (Some (object_like (old.contents + 1) tokens))) s.definitions ∙ sym c.meaning))
-      (ap (λ (n : ℕ). n + 1) s.contents) s.here.line_offset
+  reader_added definitions c r s = record {
+    rules = s.rules;
+    here = s.here;
+    around = s.around;
+    earlier = s.earlier;
+    definitions = rw s.contents (ap (λ (m : Definitions). with_change m name (Some (object_like (old.contents + 1) tokens))) s.definitions ∙ sym c.meaning);
+    contents = ap (λ (n : ℕ). n + 1) s.contents;
+    unspent = s.unspent;
+  }
 
-  added_reader : (r : SourceReader) → StandsForReader old r → StandsForReader new (after_addition name tokens r)
-  added_reader r s = subst (λ (source : Source). StandsForReader source (after_addition name tokens r)) (sym h.others)
-      (reader_added new.definitions h.definitions r s)
+  onward_added : (definitions : List Defined) → IsChanged name (Some (object_like (old.contents + 1) tokens)) old.definitions definitions → (o : Onward)
+      → StandsOnward old o
+      → StandsOnward (record old { definitions = definitions; contents = old.contents + 1 }) (record o { reader = after_addition name tokens o.reader })
+  onward_added definitions c o s = record {
+    reader = reader_added definitions c o.reader s.reader;
+    dead = s.dead;
+    numbered = s.numbered;
+    read = omega (arith, s.read);
+    known = known_more old.contents o.dead s.known;
+  }
 
-  held_added : (o : Option (PlacedStep Read)) (r : SourceReader) → StandsForHeld o old r → StandsForHeld o new (after_addition name tokens r)
-  held_added (Some (Err (Error fault))) r s =
-      (λ asks. added_reader r (s.0 asks), subst (λ (source : Source). IsAsDeep source (after_addition name tokens r)) (sym h.others) s.1)
-  held_added (Some (Err Continue)) r s = s
-  held_added _ r s = added_reader r s
+  added_onward : (o : Onward) → StandsOnward old o → StandsOnward new (record o { reader = after_addition name tokens o.reader })
+  added_onward o s = subst (λ (source : Source). StandsOnward source (record o { reader = after_addition name tokens o.reader })) (sym h.others)
+      (onward_added new.definitions h.definitions o s)
 
   -- each state is now one in which the definition was added
-  pub stands_added : (m : kept.Expander) (e : Expander SourceReader) → StandsFor m old e → StandsFor m new (with_added name tokens e)
+  pub stands_added : (m : kept.Expander) (e : Expander Onward) → StandsFor m old e → StandsFor m new (with_added name tokens e)
   stands_added m e s = record {
     held = s.held;
     list = s.list;
-    reader = held_added m.held e.reader s.reader;
+    reader = added_onward e.reader s.reader;
     hidden = s.hidden;
+    goes = s.goes;
   }
 
   -- what was defined still is

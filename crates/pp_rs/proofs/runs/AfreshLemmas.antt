@@ -1,15 +1,22 @@
 -- What follows for a text if it is known that it gives these tokens.
 use Rattle.std.proofs.Common.{ℕ, All, ◌≡◌, ◌∙◌, List, [], ◌∷◌, ◌++◌, append-nil, map, refl, ap, sym, subst, Option, Some, None, Ok, Err, false, IsTrue}
-use Rattle.std.specs.Prelude.{option_map}
+use Rattle.std.specs.Prelude.{option_map, if◌then◌else◌}
 use Rattle.std.specs.Str.{IsUtf8, encode_utf8_all, chars}
 use Rattle.std.proofs.lemmas.Str.{encodes-chars}
 use Rattle.pp_lexer.specs.Spelling.{values_of}
 use Rattle.pp_lexer.specs.TokenValue.{is_ordinary}
 use Rattle.pp_lexer.specs.declared.token.Token.{Token}
-use Rattle.pp_model.specs.Emitting.{expansion_limit}
+use Rattle.pp_model.specs.Emitting.{answers_at, expansion_limit}
 use Rattle.pp_lexer.specs.Rules.{pp_rs}
 use Rattle.pp_model.specs.RespellLaws.{calls_for, replies_with}
-use Rattle.pp_model.specs.Run.{Runs, done, given, failed, items_of, start}
+use Rattle.pp_model.specs.Painting.{item_of}
+use Rattle.pp_model.specs.Run.{IsRunBy, items_of, ends_run}
+use Rattle.pp_model.specs.RunToEnd.{RunsToEnd, done, given, to_first_error}
+use Rattle.pp_model.specs.declared.call.Reply.{Reply}
+use Rattle.pp_model.specs.declared.call.Reply.TheVariants as reply
+use Rattle.pp_model.proofs.runs.RunLemmas.{one_run}
+use Rattle.pp_model.proofs.onward.RunLemmas.{a_run_to_end}
+use Rattle.pp_model.proofs.onward.RunsBeginLemmas.{run_to_end_begins}
 use Rattle.pp_model.specs.declared.outcome.Outcome.TheVariants as outcome
 use Rattle.pp_model.proofs.respelling.RespellLemmas.{runs_read_afresh}
 use Rattle.pp_macros.specs.Item.{Fault, Item}
@@ -18,18 +25,19 @@ use Rattle.pp_lexer.specs.declared.token.Location.{Location}
 use Rattle.pp_lexer.specs.declared.rules.Rules.{Rules}
 use Rattle.pp_rs.specs.Preprocessing.{outcome_of}
 use Rattle.pp_rs.specs.Collecting.{tokens_before_error, first_error, AreItemsFrom, AreItemsOf}
-use Rattle.pp_rs.specs.Comes.{State, Comes, Gives, nothing, first}
+use Rattle.pp_rs.specs.Comes.{State, start, Comes, Gives, nothing, first}
 use Rattle.pp_rs.specs.Kept.{Preprocessing, Stands, is_spent, rules_of}
-use Rattle.pp_rs.proofs.runs.ComesLemmas.{one_comes}
+use Rattle.pp_rs.proofs.runs.ComesLemmas.{one_comes, given_run}
 use Rattle.pp_rs.proofs.runs.ItemValuesLemmas.{HaveValues, values_are, tokens_are}
 
 -- from the state these tokens come, and then the end
 abbrev RunsThrough : State → List Token → Type 0
-RunsThrough e tokens = Runs Comes pp_rs e (calls_for tokens) (replies_with tokens)
+RunsThrough e tokens = RunsToEnd (answers_at expansion_limit) pp_rs e (calls_for tokens) (replies_with tokens)
 
 end_comes : (e : State) → RunsThrough e [] → (f : State) × Comes e outcome.End f
-end_comes e (given o e1 f calls rest replies comes plain more is) = let same : o ≡ outcome.End = cc in (f, subst (λ x. Comes e x f) same comes)
-end_comes e (failed fault e1 f calls replies comes is) = cc
+end_comes e (given x e1 f calls rest replies emits more is) =
+    let same : outcome.End ≡ item_of x = cc in
+    (f, record { taken = x; emits = emits; is = same })
 
 record Follows (e : State) (token : Token) (tokens : List Token) : Type 0 where
   after : State
@@ -37,11 +45,14 @@ record Follows (e : State) (token : Token) (tokens : List Token) : Type 0 where
   later : RunsThrough after tokens
 
 token_comes : (e : State) (token : Token) (tokens : List Token) → RunsThrough e (token ∷ tokens) → Follows e token tokens
-token_comes e token tokens (given o e1 f calls rest replies comes plain more is) =
-    let same : o ≡ outcome.Token token = cc in
+token_comes e token tokens (given x e1 f calls rest replies emits more is) =
+    let same : outcome.Token token ≡ item_of x = cc in
     let left : rest ≡ replies_with tokens = cc in
-    record { after = f; comes = subst (λ x. Comes e x f) same comes; later = subst (λ rs. Runs Comes pp_rs f (calls_for tokens) rs) left more }
-token_comes e token tokens (failed fault e1 f calls replies comes is) = cc
+    record {
+      after = f;
+      comes = record { taken = x; emits = emits; is = same };
+      later = subst (λ rs. RunsToEnd (answers_at expansion_limit) pp_rs f (calls_for tokens) rs) left more;
+    }
 
 -- what comes first of such a run, and what is left of it
 record Left (all front : List Token) (f : State) : Type 0 where
@@ -96,10 +107,52 @@ items_are_whole all items e run from =
 -- tokens that come one after another, and then the end, are a run
 run_of : (tokens : List Token) (e f g : State) → Gives e tokens f → Comes f outcome.End g → RunsThrough e tokens
 run_of tokens e f g (nothing ts e1 f1 none same) ends =
-    rw none (given outcome.End e g [] [] _ (subst (λ s. Comes s outcome.End g) same ends) refl (done g [] refl) refl)
+    let last : Comes e outcome.End g = subst (λ s. Comes s outcome.End g) same ends in
+    rw none (given_run pp_rs outcome.End e g [] [] last (done g [] refl))
 run_of tokens e f g (first token rest ts e1 next f1 comes more is) ends =
     let later = run_of rest next f g more ends in
-    rw is (given (outcome.Token token) e next (calls_for rest) (replies_with rest) _ comes refl later refl)
+    rw is (given_run pp_rs (outcome.Token token) e next (calls_for rest) (replies_with rest) comes later)
+
+-- none of these replies is an error item
+whole_replies : (tokens : List Token) → to_first_error (replies_with tokens) ≡ replies_with tokens
+whole_replies [] = refl
+whole_replies (token ∷ tokens) = ap (λ rs. reply.Given (outcome.Token token) ∷ rs) (whole_replies tokens)
+
+nothing_left : (replies : List Reply) → to_first_error replies ≡ [] → replies ≡ []
+nothing_left [] e = refl
+nothing_left (one ∷ rest) e = cc
+
+-- replies that are these up to the first error item are these
+no_error : (replies : List Reply) (tokens : List Token) → to_first_error replies ≡ replies_with tokens → replies ≡ replies_with tokens
+no_error [] [] e = cc
+no_error [] (token ∷ tokens) e = cc
+no_error (one ∷ rest) [] e =
+    let same : one ≡ reply.Given outcome.End = cc in
+    let cut : (if ends_run one then [] else to_first_error rest) ≡ [] = cc in
+    let left : to_first_error rest ≡ [] = sym (ap (λ last. if last then [] else to_first_error rest) (ap ends_run same)) ∙ cut in
+    ap (λ r. r ∷ rest) same ∙ ap (λ rs. reply.Given outcome.End ∷ rs) (nothing_left rest left)
+no_error (one ∷ rest) (token ∷ tokens) e =
+    let same : one ≡ reply.Given (outcome.Token token) = cc in
+    let cut : (if ends_run one then [] else to_first_error rest) ≡ replies_with tokens = cc in
+    let left : to_first_error rest ≡ replies_with tokens = sym (ap (λ last. if last then [] else to_first_error rest) (ap ends_run same)) ∙ cut in
+    ap (λ r. r ∷ rest) same ∙ ap (λ rs. reply.Given (outcome.Token token) ∷ rs) (no_error rest tokens left)
+
+-- a run of a text that has no error is its run to the end
+abbrev pub start_of : List ℕ → State
+start_of text = start (items_of text)
+
+through : (text : List ℕ) (tokens : List Token) → IsRunBy pp_rs text (calls_for tokens) (replies_with tokens) → RunsThrough (start_of text) tokens
+through text tokens run =
+    let (replies, whole) = a_run_to_end pp_rs text (calls_for tokens) in
+    let same : to_first_error replies ≡ replies_with tokens =
+    one_run pp_rs text (calls_for tokens) (to_first_error replies) (replies_with tokens)
+    (run_to_end_begins pp_rs text (calls_for tokens) replies whole) run in
+    subst (λ rs. RunsToEnd (answers_at expansion_limit) pp_rs (start_of text) (calls_for tokens) rs) (no_error replies tokens same) whole
+
+up_to_error : (text : List ℕ) (tokens : List Token) → RunsThrough (start_of text) tokens → IsRunBy pp_rs text (calls_for tokens) (replies_with tokens)
+up_to_error text tokens run =
+    subst (λ rs. IsRunBy pp_rs text (calls_for tokens) rs) (whole_replies tokens)
+    (run_to_end_begins pp_rs text (calls_for tokens) (replies_with tokens) run)
 
 -- the bytes of a text of these characters
 pub bytes_are : (bytes characters : List ℕ) → IsUtf8 bytes → chars bytes ≡ characters → bytes ≡ encode_utf8_all characters
@@ -107,14 +160,14 @@ bytes_are bytes characters u e = sym (encodes-chars bytes u) ∙ ap encode_utf8_
 
 -- these items come from the start of a text
 abbrev pub AreItemsOfText : List ℕ → List Item → Type 0
-AreItemsOfText text items = AreItemsFrom pp_rs (start (items_of text)) items
+AreItemsOfText text items = AreItemsFrom pp_rs (start_of text) items
 
 -- they do where a preprocessor that stands for its start gives them
 pub text_gives : (pp : Preprocessing) (items : List Item) (text : List ℕ) → is_spent pp ≡ false → rules_of pp ≡ pp_rs
-    → Stands pp (start (items_of text)) → AreItemsOf pp items → AreItemsOfText text items
+    → Stands pp (start_of text) → AreItemsOf pp items → AreItemsOfText text items
 text_gives pp items text unspent usual stands all =
     let from : (state : State) → Stands pp state → AreItemsFrom (rules_of pp) state items = rw unspent at all in
-    subst (λ (rules : Rules). AreItemsFrom rules (start (items_of text)) items) usual (from _ stands)
+    subst (λ (rules : Rules). AreItemsFrom rules (start_of text) items) usual (from _ stands)
 
 -- Where the items of the tokens' text have the tokens' values, the tokens are read afresh.
 pub read_afresh : (tokens : List Token) (items : List Item) → AreItemsOfText (text_of tokens) items → HaveValues items (values_of tokens)
@@ -125,7 +178,8 @@ read_afresh tokens items from same =
     record {
       tokens = tokens_before_error items;
       same = these.are;
-      run = run_of (tokens_before_error items) _ from.2.before from.2.after from.2.gives ends;
+      run = up_to_error (text_of tokens) (tokens_before_error items)
+          (run_of (tokens_before_error items) (start_of (text_of tokens)) from.2.before from.2.after from.2.gives ends);
     }
 
 abbrev AreOrdinary : List Token → Type 0
@@ -141,5 +195,5 @@ output_is_read tokens o plain =
 pub items_of_read : (tokens : List Token) (items : List Item) → AreReadAfresh tokens → AreItemsOfText (text_of tokens) items
     → HaveValues items (values_of tokens)
 items_of_read tokens items read from =
-    let whole = items_are_whole read.tokens items _ read.run from in
+    let whole = items_are_whole read.tokens items (start_of (text_of tokens)) (through (text_of tokens) read.tokens read.run) from in
     values_are items whole.ends ∙ ap (λ values. map Ok values) (ap values_of (sym whole.tokens) ∙ read.same)

@@ -1,14 +1,16 @@
 -- What including a text does to a preprocessor.
-use Rattle.std.proofs.Common.{◌≡◌, ◌∙◌, ◌<◌, ◌≤◌, ◌++◌, ℕ, suc, true, false, List, [], ◌∷◌, length, Option, Some, None, Ok, Err, refl, ap, arith}
+use Rattle.std.proofs.Common.{◌≡◌, ◌≢◌, ◌∙◌, ◌<◌, ◌≤◌, ◌++◌, ℕ, true, false, List, [], ◌∷◌, length, Option, Some, None, Ok, Err, refl, ap, arith}
 use Rattle.std.specs.Prelude.{option_map}
 use Rattle.std.proofs.lemmas.Bool.{le-leb, lt-leb}
 use Rattle.pp_lexer.specs.declared.rules.Rules.{Rules}
 use Rattle.pp_lexer.specs.declared.token.Location.{Location}
 use Rattle.pp_model.specs.Places.{unplaced}
 use Rattle.pp_model.specs.Reading.{Expander}
-use Rattle.pp_model.specs.Run.{items_by, with_included}
+use Rattle.pp_model.specs.Run.{items_by}
 use Rattle.pp_model.specs.Run as run
-use Rattle.pp_model.specs.SourceReader.{SourceReader, is_full, include_limit, with_text}
+use Rattle.pp_model.specs.Onward.{Onward}
+use Rattle.pp_rs.specs.Comes.{with_included}
+use Rattle.pp_model.specs.SourceReader.{is_full, include_limit}
 use Rattle.pp_model.specs.declared.read.Read.{Read}
 use Rattle.pp_macros.specs.Item.{PlacedStep}
 use Rattle.pp_macros.specs.LexerErrors.{ErrorAt, lexer_errors_by}
@@ -25,45 +27,39 @@ use Rattle.pp_rs.specs.declared.pp.including.IncludeError.TheVariants.{TooDeep}
 use Rattle.pp_rs.specs.Kept.{LastItem, Preprocessing, Stands, is_spent, errors_left, error_place, asked_line, from_text, item_text, rules_of}
 use Rattle.pp_rs.specs.inner.AllTexts.{all_unreported}
 use Rattle.pp_rs.specs.inner.Fit.{EndIsLast, HoldsAsking, IsFit, IsReported}
-use Rattle.pp_rs.specs.inner.Stands.{IsAsDeep, StandsForHeld, StandsFor}
-use Rattle.pp_rs.proofs.source.AroundLemmas.{is_deep, stands_included}
-
--- whatever is held, as many texts are around
-held_deep : (o : Option (PlacedStep Read)) (source : Source) (r : SourceReader) → StandsForHeld o source r → IsAsDeep source r
-held_deep (Some (Err (Error fault))) source r h = h.1
-held_deep (Some (Err Continue)) source r h = absurd h
-held_deep _ source r h = is_deep h
-
--- what is held is held where a text is included, but for the end
-held_included : (o : Option (PlacedStep Read)) (source : Source) (r : SourceReader) (text : List ℕ) → StandsForHeld o source r
-    → StandsForHeld (without_end o) (including text source) (with_text (items_by source.rules text) r)
-held_included (Some (Err (Error fault))) source r text h = (λ asks. stands_included source r text (h.0 asks), ap suc h.1)
-held_included (Some (Err Finished)) source r text h = stands_included source r text h
-held_included (Some (Err Continue)) source r text h = absurd h
-held_included (Some (Ok read)) source r text h = stands_included source r text h
-held_included None source r text h = stands_included source r text h
+use Rattle.pp_rs.specs.inner.Stands.{StandsOnward, StandsFor}
+use Rattle.pp_rs.proofs.source.AroundLemmas.{as_deep, stands_included}
 
 -- the end is forgotten on both sides
-ends_forgotten : (o : Option (PlacedStep Read)) (source : Source) (r : SourceReader) → StandsForHeld o source r
+ends_forgotten : (o : Option (PlacedStep Read)) → o ≢ Some (Err Continue)
     → run.without_end (option_map outcome_of_step o) ≡ option_map outcome_of_step (without_end o)
-ends_forgotten (Some (Err (Error fault))) source r h = refl
-ends_forgotten (Some (Err Finished)) source r h = refl
-ends_forgotten (Some (Err Continue)) source r h = absurd h
-ends_forgotten (Some (Ok read)) source r h = refl
-ends_forgotten None source r h = refl
+ends_forgotten (Some (Err (Error fault))) goes = refl
+ends_forgotten (Some (Err Finished)) goes = refl
+ends_forgotten (Some (Err Continue)) goes = absurd (goes refl)
+ends_forgotten (Some (Ok read)) goes = refl
+ends_forgotten None goes = refl
+
+-- no pause is held then either
+goes_without_end : (o : Option (PlacedStep Read)) → o ≢ Some (Err Continue) → without_end o ≢ Some (Err Continue)
+goes_without_end (Some (Err (Error fault))) goes is = goes is
+goes_without_end (Some (Err Finished)) goes is = cc
+goes_without_end (Some (Err Continue)) goes is = goes is
+goes_without_end (Some (Ok read)) goes is = goes is
+goes_without_end None goes is = goes is
 
 -- the expander over the source that includes the text
 abbrev pub forgets_end : kept.Expander → kept.Expander
 forgets_end m = record m { held = without_end m.held }
 
 -- each state is now one in which the text was included
-stands_included_for : (m : kept.Expander) (source : Source) (text : List ℕ) (e : Expander SourceReader) → StandsFor m source e
+stands_included_for : (m : kept.Expander) (source : Source) (text : List ℕ) (e : Expander Onward) → StandsFor m source e
     → StandsFor (forgets_end m) (including text source) (with_included (items_by source.rules text) e)
 stands_included_for m source text e s = record {
-  held = ap run.without_end s.held ∙ ends_forgotten m.held source e.reader s.reader;
+  held = ap run.without_end s.held ∙ ends_forgotten m.held s.goes;
   list = s.list;
-  reader = held_included m.held source e.reader text s.reader;
+  reader = stands_included source e.reader text s.reader;
   hidden = s.hidden;
+  goes = goes_without_end m.held s.goes;
 }
 
 -- errors before those that were left
@@ -88,11 +84,11 @@ errors_inserted (Some (Ok taken)) read errors later = inserted_first errors late
 errors_inserted None read errors later = inserted_first errors later
 
 -- how deep a reader is
-full_by : (source : Source) (r : SourceReader) → IsAsDeep source r → include_limit ≤ length source.around → is_full r ≡ true
-full_by source r deep full = le-leb include_limit (length r.around) (omega (arith, deep, full))
+full_by : (source : Source) (o : Onward) → StandsOnward source o → include_limit ≤ length source.around → is_full o.reader ≡ true
+full_by source o stands full = le-leb include_limit (length o.reader.around) (omega (arith, as_deep stands.reader, full))
 
-room_by : (source : Source) (r : SourceReader) → IsAsDeep source r → length source.around < include_limit → is_full r ≡ false
-room_by source r deep room = lt-leb include_limit (length r.around) (omega (arith, deep, room))
+room_by : (source : Source) (o : Onward) → StandsOnward source o → length source.around < include_limit → is_full o.reader ≡ false
+room_by source o stands room = lt-leb include_limit (length o.reader.around) (omega (arith, as_deep stands.reader, room))
 
 module _ (text : List ℕ) (old : Preprocessing) (ruled : old.source.rules ≡ old.rules) where
   -- the text was included
@@ -101,7 +97,7 @@ module _ (text : List ℕ) (old : Preprocessing) (ruled : old.source.rules ≡ o
       → IsIncluded old text (Ok tt) (record old { expander = m; source = source; last = last })
   unfolding Stands is_spent errors_left error_place item_text asked_line rules_of
   included_now room m source last is at of = rw (is, at, of) (included refl (record {
-    room = λ state stands. room_by old.source state.reader (held_deep old.expander.held old.source state.reader stands.reader) room;
+    room = λ state stands. room_by old.source state.reader stands.reader room;
     stands = λ state stands. rw (← ruled) (stands_included_for old.expander old.source text state stands);
     spent = refl;
     errors = rw (← ruled) (errors_inserted old.expander.held old.source.error_place (lexer_errors_by old.source.rules text) (all_unreported old.source).later);
@@ -115,7 +111,7 @@ module _ (text : List ℕ) (old : Preprocessing) (ruled : old.source.rules ≡ o
 pub full_now : (text : List ℕ) (old : Preprocessing) → include_limit ≤ length old.source.around → IsIncluded old text (Err TooDeep) old
 unfolding Stands
 full_now text old full =
-    too_deep (λ state stands. full_by old.source state.reader (held_deep old.expander.held old.source state.reader stands.reader) full) refl refl
+    too_deep (λ state stands. full_by old.source state.reader stands.reader full) refl refl
 
 -- no end is held any more
 no_end_last : (o : Option (PlacedStep Read)) (frames : List Frame) (r : Reader) → EndIsLast (without_end o) frames r

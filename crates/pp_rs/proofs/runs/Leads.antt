@@ -1,13 +1,13 @@
 -- What a step of a preprocessor means for the runs of the definitions: what they give from the state after the step
 -- they also give from the state before it.
 use Rattle.std.proofs.Common.{◌≡◌, ◌∙◌, sym, Option}
-use Rattle.std.specs.Prelude.{Ok, Err, IsSome}
+use Rattle.std.specs.Prelude.{Ok, Err}
 use Rattle.pp_model.specs.declared.read.Read.{Read}
 use Rattle.pp_model.specs.Reading.{Expander}
 use Rattle.pp_model.specs.Calls.{Answers}
 use Rattle.pp_model.specs.ItemCall.{item_call}
 use Rattle.pp_model.specs.Emitting.{Emits}
-use Rattle.pp_model.specs.SourceReader.{SourceReader}
+use Rattle.pp_model.specs.Onward.{Onward}
 use Rattle.pp_model.specs.declared.read.Taken.TheVariants as taken
 use Rattle.pp_model.specs.declared.splice.CallPlace.{CallPlace}
 use Rattle.pp_macros.specs.Item.{PlacedStep}
@@ -22,24 +22,24 @@ use Rattle.pp_rs.specs.inner.Stands.{StandsFor}
 use Rattle.pp_macros.specs.declared.step.PlacedExit.TheVariants.{Error, Continue, Finished}
 
 -- What a step of an expander is to the state that it stands for: it gives the next item, or pauses and keeps that. Before
--- the step the outermost macro was called there. After a fault that asks for a text the expander stands too.
-abbrev pub LeadsFrom : Answers → Expander SourceReader → PlacedStep Read → Option CallPlace → kept.Expander → Source → Type 0
-LeadsFrom A e (Ok read) call expander source = (f : Expander SourceReader) × (emits : Emits source_rules A e (taken.Token read) f)
+-- the step the outermost macro was called there.
+abbrev pub LeadsFrom : Answers → Expander Onward → PlacedStep Read → Option CallPlace → kept.Expander → Source → Type 0
+LeadsFrom A e (Ok read) call expander source = (f : Expander Onward) × (emits : Emits source_rules A e (taken.Token read) f)
     × StandsFor expander source f × (kept_call expander.held call expander.frames ≡ item_call emits)
-LeadsFrom A e (Err Continue) call expander source = (f : Expander SourceReader) × StandsFor expander source f × EmitsLater source_rules A e f
-LeadsFrom A e (Err Finished) call expander source = (f : Expander SourceReader) × (emits : Emits source_rules A e taken.End f)
+LeadsFrom A e (Err Continue) call expander source = (f : Expander Onward) × StandsFor expander source f × EmitsLater source_rules A e f
+LeadsFrom A e (Err Finished) call expander source = (f : Expander Onward) × (emits : Emits source_rules A e taken.End f)
     × StandsFor expander source f × (kept_call expander.held call expander.frames ≡ item_call emits)
 LeadsFrom A e (Err (Error fault)) call expander source =
-    (f : Expander SourceReader) × (emits : Emits source_rules A e (taken.Fault (fault_in (outermost_frame_call expander.frames) fault)) f)
-    × (item_call emits ≡ (fault_in (outermost_frame_call expander.frames) fault).1.call) × (IsSome fault.1.asks → StandsFor expander source f)
+    (f : Expander Onward) × (emits : Emits source_rules A e (taken.Fault (fault_in (outermost_frame_call expander.frames) fault)) f)
+    × (item_call emits ≡ (fault_in (outermost_frame_call expander.frames) fault).1.call) × StandsFor expander source f
 
 -- the same of each state that the expander and the source stand for; one step, or many that pause before it
 pub record Leads (A : Answers) (expander : kept.Expander) (source : Source) (step : PlacedStep Read) (call : Option CallPlace)
     (expander_then : kept.Expander) (source_then : Source) : Type 0 where
-  pub from : (e : Expander SourceReader) → StandsFor expander source e → LeadsFrom A e step call expander_then source_then
+  pub from : (e : Expander Onward) → StandsFor expander source e → LeadsFrom A e step call expander_then source_then
 
 -- what comes from the state after a pause comes from the one before it
-leads_on : (A : Answers) (e f : Expander SourceReader) (step : PlacedStep Read) (call : Option CallPlace) (expander : kept.Expander) (source : Source)
+leads_on : (A : Answers) (e f : Expander Onward) (step : PlacedStep Read) (call : Option CallPlace) (expander : kept.Expander) (source : Source)
     → EmitsLater source_rules A e f → LeadsFrom A f step call expander source → LeadsFrom A e step call expander source
 leads_on A e f (Ok read) call expander source keeps leads =
     let first = keeps (taken.Token read) leads.0 leads.1 in

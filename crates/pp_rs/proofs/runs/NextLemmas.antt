@@ -12,7 +12,7 @@ use Rattle.pp_model.specs.Painting.{fault_item, item_of}
 use Rattle.pp_model.specs.declared.read.Taken.{Taken}
 use Rattle.pp_model.specs.declared.read.Taken.TheVariants as taken
 use Rattle.pp_model.specs.Reading.{Expander}
-use Rattle.pp_model.specs.SourceReader.{SourceReader}
+use Rattle.pp_model.specs.Onward.{Onward}
 use Rattle.pp_model.specs.declared.splice.CallPlace.{CallPlace}
 use Rattle.pp_rs.specs.Comes.{Comes, source_rules}
 use Rattle.pp_rs.specs.inner.Fit.{IsFit, IsReported, AsksRightly}
@@ -28,9 +28,9 @@ use Rattle.pp_macros.specs.inner.Reader.{of_source}
 use Rattle.pp_macros.specs.inner.Source.{Source}
 use Rattle.pp_rs.specs.inner.AllTexts.{all_unreported}
 use Rattle.pp_rs.specs.inner.SourceTurns.{TurnsSource, StepsOver}
-use Rattle.pp_rs.specs.inner.Stands.{StandsForReader, StandsForHeld, StandsFor}
+use Rattle.pp_rs.specs.inner.Stands.{StandsOnward, StandsFor}
 use Rattle.pp_rs.specs.Kept.{LastItem, Preprocessing, Stands, is_spent, most_items, errors_left, error_place, asked_line, call_or, call_place, from_text, last_error, item_text, rules_of}
-use Rattle.pp_rs.specs.Preprocessing.{Asks, GoesOn, outcome_of, is_unknown_directive, IsLessLeft, IsErrorAt, of_lexer, of_its_own, IsRefusedItem, IsGivenItem, IsNextItem}
+use Rattle.pp_rs.specs.Preprocessing.{Asks, outcome_of, is_unknown_directive, IsLessLeft, IsErrorAt, of_lexer, of_its_own, IsRefusedItem, IsGivenItem, IsNextItem}
 use Rattle.pp_macros.specs.inner.Unreported.{with_read}
 use Rattle.pp_macros.specs.declared.step.PlacedExit.TheVariants.{Error, Continue, Finished}
 use Rattle.pp_directives.proofs.PassedErrorsLemmas.{passes_none}
@@ -42,7 +42,7 @@ use Rattle.pp_rs.proofs.runs.UnreportedTurnLemmas.{errors_of, ErrorsLeft, left_t
 use Rattle.pp_rs.proofs.runs.SourceTurnLemmas.{turned_source, source_fits, source_lowers, source_ends, source_some, source_turn_leads}
 
 -- what is given next comes next
-abbrev comes : (e f : Expander SourceReader) (x : Taken) → Emits source_rules (answers_at expansion_limit) e x f → Comes e (item_of x) f
+abbrev comes : (e f : Expander Onward) (x : Taken) → Emits source_rules (answers_at expansion_limit) e x f → Comes e (item_of x) f
 comes e f x emits = record { taken = x; emits = emits; is = refl }
 
 -- the error of a fault in a call is that of the fault
@@ -74,33 +74,28 @@ asks_item rules fault (Some rest) same rightly =
     let h = rightly (some_asked fault.1.asks rest (sym same)) in
     (h.0, ap (λ (e : PreprocessorError). is_unknown_directive (Some (Err (e, fault.1.location)))) h.1)
 
--- after an error that asks for a text the preprocessor stands, and of any other error this says nothing
-goes_on_asked : (fault : PlacedFault) (asked : Option Location) (new : Preprocessing) (state : Expander SourceReader) → asked ≡ fault.1.asks
-    → (IsSome fault.1.asks → Stands new state) → GoesOn (Some (Err (unplaced fault))) asked new state
-goes_on_asked fault None new state same stands = tt
-goes_on_asked fault (Some rest) new state same stands = stands (some_asked fault.1.asks rest (sym same))
-
 -- the place of an error that was read says nothing of what stands
-reader_reported : (source : Source) (r : SourceReader) → StandsForReader source r → StandsForReader (record source { error_place = None }) r
-reader_reported source r s = record {
-  rules = s.rules;
-  here = s.here;
-  around = s.around;
-  earlier = s.earlier;
-  definitions = s.definitions;
-  contents = s.contents;
-  unspent = s.unspent;
+reader_reported : (source : Source) (o : Onward) → StandsOnward source o → StandsOnward (record source { error_place = None }) o
+reader_reported source o s = record {
+  reader = record {
+    rules = s.reader.rules;
+    here = s.reader.here;
+    around = s.reader.around;
+    earlier = s.reader.earlier;
+    definitions = s.reader.definitions;
+    contents = s.reader.contents;
+    unspent = s.reader.unspent;
+  };
+  dead = s.dead;
+  numbered = s.numbered;
+  read = s.read;
+  known = s.known;
 }
 
-held_reported : (o : Option (PlacedStep Read)) (source : Source) (r : SourceReader) → StandsForHeld o source r
-    → StandsForHeld o (record source { error_place = None }) r
-held_reported (Some (Err (Error fault))) source r h = (λ asks. reader_reported source r (h.0 asks), h.1)
-held_reported (Some (Err Continue)) source r h = h
-held_reported _ source r h = reader_reported source r h
-
-stands_reported : (m : kept.Expander) (source : Source) (e : Expander SourceReader) → StandsFor m source e
+stands_reported : (m : kept.Expander) (source : Source) (e : Expander Onward) → StandsFor m source e
     → StandsFor m (record source { error_place = None }) e
-stands_reported m source e s = record { held = s.held; list = s.list; reader = held_reported m.held source e.reader s.reader; hidden = s.hidden }
+stands_reported m source e s =
+    record { held = s.held; list = s.list; reader = reader_reported source e.reader s.reader; hidden = s.hidden; goes = s.goes }
 
 -- a state from which the same comes next as from the first, by these rules
 pub record Reached (rules : Rules) (expander : kept.Expander) (source : Source) (expander_now : kept.Expander) (source_now : Source) : Type 0 where
@@ -197,7 +192,7 @@ module _ {rules : Rules} (expander now after : kept.Expander) (source source_now
   -- the answers from a state that isn't spent
   module _ (old : Preprocessing) (fresh : old.spent ≡ false) (starts : old.expander ≡ expander) (begins : old.source ≡ source)
       (ruled : rules ≡ old.rules) where
-    stands_first : (e : Expander SourceReader) → Stands old e → StandsFor expander source e
+    stands_first : (e : Expander Onward) → Stands old e → StandsFor expander source e
     unfolding Stands
     stands_first e stands = subst (λ (s : Source). StandsFor expander s e) begins (subst (λ (m : kept.Expander). StandsFor m old.source e) starts stands)
 
@@ -384,8 +379,7 @@ module _ {rules : Rules} (expander now after : kept.Expander) (source source_now
                   text = ap (λ (o : LastItem). o.text) of;
                   call = rw of (found_call (outermost_frame_call after.frames) (kept_call after.held call after.frames)
                       (free_call after.held call after.frames (errors_last (Err (Error fault)) turn reported).0) ∙ sym leads.2);
-                  goes_on = goes_on_asked fault last.asks (kept_with reported_source false place last call) leads.0 (asked_kept of)
-                      (λ asks. rw is (stands_reported after source_after leads.0 (leads.3 asks)));
+                  goes_on = rw is (stands_reported after source_after leads.0 leads.3);
                 };
             no_refusal = reported;
             asks = asks_item old.rules fault last.asks (asked_kept of) (rightly turn reported);

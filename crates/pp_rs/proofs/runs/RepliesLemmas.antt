@@ -1,5 +1,5 @@
 -- The replies to a list of calls, one after another.
-use Rattle.std.proofs.Common.{◌≡◌, ◌∙◌, ◌<◌, ◌+◌, ℕ, length, take, drop, get_or, append_assoc, true, false, List, [], ◌∷◌, ◌++◌, map, refl, ap, sym, subst, Ok, Err, Option, Some, None, inl, inr}
+use Rattle.std.proofs.Common.{◌≡◌, ◌∙◌, ◌<◌, ◌+◌, ℕ, length, take, drop, get_or, append_assoc, append-nil, true, false, List, [], ◌∷◌, ◌++◌, map, refl, ap, sym, subst, Ok, Err, Option, Some, None, inl, inr}
 use Rattle.std.specs.Str.{chars}
 use Rattle.std.proofs.lemmas.List.{take_more, take-append-drop, map-append}
 use Rattle.pp_lexer.specs.declared.rules.Rules.{Rules}
@@ -7,31 +7,47 @@ use Rattle.pp_lexer.specs.PreprocessorError.{out_of_memory}
 use Rattle.pp_lexer.specs.declared.token.Location.{Location}
 use Rattle.pp_lexer.specs.declared.token.Token.{Token}
 use Rattle.pp_model.specs.Places.{Fault}
-use Rattle.pp_model.specs.Run.{Call, call_of, add_define, include, next, items_by, with_added, with_included, ends_run}
-use Rattle.pp_model.specs.RunChains.{AnswersIn, adds, refuses, includes, refuses_text, gives, Chain, none, one_more}
+use Rattle.pp_model.specs.Run.{Call, call_of, add_define, include, next, items_by}
+use Rattle.pp_model.specs.RunToEnd as to_end
 use Rattle.pp_model.specs.declared.call.Call.{Call as Called}
 use Rattle.pp_model.specs.declared.call.Reply.{Reply}
 use Rattle.pp_model.specs.declared.call.Reply.TheVariants as reply
 use Rattle.pp_model.specs.declared.outcome.Outcome.TheVariants as outcome
-use Rattle.pp_model.proofs.runs.RunChainLemmas.{chain_runs, chain_runs_to_error}
+use Rattle.pp_model.specs.declared.outcome.Outcome.{Outcome}
 use Rattle.pp_rs.specs.Adding.{IsAdded, refused, faulty, added}
-use Rattle.pp_rs.specs.inner.Answering.{IsAnswered, AreReplies, goes_on, ends}
-use Rattle.pp_rs.specs.Comes.{State, Comes}
-use Rattle.pp_macros.specs.Item.{is_out_of_memory}
+use Rattle.pp_rs.specs.inner.Answering.{RunFrom, IsAnswered, AreReplies}
+use Rattle.pp_rs.specs.Comes.{State, with_added, with_included, Comes}
+use Rattle.pp_macros.specs.Item.{Item, is_out_of_memory}
 use Rattle.pp_rs.specs.Including.{IsIncluded, too_deep, included}
 use Rattle.pp_rs.specs.Including as including
 use Rattle.pp_rs.specs.Kept.{Preprocessing, Stands, is_spent, asked_line, rules_of}
-use Rattle.pp_rs.specs.Preprocessing.{GoesOn, IsNextItem, outcome_of}
+use Rattle.pp_rs.specs.Preprocessing.{IsNextItem, IsGivenItem, outcome_of}
 use Rattle.pp_rs.specs.declared.pp.including.IncludeError.TheVariants.{TooDeep}
+use Rattle.pp_rs.proofs.runs.ComesLemmas.{given_run}
 
 module _ (old new : Preprocessing) (ready : is_spent old ≡ false) where
   -- a definition that was added
   pub added_answered : (name content : List ℕ) → IsAdded old name content (Ok tt) new → IsAnswered old (add_define name content) reply.Added new
   added_answered name content (refused given same) = cc
   added_answered name content (faulty fault has given same) = cc
-  added_answered name content (added tokens has given h) =
-      goes_on refl (h.spent ∙ ready) h.rules (λ state stands. let after = with_added (chars name) tokens state in
-      (after, adds name content tokens _ _ state after has refl refl refl, h.stands state stands))
+  added_answered name content (added tokens has given h) = record {
+    unspent = h.spent ∙ ready;
+    rules = h.rules;
+    leads = λ state stands.
+        let after : State = with_added (chars name) tokens state in
+        (after, h.stands state stands, λ calls rest run. to_end.added name content tokens state calls rest _ has run refl);
+  }
+
+  -- nothing changed
+  stays_answered : (call : Call) (answer : Reply) → new ≡ old
+      → ((state : State) (calls : List Call) (rest : List Reply) → RunFrom (rules_of old) state calls rest
+      → RunFrom (rules_of old) state (call ∷ calls) (answer ∷ rest))
+      → IsAnswered old call answer new
+  stays_answered call answer same more = record {
+    unspent = ap is_spent same ∙ ready;
+    rules = ap rules_of same;
+    leads = λ state stands. (state, subst (λ (p : Preprocessing). Stands p state) (sym same) stands, more state);
+  }
 
   -- one that was refused, for another reason than a refusal of memory
   pub refused_answered : (name content : List ℕ) (fault : Fault) → is_out_of_memory fault.0 ≡ false → IsAdded old name content (Err fault) new
@@ -42,36 +58,36 @@ module _ (old new : Preprocessing) (ready : is_spent old ≡ false) where
       cc
   refused_answered name content fault reported (faulty other has given same) =
       let this : other ≡ fault = cc in
-      goes_on refl (ap is_spent same ∙ ready) (ap rules_of same) (λ state stands. (
-        state,
-        refuses name content fault _ _ state state (rw this at has) refl refl refl,
-        subst (λ (p : Preprocessing). Stands p state) (sym same) stands,
-      ))
+      stays_answered (add_define name content) (reply.Refused fault) same
+      (λ state calls rest run. to_end.refused name content fault state calls rest _ (rw this at has) run refl)
   refused_answered name content fault reported (added tokens has given h) = cc
 
   -- an item that was given
+  given_answered : (answer : Option Item) (o : Outcome) → outcome_of answer (asked_line new) ≡ o → IsGivenItem old answer new → rules_of new ≡ rules_of old
+      → IsAnswered old next (reply.Given o) new
+  given_answered answer o is given same = record {
+    unspent = given.spent;
+    rules = same;
+    leads = λ state stands.
+        let item = given.item state stands in (
+          item.after,
+          item.goes_on,
+          λ calls rest run. given_run (rules_of old) o state item.after calls rest
+              (subst (λ (x : Outcome). Comes state x item.after) is item.emits) run,
+        );
+  }
+
   pub token_answered : (token : Token) → IsNextItem old (Some (Ok token)) new → IsAnswered old next (reply.Given (outcome.Token token)) new
   token_answered token h = elim (rw ready at h.gives) [
     | inl wants ↦ let e = wants.item in cc
-    | inr given ↦ goes_on refl given.spent h.rules (λ state stands. let item = given.item state stands in
-        (item.after, gives (outcome.Token token) _ _ state item.after item.emits refl refl refl, item.goes_on))
+    | inr given ↦ given_answered (Some (Ok token)) (outcome.Token token) refl given h.rules
   ]
 
   pub end_answered : IsNextItem old None new → IsAnswered old next (reply.Given outcome.End) new
   end_answered h = elim (rw ready at h.gives) [
     | inl wants ↦ let e = wants.item in cc
-    | inr given ↦ goes_on refl given.spent h.rules (λ state stands. let item = given.item state stands in
-        (item.after, gives outcome.End _ _ state item.after item.emits refl refl refl, item.goes_on))
+    | inr given ↦ given_answered None outcome.End refl given h.rules
   ]
-
-  -- an error ends the run; an `#include` line that asks for its text doesn't
-  error_answered : (fault : Fault) (asked : Option Location) → is_spent new ≡ false → rules_of new ≡ rules_of old
-      → ((state : State) → Stands old state
-      → (after : State) × Comes state (outcome_of (Some (Err fault)) asked) after × GoesOn (Some (Err fault)) asked new after)
-      → IsAnswered old next (reply.Given (outcome_of (Some (Err fault)) asked)) new
-  error_answered fault None unspent same leads = ends fault refl refl (λ state stands. let item = leads state stands in (item.0, item.1))
-  error_answered fault (Some rest) unspent same leads = goes_on refl unspent same (λ state stands. let item = leads state stands in
-      (item.0, gives (outcome_of (Some (Err fault)) (Some rest)) _ _ state item.0 item.1 refl refl refl, item.2))
 
   pub fault_answered : (fault : Fault) (asked : Option Location) → is_out_of_memory fault.0 ≡ false → asked ≡ asked_line new
       → IsNextItem old (Some (Err fault)) new → IsAnswered old next (reply.Given (outcome_of (Some (Err fault)) asked)) new
@@ -81,27 +97,34 @@ module _ (old new : Preprocessing) (ready : is_spent old ≡ false) where
         let wanted : fault ≡ out_of_memory = cc in
         let bad : true ≡ false = sym (ap (λ (f : Fault). is_out_of_memory f.0) wanted) ∙ reported in
         cc)
-    | inr given ↦ rw is (error_answered fault (asked_line new) given.spent h.rules (λ state stands. let item = given.item state stands in
-        (item.after, item.emits, item.goes_on)))
+    | inr given ↦ given_answered (Some (Err fault)) (outcome_of (Some (Err fault)) asked)
+        (ap (outcome_of (Some (Err fault))) (sym is)) given h.rules
   ]
 
   -- a text that was included
   pub text_answered : (text : List ℕ) → IsIncluded old text (Ok tt) new → IsAnswered old (include text) reply.Included new
   text_answered text (including.refused given same) = cc
   text_answered text (too_deep full given same) = cc
-  text_answered text (included given h) =
-      goes_on refl (h.spent ∙ ready) h.rules (λ state stands. let after = with_included (items_by (rules_of old) text) state in
-      (after, includes text _ _ state after (h.room state stands) refl refl refl, h.stands state stands))
+  text_answered text (included given h) = record {
+    unspent = h.spent ∙ ready;
+    rules = h.rules;
+    leads = λ state stands.
+        let after : State = with_included (items_by (rules_of old) text) state in
+        (after, h.stands state stands, λ calls rest run. to_end.included text state calls rest _ (h.room state stands) run refl);
+  }
 
   -- one that would be inside too many others
   pub deep_answered : (text : List ℕ) → IsIncluded old text (Err TooDeep) new → IsAnswered old (include text) reply.TooDeep new
   deep_answered text (including.refused given same) = cc
-  deep_answered text (too_deep full given same) =
-      goes_on refl (ap is_spent same ∙ ready) (ap rules_of same) (λ state stands. (
-        state,
-        refuses_text text _ _ state state (full state stands) refl refl refl,
-        subst (λ (p : Preprocessing). Stands p state) (sym same) stands,
-      ))
+  deep_answered text (too_deep full given same) = record {
+    unspent = ap is_spent same ∙ ready;
+    rules = ap rules_of same;
+    leads = λ state stands. (
+      state,
+      subst (λ (p : Preprocessing). Stands p state) (sym same) stands,
+      λ calls rest run. to_end.too_deep text state calls rest _ (full state stands) run refl,
+    );
+  }
   deep_answered text (included given h) = cc
 
 -- the calls up to one and with it
@@ -121,47 +144,43 @@ calls_cut calls i other within =
 pub record Replied (old : Preprocessing) (calls : List Call) (replies : List Reply) (now : Preprocessing) : Type 0 where
   pub unspent : is_spent now ≡ false
   pub rules : rules_of now ≡ rules_of old
-  pub leads : (state : State) → Stands old state → (after : State) × Chain Comes (rules_of old) state calls replies after × Stands now after
+  pub leads : (state : State) → Stands old state
+      → (after : State) × Stands now after
+      × ((later : List Call) (rest : List Reply) → RunFrom (rules_of old) after later rest
+      → RunFrom (rules_of old) state (calls ++ later) (replies ++ rest))
 
 -- none before the first
 pub replied_none : (old : Preprocessing) (replies : List Reply) → is_spent old ≡ false → replies ≡ [] → Replied old [] replies old
-replied_none old replies unspent is = record {
+replied_none old replies unspent is = rw is (record {
   unspent = unspent;
   rules = refl;
-  leads = λ state stands. (state, none _ _ [] replies refl is refl, stands);
-}
+  leads = λ state stands. (state, stands, λ later rest run. run);
+})
 
-module _ (old : Preprocessing) (before : List Call) (call : Call) (given : List Reply)
-    (answer : Reply) (now new : Preprocessing) (r : Replied old before given now) where
-  -- one more
-  pub replied_more : (calls : List Call) (replies : List Reply) → IsAnswered now call answer new → ends_run answer ≡ false
-      → calls ≡ before ++ call ∷ [] → replies ≡ given ++ answer ∷ [] → Replied old calls replies new
-  replied_more calls replies (goes_on last unspent same leads) on cut is = record {
-    unspent = unspent;
-    rules = same ∙ r.rules;
-    leads = λ state stands.
-        let now = r.leads state stands in
-        let one = leads now.0 now.2 in (
-          one.0,
-          one_more state now.0 one.0 before calls call given replies answer now.1
-              (subst (λ (rules : Rules). AnswersIn Comes rules now.0 call answer one.0) r.rules one.1) cut is,
-          one.2,
-        );
-  }
-  replied_more calls replies (ends fault answers calls_next leads) on cut is = let bad : true ≡ false = sym (ap ends_run answers) ∙ on in cc
-
-  -- an error item, whatever calls are left
-  pub replied_last : (calls later : List Call) (replies : List Reply) → IsAnswered now call answer new → ends_run answer ≡ true
-      → calls ≡ before ++ call ∷ later → replies ≡ given ++ answer ∷ [] → AreReplies old calls replies
-  replied_last calls later replies (goes_on last unspent same leads) over cut is = let bad : false ≡ true = sym last ∙ over in cc
-  replied_last calls later replies (ends fault answers calls_next leads) over cut is = λ state stands.
-      let now = r.leads state stands in
-      let one = leads now.0 now.2 in
-      rw (cut, is, answers, calls_next) (chain_runs_to_error Comes (rules_of old) state now.0 one.0 before later given fault now.1 one.1)
+-- one more
+pub replied_more : (old : Preprocessing) (before : List Call) (call : Call) (given : List Reply) (answer : Reply) (now new : Preprocessing)
+    → Replied old before given now → (calls : List Call) (replies : List Reply) → IsAnswered now call answer new
+    → calls ≡ before ++ call ∷ [] → replies ≡ given ++ answer ∷ [] → Replied old calls replies new
+replied_more old before call given answer now new r calls replies h cut is = rw (cut, is) (record {
+  unspent = h.unspent;
+  rules = h.rules ∙ r.rules;
+  leads = λ state stands.
+      let first = r.leads state stands in
+      let one = h.leads first.0 first.1 in (
+        one.0,
+        one.1,
+        λ later rest run. subst (λ (cs : List Call). RunFrom (rules_of old) state cs ((given ++ answer ∷ []) ++ rest))
+            (sym (append_assoc before (call ∷ []) later))
+            (subst (λ (rs : List Reply). RunFrom (rules_of old) state (before ++ call ∷ later) rs) (sym (append_assoc given (answer ∷ []) rest))
+            (first.2 (call ∷ later) (answer ∷ rest) (subst (λ (rules : Rules). RunFrom rules first.0 (call ∷ later) (answer ∷ rest)) r.rules
+            (one.2 later rest (subst (λ (rules : Rules). RunFrom rules one.0 later rest) (sym r.rules) run))))),
+      );
+})
 
 -- all of them
 pub replied_all : (old : Preprocessing) (calls same : List Call) (replies : List Reply) (now : Preprocessing) → Replied old same replies now
     → calls ≡ same → AreReplies old calls replies
 replied_all old calls same replies now r e = λ state stands.
-    let now = r.leads state stands in
-    rw e (chain_runs Comes (rules_of old) state now.0 same replies now.1)
+    let all = r.leads state stands in
+    rw e (subst (λ (cs : List Call). RunFrom (rules_of old) state cs replies) (append-nil same)
+    (subst (λ (rs : List Reply). RunFrom (rules_of old) state (same ++ []) rs) (append-nil replies) (all.2 [] [] (to_end.done all.0 [] refl))))

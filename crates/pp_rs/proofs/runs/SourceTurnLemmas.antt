@@ -1,14 +1,13 @@
 -- A turn over a source, after which a call is finished: what holds after it, how much is left, and what it means for
 -- the definitions' expander.
-use Rattle.std.proofs.Common.{◌≡◌, ◌∙◌, ◌⊎◌, inl, inr, ℕ, zero, suc, ◌-◌, ◌<◌, ◌≤◌, true, false, List, [], ◌∷◌, ◌++◌, length, refl, ap, sym, subst, arith, Option, Some, None, Ok, Err, All}
-use Rattle.std.specs.Prelude.{IsSome}
+use Rattle.std.proofs.Common.{◌≡◌, ◌∙◌, ◌⊎◌, inl, inr, ℕ, zero, suc, ◌-◌, ◌<◌, ◌≤◌, true, false, List, [], ◌∷◌, ◌++◌, length, refl, ap, sym, subst, arith, Option, None, Ok, Err, All}
 use Rattle.pp_lexer.specs.declared.rules.Rules.{Rules}
 use Rattle.pp_model.specs.Calls.{Site, site_of}
 use Rattle.pp_model.specs.Emitting.{answers_at}
 use Rattle.pp_model.proofs.calls.LevelLemmas.{none_at_limit}
 use Rattle.pp_model.specs.Names.{Name}
 use Rattle.pp_model.specs.Reading.{Expander, masked_names}
-use Rattle.pp_model.specs.SourceReader.{SourceReader}
+use Rattle.pp_model.specs.Onward.{Onward}
 use Rattle.pp_model.specs.SpliceList.{open_names, macro_before, outermost_call}
 use Rattle.pp_model.specs.declared.read.Read.{Read}
 use Rattle.pp_model.specs.declared.splice.Entry.{Entry}
@@ -26,7 +25,7 @@ use Rattle.pp_macros.specs.inner.Reader.{of_source}
 use Rattle.pp_rs.specs.Comes.{source_rules}
 use Rattle.pp_macros.specs.inner.Source.{Source}
 use Rattle.pp_rs.specs.inner.SourceTurns.{FollowsCall, opened, refused, FollowsTurn, TurnsSource, StepsOver}
-use Rattle.pp_rs.specs.inner.Stands.{StandsForReader, StandsForHeld, StandsFor}
+use Rattle.pp_rs.specs.inner.Stands.{StandsForReader, StandsFor}
 use Rattle.pp_macros.specs.declared.calls.Taken.{Taken}
 use Rattle.pp_macros.specs.declared.calls.Taken.TheVariants as taken
 use Rattle.pp_macros.specs.declared.halt.PlacedHalt.{PlacedHalt}
@@ -41,8 +40,9 @@ use Rattle.pp_macros.proofs.open_frames.ReportedLemmas.{wants_taken}
 use Rattle.pp_macros.proofs.work.ReachLemmas.{frame_steps_level}
 use Rattle.pp_rs.proofs.runs.AsksLemmas.{turn_asks}
 use Rattle.pp_rs.proofs.runs.ReadyLemmas.{turn_ready, turn_last, turn_end, turn_some}
-use Rattle.pp_macros.proofs.taking.SearchSimulates.{StandsIn, StandsHeld}
-use Rattle.pp_rs.proofs.runs.SourceLeadsLemmas.{IsSource, KeepsDepth, sources_simulate, source_shows, source_hides, source_keeps, source_sees, source_leads}
+use Rattle.pp_macros.proofs.taking.SearchSimulates.{StandsIn}
+use Rattle.pp_rs.proofs.source.EndSimulates.{remembers}
+use Rattle.pp_rs.proofs.runs.SourceLeadsLemmas.{IsSource, sources_simulate, source_shows, source_hides, source_sees, source_leads}
 use Rattle.pp_macros.proofs.work.SpendLemmas.{Falls, no_more_falls, one_more_falls}
 use Rattle.pp_model.specs.Emitting.{Emits}
 use Rattle.pp_model.specs.Places.{PlacedFault, fault_in}
@@ -197,52 +197,41 @@ module _ (levels : ℕ) (m : kept.Expander) (old new : Source) (fit : IsFit m ol
           exit_same exit e = cc
 
 -- the states that are stood for, as the lemmas on all readers say it
-held_in : (o : Option (PlacedStep Read)) (source : Source) (x : SourceReader) → StandsForHeld o source x → StandsHeld source_rules IsSource KeepsDepth [] o (of_source source) x
-held_in (Some (Err (Error fault))) source x h = h
-held_in _ source x h = h
+stands_in : (m : kept.Expander) (source : Source) (e : Expander Onward) → StandsFor m source e → StandsIn source_rules IsSource [] m (of_source source) e
+stands_in m source e h = record { holds = h.held; list = h.list; reader = h.reader; names = h.hidden; goes = h.goes }
 
-held_for : (o : Option (PlacedStep Read)) (source : Source) (x : SourceReader) → StandsHeld source_rules IsSource KeepsDepth [] o (of_source source) x
-    → StandsForHeld o source x
-held_for (Some (Err (Error fault))) source x h = h
-held_for _ source x h = h
-
-stands_in : (m : kept.Expander) (source : Source) (e : Expander SourceReader) → StandsFor m source e → StandsIn source_rules IsSource KeepsDepth [] m (of_source source) e
-stands_in m source e h = record { holds = h.held; list = h.list; reader = held_in m.held source e.reader h.reader; names = h.hidden }
-
-stands_for : (m : kept.Expander) (source : Source) (e : Expander SourceReader) → StandsIn source_rules IsSource KeepsDepth [] m (of_source source) e → StandsFor m source e
-stands_for m source e h = record { held = h.holds; list = h.list; reader = held_for m.held source e.reader h.reader; hidden = h.names }
+stands_for : (m : kept.Expander) (source : Source) (e : Expander Onward) → StandsIn source_rules IsSource [] m (of_source source) e → StandsFor m source e
+stands_for m source e h = record { held = h.holds; list = h.list; reader = h.reader; hidden = h.names; goes = h.goes }
 
 -- where a call stands
-site_same : (c : MacroCall) (n : kept.Expander) (source : Source) (f : Expander SourceReader) → StandsIn source_rules IsSource KeepsDepth [] n (of_source source) f
-    → n.held ≡ None → site_of source_rules f c.paren c.tokens ≡ site_at c (list_numbering source.rules source.line_offset) source.definitions (names_of n.frames ++ [])
-site_same c n source f stands free =
-    let reader : StandsForReader source f.reader = subst (λ (o : Option (PlacedStep Read)). StandsHeld source_rules IsSource KeepsDepth [] o
-    (of_source source) f.reader) free stands.reader in
+site_same : (c : MacroCall) (n : kept.Expander) (source : Source) (f : Expander Onward) → StandsIn source_rules IsSource [] n (of_source source) f
+    → site_of source_rules f c.paren c.tokens ≡ site_at c (list_numbering source.rules source.line_offset) source.definitions (names_of n.frames ++ [])
+site_same c n source f stands =
+    let reader : StandsForReader source f.reader.reader = stands.reader.reader in
     let around : masked_names f ≡ names_of n.frames ++ [] =
     ap (λ (es : List Entry). open_names es ++ f.hidden) stands.list ∙ ap (λ (hs : List Name). open_names (flat n.frames) ++ hs) stands.names
     ∙ ap (λ (ns : List Name). ns ++ []) (open_flat n.frames) in
-    let offset : f.reader.line_offset ≡ source.line_offset = reader.here.line_offset in
-    rw (reader.definitions, reader.rules, offset, around) refl
+    rw (reader.definitions, reader.rules, (remembers reader.here).line_offset, around) refl
 
-module _ (levels : ℕ) (m : kept.Expander) (old new : Source) (fit : IsFit m old) (e : Expander SourceReader) (stands : StandsFor m old e) where
+module _ (levels : ℕ) (m : kept.Expander) (old new : Source) (fit : IsFit m old) (e : Expander Onward) (stands : StandsFor m old e) where
   abbrev LeadsBy : PlacedStep Taken → kept.Expander → Type 0
-  LeadsBy t n = LeadsTo source_rules IsSource KeepsDepth [] sources_simulate source_shows source_hides source_keeps source_sees (answers_at levels) t e n (of_source new)
+  LeadsBy t n = LeadsTo source_rules IsSource [] sources_simulate source_shows source_hides source_sees (answers_at levels) t e n (of_source new)
 
-  -- a fault is in the call of the outermost frame; if it asks for a text, the expander stands after it
-  fault_found : (fault : PlacedFault) (f : Expander SourceReader) (n : kept.Expander) → outermost_call f.list ≡ outermost_frame_call n.frames
+  -- a fault is in the call of the outermost frame
+  fault_found : (fault : PlacedFault) (f : Expander Onward) (n : kept.Expander) → outermost_call f.list ≡ outermost_frame_call n.frames
       → (emits : Emits source_rules (answers_at levels) e (given.Fault (fault_in (outermost_call f.list) fault)) f)
-      → item_call emits ≡ (fault_in (outermost_call f.list) fault).1.call → (IsSome fault.1.asks → StandsFor n new f)
+      → item_call emits ≡ (fault_in (outermost_call f.list) fault).1.call → StandsFor n new f
       → LeadsFrom (answers_at levels) e (Err (Error fault)) (outermost_frame_call m.frames) n new
-  fault_found fault f n same emits call asked =
+  fault_found fault f n same emits call stood =
       let Found : Option CallPlace → Type 0 = λ k. (emits : Emits source_rules (answers_at levels) e (given.Fault (fault_in k fault)) f)
       × (item_call emits ≡ (fault_in k fault).1.call) in
       let found : Found (outermost_frame_call n.frames) = subst Found same (emits, call) in
-      (f, found.0, found.1, asked)
+      (f, found.0, found.1, stood)
 
-  call_leads : (c : MacroCall) (n p : kept.Expander) (step : PlacedStep Read) → n.held ≡ None → LeadsBy (Ok (taken.Call c)) n
+  call_leads : (c : MacroCall) (n p : kept.Expander) (step : PlacedStep Read) → LeadsBy (Ok (taken.Call c)) n
       → FollowsCall levels new c n step p → LeadsFrom (answers_at levels) e step (outermost_frame_call m.frames) p new
-  call_leads c n p step free led (opened is o) =
-      let f : Expander SourceReader = record led.0 { list = macro_before c.opened.name c.opened.definition c.call o.arguments led.0.list } in
+  call_leads c n p step led (opened is o) =
+      let f : Expander Onward = record led.0 { list = macro_before c.opened.name c.opened.definition c.call o.arguments led.0.list } in
       let k = led.1 in
       rw is (
         f,
@@ -250,15 +239,16 @@ module _ (levels : ℕ) (m : kept.Expander) (old new : Source) (fit : IsFit m ol
             (record {
               held = k.holds;
               list = ap (macro_before c.opened.name c.opened.definition c.call o.arguments) k.list;
-              reader = held_for n.held new led.0.reader k.reader;
+              reader = k.reader;
               hidden = k.names;
+              goes = k.goes;
             }),
-        led.3 o.arguments (subst (λ (x : Site). answers_at levels c.opened.definition x (Ok o.arguments)) (sym (site_same c n new led.0 k free)) o.answers),
+        led.3 o.arguments (subst (λ (x : Site). answers_at levels c.opened.definition x (Ok o.arguments)) (sym (site_same c n new led.0 k)) o.answers),
       )
-  call_leads c n p step free led (refused fault is answers same) =
-      let emitted = led.2 fault (subst (λ (x : Site). answers_at levels c.opened.definition x (Err fault)) (sym (site_same c n new led.0 led.1 free)) answers) in
+  call_leads c n p step led (refused fault is answers same) =
+      let emitted = led.2 fault (subst (λ (x : Site). answers_at levels c.opened.definition x (Err fault)) (sym (site_same c n new led.0 led.1)) answers) in
       rw (is, same) (fault_found fault led.0 n (ap outermost_call led.1.list ∙ outermost_flat n.frames) emitted.0 emitted.1
-      (λ asks. stands_for n new led.0 led.1))
+      (stands_for n new led.0 led.1))
 
   follows_lead : (step : PlacedStep Read) (n p : kept.Expander) (t : PlacedStep Taken) → TurnsTo m (of_source old) t n (of_source new) → LeadsBy t n
       → FollowsTurn levels new t n step p → LeadsFrom (answers_at levels) e step (outermost_frame_call m.frames) p new
@@ -270,9 +260,7 @@ module _ (levels : ℕ) (m : kept.Expander) (old new : Source) (fit : IsFit m ol
         calls_same n.held e.list led.0.list m.frames n.frames stands.list led.2.list ∙ sym led.3,
       )
   follows_lead step n p (Ok (taken.Call c)) turns led follows =
-      let pend : IsPending levels m (of_source old) c n (of_source new) =
-      turn_falls levels m (of_source old) fit.sound (Ok (taken.Call c)) n (of_source new) turns refl in
-      call_leads c n p step pend.free led follows
+      call_leads c n p step led follows
   follows_lead step n p (Err Continue) turns led follows = rw (follows.0, follows.1) (led.0, stands_for n new led.0 led.1, led.2)
   follows_lead step n p (Err Finished) turns led follows =
       rw (follows.0, follows.1) (
@@ -282,8 +270,8 @@ module _ (levels : ℕ) (m : kept.Expander) (old new : Source) (fit : IsFit m ol
         free_call_same n.held (outermost_frame_call m.frames) n.frames led.3 led.0.list led.2.list ∙ sym led.4,
       )
   follows_lead step n p (Err (Error fault)) turns led follows =
-      rw (follows.0, follows.1) (fault_found fault led.0 n (ap outermost_call led.2 ∙ outermost_flat n.frames) led.1 led.4
-      (λ asks. stands_for n new led.0 (led.5 asks)))
+      rw (follows.0, follows.1) (fault_found fault led.0 n (ap outermost_call led.2.list ∙ outermost_flat n.frames) led.1 led.3
+      (stands_for n new led.0 led.2))
 
 -- One turn: a token, a fault or the end is the next item, and a pause keeps it.
 pub source_turn_leads : (levels : ℕ) (m n : kept.Expander) (old new : Source) (step : PlacedStep Read) → IsFit m old → TurnsSource levels m old step n new

@@ -7,10 +7,13 @@ use Rattle.pp_lexer.specs.Items.{places_by}
 use Rattle.pp_lexer.specs.Spots.{spots_of}
 use Rattle.pp_lexer.specs.declared.rules.Rules.{Rules}
 use Rattle.pp_model.specs.Places.{source_text}
-use Rattle.pp_model.specs.Run.{items_by, start_by as run_start}
+use Rattle.pp_model.specs.Run.{items_by}
+use Rattle.pp_rs.specs.Comes.{start_by as run_start}
 use Rattle.pp_rs.specs.Kept.{Preprocessing, Stands, errors_left, from_text}
+use Rattle.pp_rs.specs.inner.Stands.{reading}
 use Rattle.pp_macros.specs.LexerErrors.{lexer_errors_by}
 use Rattle.pp_directives.proofs.EndedLemmas.{start_ended}
+use Rattle.pp_directives.proofs.ErrorsShownLemmas.{start_shown}
 use Rattle.pp_directives.proofs.LinedLemmas.{items_lined}
 
 -- what it keeps
@@ -49,31 +52,38 @@ start_stands rules text = record {
   held = refl;
   list = refl;
   reader = record {
-    rules = refl;
-    here = record {
-      text = refl;
-      rest = refl;
-      within = omega arith;
-      line_offset = refl;
-      lined = items_lined rules text;
-      ended = start_ended rules (spots_of text);
-      lines = λ after. refl;
-      blocks = tt;
-      truths = tt;
-      unfinished = refl;
-      not_dead = refl;
-      remembers_text = refl;
-      remembers_directive = refl;
-      directives = λ after. refl;
-      off_line = λ live left. refl;
+    reader = record {
+      rules = refl;
+      here = reading _ _ (record {
+        text = refl;
+        rest = refl;
+        within = omega arith;
+        line_offset = refl;
+        lined = items_lined rules text;
+        ended = start_ended rules (spots_of text);
+        shown = start_shown rules (spots_of text);
+        lines = λ after. refl;
+        blocks = record { dead = []; own = []; split = refl; count = refl; not_live = λ some. absurd (some refl); stand = tt };
+        truths = tt;
+        unfinished = refl;
+        remembers_text = refl;
+        remembers_directive = refl;
+        directives = λ after. refl;
+        off_line = λ live left. refl;
+      });
+      around = tt;
+      earlier = refl;
+      definitions = refl;
+      contents = refl;
+      unspent = refl;
     };
-    around = tt;
-    earlier = refl;
-    definitions = refl;
-    contents = refl;
-    unspent = refl;
+    dead = (refl, tt);
+    numbered = tt;
+    read = omega arith;
+    known = tt;
   };
   hidden = refl;
+  goes = λ is. cc;
 }
 
 -- all errors of its text are still to be reported

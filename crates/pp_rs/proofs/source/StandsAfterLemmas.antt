@@ -1,59 +1,32 @@
 -- The reader that a source stands for: whether its text is live, its innermost block, and its position some items
 -- further on.
-use Rattle.std.proofs.Common.{◌≡◌, ◌∙◌, ℕ, ℤ, ◌+◌, ◌≤◌, List, [], ◌∷◌, ◌++◌, length, take, drop, refl, ap, sym, subst, Option, Some, None, arith, append-nil, length-drop}
+use Rattle.std.proofs.Common.{◌≡◌, ◌∙◌, ℕ, Bool, ℤ, ◌+◌, ◌≤◌, List, [], ◌++◌, length, take, drop, ap, sym, subst, arith, append-nil, length-drop}
 use Rattle.std.proofs.lemmas.List.{drop-drop}
 use Rattle.pp_lexer.specs.Lexed.{Seen}
 use Rattle.pp_model.specs.Definitions.{Definitions}
-use Rattle.pp_model.specs.Blocks.{Truths, open_blocks, block_lines, blocks_at, innermost, is_live}
+use Rattle.pp_model.specs.Blocks.{Truths, open_blocks, block_lines, blocks_at, is_live}
 use Rattle.pp_model.specs.SourceReader.{SourceReader, suspended_of}
 use Rattle.pp_model.specs.inner.Acts.{after_word}
 use Rattle.pp_model.specs.declared.block.BlockLine.{BlockLine}
 use Rattle.pp_macros.specs.inner.Defined.{Defined, meaning_of}
 use Rattle.pp_directives.specs.inner.Lined.{AreLined, AreEnded}
-use Rattle.pp_macros.specs.inner.OpenBlocks.{last_block, outer_blocks, is_live_in, StandForBlocks, AreBefore}
+use Rattle.pp_macros.specs.inner.OpenBlocks.{is_live_among, AreBefore}
 use Rattle.pp_macros.specs.declared.blocks.OpenBlock.{OpenBlock}
 use Rattle.pp_directives.specs.inner.Suspending.{suspended}
 use Rattle.pp_macros.specs.inner.Source.{SuspendedText, Source, IsAfter}
 use Rattle.pp_macros.specs.inner.SourceMoves.{Note}
-use Rattle.pp_rs.specs.inner.Stands.{StandsForText, StandForTexts, StandsForReader}
-use Rattle.pp_rs.proofs.blocks.BlockStackLemmas.{Innermost, innermost_last, stands_innermost, none_stand, live_outside, live_inside}
-use Rattle.pp_rs.proofs.blocks.LastLemmas.{last_split}
+use Rattle.pp_rs.specs.inner.Stands.{StandsForText, StandForTexts, StandsReading}
+use Rattle.pp_rs.specs.inner.StandsPast.{dead_count, StandPast}
+use Rattle.pp_rs.proofs.source.FaultLengthLemmas.{live_kept}
 use Rattle.pp_directives.proofs.EndedLemmas.{ended_further}
 use Rattle.pp_directives.proofs.LinedLemmas.{lined_after}
-use Rattle.pp_directives.proofs.TextEndLemmas.{no_blocks}
 use Rattle.pp_rs.proofs.blocks.LinesBeforeLemmas.{AreLinesBefore, AddsLines, lines_here, lines_further}
 use Rattle.pp_rs.proofs.blocks.RememberedLemmas.{IsRemembered}
 
-module _ (old : Source) (r : SourceReader) (s : StandsForReader old r) where
-  stand_as : (kept : List OpenBlock) → old.blocks ≡ kept → StandForBlocks r.items r.truths kept (blocks_at r.items r.position)
-  stand_as kept e = subst (λ (bs : List OpenBlock). StandForBlocks r.items r.truths bs (blocks_at r.items r.position)) e s.here.blocks
-
-  -- the outer blocks of the source and its last one stand for those of the reader
-  pub split_here : (kept : OpenBlock) → last_block old.blocks ≡ Some kept
-      → StandForBlocks r.items r.truths (outer_blocks old.blocks ++ kept ∷ []) (blocks_at r.items r.position)
-  split_here kept e = stand_as (outer_blocks old.blocks ++ kept ∷ []) (last_split old.blocks kept e)
-
-  -- the innermost block of the source, where one is kept
-  pub block_here : (kept : OpenBlock) → last_block old.blocks ≡ Some kept
-      → Innermost r.items r.truths (outer_blocks old.blocks) kept (blocks_at r.items r.position)
-  block_here kept e = stands_innermost r.items r.truths (outer_blocks old.blocks) kept (blocks_at r.items r.position) (split_here kept e)
-
-  -- the innermost block of the reader is the one that it stands for
-  pub innermost_here : (kept : OpenBlock) (e : last_block old.blocks ≡ Some kept) → innermost (blocks_at r.items r.position) ≡ Some (block_here kept e).block
-  innermost_here kept e =
-      let i = block_here kept e in
-      ap innermost i.split ∙ innermost_last i.before i.block
-
-  pub none_here : last_block old.blocks ≡ None → blocks_at r.items r.position ≡ []
-  none_here e = none_stand r.items r.truths (blocks_at r.items r.position) (stand_as [] (no_blocks old.blocks e))
-
-  live_with : (last : Option OpenBlock) → last_block old.blocks ≡ last → is_live r.items r.truths r.position ≡ is_live_in last
-  live_with None e = live_outside r.items r.truths r.position (stand_as [] (no_blocks old.blocks e))
-  live_with (Some kept) e = live_inside r.items r.truths r.position (outer_blocks old.blocks) kept (split_here kept e)
-
-  -- the text there is live where the innermost block says so
-  pub live_now : is_live r.items r.truths r.position ≡ is_live_in (last_block old.blocks)
-  live_now = live_with (last_block old.blocks) refl
+module _ (old : Source) (r : SourceReader) (s : StandsReading old r) where
+  -- the text there is live where the kept blocks say so
+  pub live_now : is_live r.items r.truths r.position ≡ is_live_among old.dead_for_good old.blocks
+  live_now = live_kept r s.here
 
   pub lined_here : AreLined old.rest
   lined_here = subst AreLined (sym s.here.rest) (lined_after r.position r.items s.here.lined)
@@ -77,11 +50,11 @@ module _ (old : Source) (r : SourceReader) (s : StandsForReader old r) where
     line_offset = same;
     lined = s.here.lined;
     ended = s.here.ended;
+    shown = s.here.shown;
     lines = s.here.lines;
     blocks = s.here.blocks;
     truths = s.here.truths;
     unfinished = s.here.unfinished;
-    not_dead = s.here.not_dead;
     remembers_text = s.here.remembers_text;
     remembers_directive = s.here.remembers_directive;
     directives = s.here.directives;
@@ -91,7 +64,7 @@ module _ (old : Source) (r : SourceReader) (s : StandsForReader old r) where
   -- with other definitions, another count of contents, and other numbers of lines
   pub stands_with : (definitions : List Defined) (meaning : Definitions) (kept counted : ℕ) (offset other : ℤ) → meaning ≡ meaning_of definitions
       → counted ≡ kept → other ≡ offset
-      → StandsForReader (record old { definitions = definitions; contents = kept; line_offset = offset })
+      → StandsReading (record old { definitions = definitions; contents = kept; line_offset = offset })
       (record r { definitions = meaning; contents = counted; line_offset = other })
   stands_with definitions meaning kept counted offset other means counts same = record {
     rules = s.rules;
@@ -106,8 +79,8 @@ module _ (old : Source) (r : SourceReader) (s : StandsForReader old r) where
   -- some items further on
   pub stands_further : (n : ℕ) (definitions : Definitions) (truths : Truths) (more : List BlockLine) (new : Source) {note : Note} {still_open : List OpenBlock}
       → n ≤ length old.rest → IsAfter n note still_open old new → definitions ≡ meaning_of new.definitions → AddsLines r.position n old.rest more
-      → StandForBlocks r.items truths still_open (blocks_at r.items (r.position + n)) → AreBefore (r.position + n) truths
-      → IsRemembered new r.items truths (r.position + n) → StandsForReader new (record r
+      → StandPast (dead_count old.dead_for_good) r.items truths still_open (blocks_at r.items (r.position + n)) → AreBefore (r.position + n) truths
+      → IsRemembered new r.items truths (r.position + n) → StandsReading new (record r
       { position = r.position + n; definitions = definitions; truths = truths })
   stands_further n definitions truths more new within b means adds blocks before remembered =
       let further : AreLinesBefore r.items (r.position + n) (block_lines 0 (take r.position r.items) ++ more) =
@@ -122,12 +95,14 @@ module _ (old : Source) (r : SourceReader) (s : StandsForReader old r) where
           line_offset = s.here.line_offset ∙ sym b.line_offset;
           lined = s.here.lined;
           ended = s.here.ended;
+          shown = s.here.shown;
           lines = subst (λ (lines : List BlockLine). AreLinesBefore r.items (r.position + n) lines)
               (sym (lines_here r.items (r.position + n) (block_lines 0 (take r.position r.items) ++ more) further)) further;
-          blocks = subst (λ (kept : List OpenBlock). StandForBlocks r.items truths kept (blocks_at r.items (r.position + n))) (sym b.blocks) blocks;
+          blocks = subst (λ (dead : Bool). StandPast (dead_count dead) r.items truths new.blocks (blocks_at r.items (r.position + n))) (sym b.dead_for_good)
+              (subst (λ (kept : List OpenBlock). StandPast (dead_count old.dead_for_good) r.items truths kept (blocks_at r.items (r.position + n)))
+              (sym b.blocks) blocks);
           truths = before;
           unfinished = s.here.unfinished;
-          not_dead = b.dead_for_good ∙ s.here.not_dead;
           remembers_text = remembered.text;
           remembers_directive = remembered.directive;
           directives = remembered.apart;

@@ -17,18 +17,19 @@ use Rattle.pp_model.specs.declared.directive.Directive.{Directive}
 use Rattle.pp_model.specs.declared.sight.Sight.TheVariants as sight
 use Rattle.pp_macros.specs.Item.{PlacedStep}
 use Rattle.pp_macros.specs.inner.Defined.{meaning_of}
-use Rattle.pp_macros.specs.inner.OpenBlocks.{StandForBlocks, AreBefore}
+use Rattle.pp_macros.specs.inner.OpenBlocks.{AreBefore}
 use Rattle.pp_macros.specs.declared.blocks.OpenBlock.{OpenBlock}
 use Rattle.pp_macros.specs.inner.SourceMoves.{directive_line}
 use Rattle.pp_macros.specs.inner.Source.{Source, IsAfter, Pauses}
-use Rattle.pp_rs.specs.inner.Stands.{StandsForReader}
+use Rattle.pp_rs.specs.inner.StandsPast.{dead_count, StandPast}
+use Rattle.pp_rs.specs.inner.Stands.{StandsReading}
 use Rattle.pp_macros.proofs.work.BodyLemmas.{line_length_least}
 use Rattle.pp_macros.proofs.work.DirectiveLineLemmas.{begins_directive}
 use Rattle.pp_rs.proofs.blocks.LinesBeforeLemmas.{AddsLines, directive_adds}
 use Rattle.pp_rs.proofs.blocks.RememberedLemmas.{IsRemembered, line_remembered}
 use Rattle.pp_rs.proofs.source.SkippedLemmas.{quiet_after_word}
 use Rattle.pp_rs.proofs.source.StandsAfterLemmas.{lined_here, after_here, remembered_here, stands_further}
-use Rattle.pp_rs.proofs.source.StepHereLemmas.{whole_line, PausesAt}
+use Rattle.pp_rs.proofs.source.LinePlaces.{whole_line, PausesAt}
 use Rattle.pp_rs.proofs.source.StandsQuietLemmas.{same_meaning, stands_quiet}
 
 -- the line of a block whose number sign stands at a reader's position
@@ -42,14 +43,14 @@ line_there rest directive word e =
     let whole : length rest ≡ length (b.hash ∷ b.name ∷ b.after) = ap length b.front in
     omega (arith, line_length_least (drop 2 rest), after, whole)
 
-after_line_is : {old new : Source} {r : SourceReader} (s : StandsForReader old r) (definitions : Definitions) (truths : Truths)
-    → StandsForReader new (record r { position = r.position + whole_line old.rest; definitions = definitions; truths = truths })
-    → StandsForReader new (record (after_line r) { definitions = definitions; truths = truths })
+after_line_is : {old new : Source} {r : SourceReader} (s : StandsReading old r) (definitions : Definitions) (truths : Truths)
+    → StandsReading new (record r { position = r.position + whole_line old.rest; definitions = definitions; truths = truths })
+    → StandsReading new (record (after_line r) { definitions = definitions; truths = truths })
 after_line_is {old} {new} {r} s definitions truths =
-    subst (λ (items : List Seen). StandsForReader new (record r
+    subst (λ (items : List Seen). StandsReading new (record r
     { position = r.position + (2 + line_length items); definitions = definitions; truths = truths })) (sym (after_here old r s))
 
-module _ {old : Source} {r : SourceReader} (s : StandsForReader old r)
+module _ {old : Source} {r : SourceReader} (s : StandsReading old r)
     {directive : Directive} {word : Location} (e : sight_of old.rest ≡ sight.Directive directive word) where
   -- a directive's line adds the line of a block that its word says, if any
   pub line_adds : (found : Option Part) → part_of directive ≡ found
@@ -67,7 +68,7 @@ module _ {old : Source} {r : SourceReader} (s : StandsForReader old r)
 
     -- after a line that is none of a block
     pub stands_line : (definitions : Definitions) → part_of directive ≡ None → IsAfter (whole_line old.rest) directive_line old.blocks old new
-        → definitions ≡ meaning_of new.definitions → StandsForReader new (record (after_line r) { definitions = definitions })
+        → definitions ≡ meaning_of new.definitions → StandsReading new (record (after_line r) { definitions = definitions })
     stands_line definitions its b means =
         after_line_is s definitions r.truths (stands_quiet s (whole_line old.rest) definitions (line_there old.rest directive word e) b means
         (line_adds None its)
@@ -75,13 +76,13 @@ module _ {old : Source} {r : SourceReader} (s : StandsForReader old r)
 
     -- the same where no definition changes
     pub line_stays : part_of directive ≡ None → IsAfter (whole_line old.rest) directive_line old.blocks old new
-        → new.definitions ≡ old.definitions → StandsForReader new (after_line r)
+        → new.definitions ≡ old.definitions → StandsReading new (after_line r)
     line_stays its b same = stands_line r.definitions its b (same_meaning s new same)
 
     -- a pause after a line of a block, where these conditions were read and these blocks are then open
     pub block_pauses : {p : Part} {move : PlacedStep Token} (truths : Truths) (blocks : List OpenBlock) → part_of directive ≡ Some p
         → has_live_text_before r.items truths r.position ≡ has_live_text_before r.items r.truths r.position
-        → StandForBlocks r.items truths blocks (blocks_at r.items (r.position + whole_line old.rest)) → AreBefore (r.position + whole_line old.rest) truths
+        → StandPast (dead_count old.dead_for_good) r.items truths blocks (blocks_at r.items (r.position + whole_line old.rest)) → AreBefore (r.position + whole_line old.rest) truths
         → Pauses (whole_line old.rest) directive_line blocks old move new → PausesAt move new (record (after_line r) { truths = truths })
     block_pauses {p} truths blocks is text stand before h = (
       h.0,

@@ -5,9 +5,10 @@ ghost use Rattle.pp_lexer.specs.PreprocessorError.{out_of_memory};
 ghost use Rattle.pp_lexer.specs.Rules.{pp_rs};
 ghost use Rattle.pp_lexer.specs.Spelling.{values_of};
 ghost use Rattle.pp_lexer.specs.TokenValue.{is_ordinary};
-ghost use Rattle.pp_model.specs.Run.{items_of, start};
+ghost use Rattle.pp_model.specs.Run.{items_of};
 ghost use Rattle.pp_rs.specs.Afresh.{HasShortText, AreReadAfresh, IsOutput};
 ghost use Rattle.pp_rs.specs.Collecting.{AreItemsFrom};
+ghost use Rattle.pp_rs.specs.Comes.{start};
 ghost use Rattle.pp_rs.specs.inner.ItemValues.{value_of_item};
 
 use crate::SOURCE_LIMIT;

@@ -1,7 +1,8 @@
 //! The replies to a list of calls.
 
-ghost use Rattle.std.specs.Prelude.{◌≡◌, ◌-◌, ◌^◌, ◌<◌, false, length, map, All, IfOk, OnOk, Some, Err};
+ghost use Rattle.std.specs.Prelude.{◌≡◌, ◌-◌, ◌^◌, ◌<◌, ◌≤◌, false, length, map, take, All, IfOk, OnOk, Some, Err};
 ghost use Rattle.pp_model.specs.Run.{add_define, include, next, call_of, HasRoom, IsRun, IsRunBy, ends_run};
+ghost use Rattle.pp_model.specs.RunToEnd.{IsRunToEndBy, to_first_error};
 ghost use Rattle.pp_rs.specs.inner.Answering.{IsAnswered, AreReplies};
 ghost use Rattle.pp_macros.specs.Item.{is_out_of_memory};
 ghost use Rattle.pp_rs.specs.Kept.{is_spent};
@@ -103,7 +104,22 @@ fn ends_run(reply: &Reply) -> bool
     matches!(reply, Reply::Given(Outcome::Fault(_)))
 }
 
-// The replies of a preprocessor to the calls, up to and with the first error item.
+// How many replies there are up to and with the first error item.
+fn length_to_error(replies: &[Reply]) -> usize
+    ensures is { take result replies.now ≡ to_first_error replies.now }
+    ensures most { result ≤ length replies.now }
+{
+    let mut count = 0;
+    for reply in replies {
+        count += 1;
+        if ends_run(reply) {
+            return count;
+        }
+    }
+    count
+}
+
+// The replies of a preprocessor to the calls.
 fn replies_to<'a>(
     alloc: Global,
     pp: &mut Preprocessor<'a>,
@@ -116,11 +132,7 @@ fn replies_to<'a>(
     let mut replies = Vec::new(alloc);
     for call in calls {
         let reply = reply_to(pp, call)?;
-        let is_last = ends_run(&reply);
         replies.push(reply)?;
-        if is_last {
-            return Ok(replies);
-        }
     }
     Ok(replies)
 }
@@ -153,6 +165,22 @@ pub fn replies_by<'a>(
     requires size { length source.now < 2 ^ 32 - 1 }
     requires contents { All HasRoom calls.now }
     ensures { IfOk result (λ replies. IsRunBy rules source.now (map call_of calls.now) replies.items) }
+{
+    let mut replies = replies_to_end_by(alloc, source, rules, calls)?;
+    replies.truncate(length_to_error(&replies));
+    Ok(replies)
+}
+
+/// Returns the replies to all calls by these rules, those after errors too.
+pub fn replies_to_end_by<'a>(
+    alloc: Global,
+    source: &'a str,
+    rules: Rules,
+    calls: &[Call<'a>],
+) -> Result<Vec<Reply>, AllocError>
+    requires size { length source.now < 2 ^ 32 - 1 }
+    requires contents { All HasRoom calls.now }
+    ensures { IfOk result (λ replies. IsRunToEndBy rules source.now (map call_of calls.now) replies.items) }
 {
     let mut pp = Preprocessor::with_rules(alloc, source, rules);
     let replies = replies_to(alloc, &mut pp, calls);

@@ -4,7 +4,8 @@ ghost use Rattle.std.specs.Prelude.{◌≡◌, ◌-◌, ◌^◌, ◌<◌, ◌↔
 ghost use Rattle.std.specs.IoError.{error_kind};
 ghost use Rattle.pp_lexer.specs.Location.{nowhere};
 ghost use Rattle.pp_lexer.specs.Rules.{pp_rs};
-ghost use Rattle.pp_model.specs.Run.{items_by, items_of, start, start_by};
+ghost use Rattle.pp_model.specs.Run.{items_by, items_of};
+ghost use Rattle.pp_rs.specs.Comes.{start, start_by};
 ghost use Rattle.pp_macros.specs.LexerErrors.{lexer_errors, lexer_errors_by};
 ghost use Rattle.pp_rs.specs.Kept.{Stands, is_spent, errors_left, error_place, call_place, rules_of};
 ghost use Rattle.pp_rs.specs.Trying.{IsTried, add_sentence};
