@@ -1,12 +1,12 @@
 //! Runs of a source, by the definitions.
 
-ghost use Rattle.std.specs.Prelude.{◌≡◌, ◌<◌, ◌≤◌, ◌^◌, ◌-◌, [], ◌∷◌, ◌++◌, false, length, map, take, All};
+ghost use Rattle.std.specs.Prelude.{◌≡◌, ◌<◌, ◌^◌, ◌-◌, [], ◌∷◌, ◌++◌, false, length, map, All};
 ghost use Rattle.std.specs.Prelude.{IfOk, OnOk, IfSome};
 ghost use Rattle.pp_model.specs.Emitting.{answers_at, expansion_limit};
 ghost use Rattle.pp_reference.specs.inner.Halting.{Meets};
 ghost use Rattle.pp_model.specs.Run as spec;
-ghost use Rattle.pp_model.specs.Run.{call_of, ends_run, HasRoom};
-ghost use Rattle.pp_model.specs.RunToEnd.{RunsToEnd, IsRunToEndBy, going_on, to_first_error};
+ghost use Rattle.pp_model.specs.Run.{call_of, HasRoom};
+ghost use Rattle.pp_model.specs.RunToEnd.{RunsToEnd, IsRunToEnd, IsRunToEndBy, going_on};
 ghost use Rattle.pp_reference.specs.inner.Seen.{seen};
 ghost use Rattle.pp_reference.specs.inner.SeenSource.{source_state, RefusedBy, Replying, is_refused};
 ghost use Rattle.std.specs.Str.{chars};
@@ -28,7 +28,6 @@ use pp_lexer::rules::Rules;
 use pp_lexer::token::{PreprocessorError, Text};
 use pp_model::call::{Call, Reply};
 use pp_model::definition::TokenList;
-use pp_model::outcome::Outcome;
 use pp_model::place::SOURCE_TEXT;
 use pp_model::read::Taken;
 use std::alloc::{AllocError, Global};
@@ -231,13 +230,6 @@ fn reply_to(
     }
 }
 
-// Whether the reply is an error item.
-fn ends_run(reply: &Reply) -> bool
-    ensures { result ≡ ends_run reply.now }
-{
-    matches!(reply, Reply::Given(Outcome::Fault(_)))
-}
-
 // These replies with one before them.
 fn with_reply(reply: Reply, others: Vec<Reply>) -> Result<Vec<Reply>, Stop>
     ensures { IfOk result (λ replies. replies.items ≡ reply ∷ others.items) }
@@ -309,25 +301,13 @@ fn run_within(
     replies_over(alloc, rules, items, calls, budget)
 }
 
-// How many replies there are up to and with the first error item.
-fn length_to_error(replies: &[Reply]) -> usize
-    ensures is { take result replies.now ≡ to_first_error replies.now }
-    ensures most { result ≤ length replies.now }
-{
-    match replies.split_first() {
-        None => 0,
-        Some((first, _)) if ends_run(first) => 1,
-        Some((_, rest)) => 1 + length_to_error(rest),
-    }
-}
-
-/// Returns the replies of a source, read by these rules, to the calls, to the end: those after errors too. Returns
-/// `None` if that takes more than this many steps, if the source, a content or an included text has more than 3,000
-/// items or a condition more than 3,000 words, or if there are more than 3,000 calls.
+/// Returns the replies of a source, read by these rules, to the calls, those after errors too. Returns `None` if that
+/// takes more than this many steps, if the source, a content or an included text has more than 3,000 items or a
+/// condition more than 3,000 words, or if there are more than 3,000 calls.
 ///
 /// The source, each added content and each included text must have fewer than 2^32 - 1 bytes. The only error is that an
 /// allocation failed.
-pub fn run_to_end_by(
+pub fn run_by(
     alloc: Global,
     source: &str,
     rules: Rules,
@@ -347,26 +327,6 @@ pub fn run_to_end_by(
     }
 }
 
-/// Returns the replies up to and with the first error item, of those that [`run_to_end_by`] returns.
-pub fn run_by(
-    alloc: Global,
-    source: &str,
-    rules: Rules,
-    calls: &[Call<'_>],
-    steps: u64,
-) -> Result<Option<Vec<Reply>>, AllocError>
-    requires size { length source.now < 2 ^ 32 - 1 }
-    requires contents { All HasRoom calls.now }
-    ensures { IfOk result (λ answer. IfSome answer
-        (λ replies. spec.IsRunBy rules source.now (map call_of calls.now) replies.items)) }
-{
-    let Some(mut replies) = run_to_end_by(alloc, source, rules, calls, steps)? else {
-        return Ok(None);
-    };
-    replies.truncate(length_to_error(&replies));
-    Ok(Some(replies))
-}
-
 /// Does the same as [`run_by`] at [`Rules::PP_RS`].
 pub fn run(
     alloc: Global,
@@ -377,7 +337,7 @@ pub fn run(
     requires size { length source.now < 2 ^ 32 - 1 }
     requires contents { All HasRoom calls.now }
     ensures { IfOk result (λ answer. IfSome answer
-        (λ replies. spec.IsRun source.now (map call_of calls.now) replies.items)) }
+        (λ replies. IsRunToEnd source.now (map call_of calls.now) replies.items)) }
 {
     run_by(alloc, source, Rules::PP_RS, calls, steps)
 }

@@ -17,6 +17,7 @@ ghost use Rattle.pp_model.specs.RespellLaws.{RunsAreReadAfresh};
 ghost use Rattle.pp_model.specs.RunChains.{ChainsAreRuns};
 ghost use Rattle.pp_model.specs.RunLaws.{OneStep, OneReplies, OneRun, RedefinitionIsChecked};
 ghost use Rattle.pp_model.specs.RunStates.{RunKeepsMarksApart, RunShowsNoLineName, EndStays, RunEndsForGood};
+ghost use Rattle.pp_model.specs.ToEndLaws.{OneRunToEnd, ARunToEnd, RunToEndBegins};
 ghost use Rattle.pp_rs.specs.LiveBranch.{RunHasLiveBranches};
 
 use crate::lexer;
@@ -135,4 +136,14 @@ pub fn runs()
     pp_model::laws::chains();
     pp_model::laws::a_run();
     pp_model::laws::one_run()
+}
+
+/// Every source has exactly one run to its end for every list of calls: all replies, those after errors too. Up to and
+/// with the first error item it is the run that ends with that error.
+pub fn runs_to_end()
+    ensures some { ARunToEnd }
+    ensures run { OneRunToEnd }
+    ensures begins { RunToEndBegins }
+{
+    pp_model::laws::run_to_end()
 }

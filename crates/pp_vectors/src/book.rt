@@ -1,7 +1,7 @@
 //! The book of cases, line by line.
 
 use crate::case::{Act, Case};
-use crate::found::{by_items, by_replies, by_the_plain_program, calls_of};
+use crate::found::{Items, by_items, by_replies, by_the_plain_program, calls_of};
 use pp_rs::pp::Call;
 use std::alloc::{AllocError, Global};
 use std::io;
@@ -170,38 +170,19 @@ fn compare(
     }
 }
 
-// Says if the preprocessor gives something else than it should.
-fn by_the_preprocessor(
+// Says if these items aren't what was expected: those up to the first error, and those after it.
+fn compare_items(
     rt: &impl Print,
     alloc: Global,
     case: &Case,
-    calls: &[Call<'_>],
+    by: &str,
+    items: &Items,
 ) -> io::Result<()> {
-    let replies = by_replies(alloc, case.source.as_str(), calls)?;
-    compare(
-        rt,
-        case,
-        "the list of replies",
-        replies.as_str(),
-        case.expected.as_ref(),
-    )?;
-    let items = by_items(alloc, case)?;
     let first = joined(alloc, &items.first)?;
-    compare(
-        rt,
-        case,
-        "the preprocessor",
-        first.as_str(),
-        case.expected.as_ref(),
-    )?;
+    compare(rt, case, by, first.as_str(), case.expected.as_ref())?;
     let after = joined(alloc, &items.after)?;
-    compare(
-        rt,
-        case,
-        "after the error the preprocessor",
-        after.as_str(),
-        case.after.as_ref(),
-    )
+    let by = format!(in alloc; "after the error {by}")?;
+    compare(rt, case, by.as_str(), after.as_str(), case.after.as_ref())
 }
 
 // Says if the case gives something else than it should.
@@ -211,12 +192,9 @@ fn check(rt: &impl Print, alloc: Global, case: &Case) -> io::Result<()> {
     }
     let calls = calls_of(alloc, case)?;
     let plain = by_the_plain_program(alloc, case.source.as_str(), &calls)?;
-    compare(
-        rt,
-        case,
-        "the plain program",
-        plain.as_str(),
-        case.expected.as_ref(),
-    )?;
-    by_the_preprocessor(rt, alloc, case, &calls)
+    compare_items(rt, alloc, case, "the plain program", &plain)?;
+    let replies = by_replies(alloc, case.source.as_str(), &calls)?;
+    compare_items(rt, alloc, case, "the list of replies", &replies)?;
+    let items = by_items(alloc, case)?;
+    compare_items(rt, alloc, case, "the preprocessor", &items)
 }

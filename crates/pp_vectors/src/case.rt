@@ -27,7 +27,7 @@ pub(crate) struct Case {
     pub(crate) acts: Vec<Act>,
     /// What it should give, up to the end or its first error.
     pub(crate) expected: Option<String>,
-    /// What the preprocessor gives after the error.
+    /// What it should give after the error.
     pub(crate) after: Option<String>,
     has_line: bool,
 }

@@ -13,7 +13,7 @@ use test_shown::{have_room, item, joined, reply};
 // More steps than any source here needs.
 const STEPS: u64 = 1_000_000;
 
-// More items than any source here gives up to its first error.
+// More items than any source here gives.
 const ITEMS: u32 = 100;
 
 fn call_of<'a>(act: &'a Act) -> Call<'a> {
@@ -35,49 +35,6 @@ pub(crate) fn calls_of<'a>(alloc: Global, case: &'a Case) -> Result<Vec<Call<'a>
     Ok(calls)
 }
 
-// The replies as text, up to the end.
-fn shown(alloc: Global, replies: &[Reply]) -> Result<String, AllocError> {
-    let mut parts = Vec::new(alloc);
-    for given in replies {
-        parts.push(reply(alloc, given)?)?;
-        if matches!(given, Reply::Given(Outcome::End)) {
-            break;
-        }
-    }
-    joined(alloc, &parts)
-}
-
-/// What the calls give by the plain program, up to the end or the first error.
-pub(crate) fn by_the_plain_program(
-    alloc: Global,
-    source: &str,
-    calls: &[Call<'_>],
-) -> Result<String, AllocError> {
-    if source.len() < SOURCE_LIMIT && have_room(calls) {
-        if let Some(replies) = run(alloc, source, calls, STEPS)? {
-            let text = shown(alloc, &replies);
-            drop(replies);
-            return text;
-        }
-    }
-    String::from_str(alloc, "no answer")
-}
-
-/// The same by the preprocessor.
-pub(crate) fn by_replies(
-    alloc: Global,
-    source: &str,
-    calls: &[Call<'_>],
-) -> Result<String, AllocError> {
-    if source.len() < SOURCE_LIMIT && have_room(calls) {
-        let replies = pp::replies(alloc, source, calls)?;
-        let text = shown(alloc, &replies);
-        drop(replies);
-        return text;
-    }
-    String::from_str(alloc, "no answer")
-}
-
 /// Items as text.
 #[derive(Drop)]
 pub(crate) struct Items {
@@ -89,6 +46,15 @@ pub(crate) struct Items {
 }
 
 impl Items {
+    // None.
+    fn new(alloc: Global) -> Items {
+        Items {
+            first: Vec::new(alloc),
+            after: Vec::new(alloc),
+            failed: false,
+        }
+    }
+
     // One more.
     fn push(&mut self, shown: String, fails: bool) -> Result<(), AllocError> {
         if self.failed {
@@ -99,6 +65,57 @@ impl Items {
         self.failed = self.failed || fails;
         Ok(())
     }
+}
+
+// The replies as text, up to the end.
+fn shown(alloc: Global, replies: &[Reply]) -> Result<Items, AllocError> {
+    let mut items = Items::new(alloc);
+    for given in replies {
+        let text = reply(alloc, given)?;
+        items.push(text, matches!(given, Reply::Given(Outcome::Fault(_))))?;
+        if matches!(given, Reply::Given(Outcome::End)) {
+            break;
+        }
+    }
+    Ok(items)
+}
+
+// What stands for the items if there is no answer.
+fn no_answer(alloc: Global) -> Result<Items, AllocError> {
+    let mut items = Items::new(alloc);
+    put_text(alloc, "no answer", &mut items)?;
+    Ok(items)
+}
+
+/// What the calls give by the plain program, up to the end.
+pub(crate) fn by_the_plain_program(
+    alloc: Global,
+    source: &str,
+    calls: &[Call<'_>],
+) -> Result<Items, AllocError> {
+    if source.len() < SOURCE_LIMIT && have_room(calls) {
+        if let Some(replies) = run(alloc, source, calls, STEPS)? {
+            let items = shown(alloc, &replies);
+            drop(replies);
+            return items;
+        }
+    }
+    no_answer(alloc)
+}
+
+/// The same by the preprocessor's list of replies.
+pub(crate) fn by_replies(
+    alloc: Global,
+    source: &str,
+    calls: &[Call<'_>],
+) -> Result<Items, AllocError> {
+    if source.len() < SOURCE_LIMIT && have_room(calls) {
+        let replies = pp::replies(alloc, source, calls)?;
+        let items = shown(alloc, &replies);
+        drop(replies);
+        return items;
+    }
+    no_answer(alloc)
 }
 
 fn put_text(alloc: Global, text: &str, items: &mut Items) -> Result<(), AllocError> {
@@ -208,11 +225,7 @@ fn act_in_order(
 
 /// What a case gives by the preprocessor, item by item, past errors too.
 pub(crate) fn by_items(alloc: Global, case: &Case) -> Result<Items, AllocError> {
-    let mut items = Items {
-        first: Vec::new(alloc),
-        after: Vec::new(alloc),
-        failed: false,
-    };
+    let mut items = Items::new(alloc);
     if case.source.len() < SOURCE_LIMIT {
         put_items(
             alloc,

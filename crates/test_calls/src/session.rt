@@ -4,7 +4,7 @@ use crate::shown::{
     compared, copy_error, copy_token, print_error, print_item, print_origin, print_reply, refused,
     replies,
 };
-use pp_reference::run::{run_by, run_to_end_by};
+use pp_reference::run::run_by;
 use pp_rs::SOURCE_LIMIT;
 use pp_rs::pp::{
     self, Call, IncludeError, IncludeLine, Outcome, Preprocessor, PreprocessorItem, Reply,
@@ -355,10 +355,10 @@ impl<'a> Session<'a> {
         Ok(())
     }
 
-    /// Makes the same calls once more, by the plain program, to the end.
+    /// Makes the same calls once more, by the plain program.
     pub(crate) fn plain(&self, rt: &impl Print) -> io::Result<()> {
         if self.source.len() < SOURCE_LIMIT && have_room(&self.calls) {
-            let given = run_to_end_by(self.alloc, self.source, self.rules, &self.calls, STEPS);
+            let given = run_by(self.alloc, self.source, self.rules, &self.calls, STEPS);
             return replies(rt, self.alloc, "plain", given);
         }
         Ok(())

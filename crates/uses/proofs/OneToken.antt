@@ -15,7 +15,8 @@ use Rattle.pp_model.specs.Painting.{read_in}
 use Rattle.pp_model.specs.Places.{in_text, source_text}
 use Rattle.pp_model.specs.Reading.{Expander}
 use Rattle.pp_model.specs.Reads.{Steps, Reads, here, later, source_reading}
-use Rattle.pp_model.specs.Run.{by_rules, start, next, Runs, done, given}
+use Rattle.pp_model.specs.Run.{by_rules, start, next, Runs, done, given, ends_run}
+use Rattle.pp_model.specs.RunToEnd.{to_first_error}
 use Rattle.pp_model.specs.SourceReader.{SourceReader, reader_at_start}
 use Rattle.pp_model.specs.Numbering.{text_number}
 use Rattle.pp_model.specs.Taking.{read, line_number, shown_token}
@@ -88,3 +89,28 @@ identifier_runs A (s ∷ t ∷ []) word newline name e w n other =
     let run = runs A name word.location newline.location word.leading_whitespace word.start_of_line newline.leading_whitespace newline.start_of_line s t other in
     let half = subst (λ x. Runs (by_rules A) pp_rs (start (x ∷ newline_of newline.location newline.leading_whitespace newline.start_of_line t ∷ [])) (next ∷ next ∷ []) (replies_of name word.location)) (sym first) run in
     subst (λ y. Runs (by_rules A) pp_rs (start (s ∷ y ∷ [])) (next ∷ next ∷ []) (replies_of name word.location)) (sym second) half
+
+-- what comes first of replies that aren't cut behind it
+rest_after : (one wanted : Reply) (rest left : List Reply) → ends_run wanted ≡ false → to_first_error (one ∷ rest) ≡ wanted ∷ left
+    → (one ≡ wanted) × (to_first_error rest ≡ left)
+rest_after one wanted rest left goes e =
+    let same : one ≡ wanted = cc in
+    let cut : (if ends_run one then [] else to_first_error rest) ≡ left = cc in
+    (same, sym (ap (λ last. if last then [] else to_first_error rest) (ap ends_run same ∙ goes)) ∙ cut)
+
+none_left : (replies : List Reply) → to_first_error replies ≡ [] → replies ≡ []
+none_left [] e = refl
+none_left (one ∷ rest) e = cc
+
+-- these replies hold no error, so they are all
+pub all_replies : (replies : List Reply) (name : Name) (place : Location) → to_first_error replies ≡ replies_of name place
+    → replies ≡ replies_of name place
+all_replies [] name place e = cc
+all_replies (one ∷ []) name place e =
+    let first = rest_after one (Given (outcome.Token (token_of name place))) [] (Given outcome.End ∷ []) refl e in
+    let bad : ◌≡◌ {A = List Reply} [] (Given outcome.End ∷ []) = first.1 in
+    cc
+all_replies (one ∷ two ∷ rest) name place e =
+    let first = rest_after one (Given (outcome.Token (token_of name place))) (two ∷ rest) (Given outcome.End ∷ []) refl e in
+    let second = rest_after two (Given outcome.End) rest [] refl first.1 in
+    rw (first.0, second.0, none_left rest second.1) refl

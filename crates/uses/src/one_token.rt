@@ -24,6 +24,7 @@ pub fn replies_to_identifier(alloc: Global, source: &str) -> Result<Vec<Reply>, 
         ∷ Given End ∷ []) }
 {
     laws::runs();
+    laws::runs_to_end();
     replies(alloc, source, &[Call::Next, Call::Next])
 }
 

@@ -65,16 +65,23 @@ StandForTexts [] [] = ⊤
 StandForTexts (kept ∷ more) (there ∷ others) = StandsAt kept there × StandForTexts more others
 StandForTexts _ _ = ⊥
 
--- The source and the reader of the definitions: the same rules, the same definitions, the text that is read, and those
--- around it.
-pub record StandsForReader (source : Source) (reader : SourceReader) : Type 0 where
+-- The source and the reader of the definitions: the same rules, the same definitions, the text that is read, if `Here`
+-- says what it stands for, and those around it.
+pub record StandsBy (Here : SuspendedText → Suspended → Type 0) (source : Source) (reader : SourceReader) : Type 0 where
   pub rules : reader.rules ≡ source.rules
-  pub here : StandsAt (suspended source) (suspended_of reader)
+  pub here : Here (suspended source) (suspended_of reader)
   pub around : StandForTexts source.around reader.around
   pub earlier : source.earlier ≡ reader.earlier
   pub definitions : reader.definitions ≡ meaning_of source.definitions
   pub contents : reader.contents ≡ source.contents
   pub unspent : source.spent ≡ false
+
+abbrev pub StandsForReader : Source → SourceReader → Type 0
+StandsForReader source reader = StandsBy StandsAt source reader
+
+-- the same of a reader of which no block was reported
+abbrev pub StandsReading : Source → SourceReader → Type 0
+StandsReading source reader = StandsBy StandsForText source reader
 
 -- the texts of which the rest is dead are these
 abbrev pub IsDeadIn : List ℕ → SuspendedText → Type 0
@@ -92,16 +99,6 @@ pub record StandsOnward (source : Source) (onward : Onward) : Type 0 where
   pub numbered : AreNumbered source.text source.around
   pub read : source.text ≤ source.contents
   pub known : Each (λ text. text ≤ source.contents) onward.dead
-
--- The same of a reader of which no block was reported, without what is dead.
-pub record StandsReading (source : Source) (reader : SourceReader) : Type 0 where
-  pub rules : reader.rules ≡ source.rules
-  pub here : StandsForText (suspended source) (suspended_of reader)
-  pub around : StandForTexts source.around reader.around
-  pub earlier : source.earlier ≡ reader.earlier
-  pub definitions : reader.definitions ≡ meaning_of source.definitions
-  pub contents : reader.contents ≡ source.contents
-  pub unspent : source.spent ≡ false
 
 -- an expander over the source: its frames are the splice list, and no pause is held
 pub record StandsFor (expander : kept.Expander) (source : Source) (state : Expander Onward) : Type 0 where

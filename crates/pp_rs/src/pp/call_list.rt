@@ -1,8 +1,8 @@
 //! The replies to a list of calls.
 
-ghost use Rattle.std.specs.Prelude.{◌≡◌, ◌-◌, ◌^◌, ◌<◌, ◌≤◌, false, length, map, take, All, IfOk, OnOk, Some, Err};
-ghost use Rattle.pp_model.specs.Run.{add_define, include, next, call_of, HasRoom, IsRun, IsRunBy, ends_run};
-ghost use Rattle.pp_model.specs.RunToEnd.{IsRunToEndBy, to_first_error};
+ghost use Rattle.std.specs.Prelude.{◌≡◌, ◌-◌, ◌^◌, ◌<◌, false, length, map, All, IfOk, OnOk, Some, Err};
+ghost use Rattle.pp_model.specs.Run.{add_define, include, next, call_of, HasRoom};
+ghost use Rattle.pp_model.specs.RunToEnd.{IsRunToEnd, IsRunToEndBy};
 ghost use Rattle.pp_rs.specs.inner.Answering.{IsAnswered, AreReplies};
 ghost use Rattle.pp_macros.specs.Item.{is_out_of_memory};
 ghost use Rattle.pp_rs.specs.Kept.{is_spent};
@@ -97,28 +97,6 @@ fn reply_to<'a>(pp: &mut Preprocessor<'a>, call: &Call<'a>) -> Result<Reply, All
     }
 }
 
-// Whether the reply is an error item.
-fn ends_run(reply: &Reply) -> bool
-    ensures { result ≡ ends_run reply.now }
-{
-    matches!(reply, Reply::Given(Outcome::Fault(_)))
-}
-
-// How many replies there are up to and with the first error item.
-fn length_to_error(replies: &[Reply]) -> usize
-    ensures is { take result replies.now ≡ to_first_error replies.now }
-    ensures most { result ≤ length replies.now }
-{
-    let mut count = 0;
-    for reply in replies {
-        count += 1;
-        if ends_run(reply) {
-            return count;
-        }
-    }
-    count
-}
-
 // The replies of a preprocessor to the calls.
 fn replies_to<'a>(
     alloc: Global,
@@ -137,8 +115,11 @@ fn replies_to<'a>(
     Ok(replies)
 }
 
-/// Returns the replies of a preprocessor of the source to the calls, made one after another, up to and with the first
-/// error item. pp-rs 0.2.1 has no such function.
+/// Returns the replies of a preprocessor of the source to the calls, made one after another, those after errors too.
+/// pp-rs 0.2.1 has no such function.
+///
+/// By the law [`runs_to_end`](crate::laws::runs_to_end) there are no other such replies, and those up to and with the
+/// first error item are the run that ends with it.
 ///
 /// The source and each added content must have fewer than 2^32 - 1 bytes. The only error is that an allocation failed,
 /// for a reply or for the list of replies. No replies are returned then.
@@ -149,7 +130,7 @@ pub fn replies<'a>(
 ) -> Result<Vec<Reply>, AllocError>
     requires size { length source.now < 2 ^ 32 - 1 }
     requires contents { All HasRoom calls.now }
-    ensures { IfOk result (λ replies. IsRun source.now (map call_of calls.now) replies.items) }
+    ensures { IfOk result (λ replies. IsRunToEnd source.now (map call_of calls.now) replies.items) }
 {
     replies_by(alloc, source, Rules::PP_RS, calls)
 }
@@ -157,22 +138,6 @@ pub fn replies<'a>(
 /// Does what `replies` does, by these rules: the source and each content are read by them. `replies` is this at
 /// [`Rules::PP_RS`].
 pub fn replies_by<'a>(
-    alloc: Global,
-    source: &'a str,
-    rules: Rules,
-    calls: &[Call<'a>],
-) -> Result<Vec<Reply>, AllocError>
-    requires size { length source.now < 2 ^ 32 - 1 }
-    requires contents { All HasRoom calls.now }
-    ensures { IfOk result (λ replies. IsRunBy rules source.now (map call_of calls.now) replies.items) }
-{
-    let mut replies = replies_to_end_by(alloc, source, rules, calls)?;
-    replies.truncate(length_to_error(&replies));
-    Ok(replies)
-}
-
-/// Returns the replies to all calls by these rules, those after errors too.
-pub fn replies_to_end_by<'a>(
     alloc: Global,
     source: &'a str,
     rules: Rules,

@@ -1,13 +1,13 @@
-use Rattle.std.proofs.Common.{◌≡◌, subst, sym, map, List}
-use Rattle.pp_model.specs.Run.{call_of, IsRunBy}
-use Rattle.pp_model.specs.RunToEnd.{to_first_error}
-use Rattle.pp_model.specs.declared.call.Reply.{Reply}
-use Rattle.pp_model.proofs.onward.RunsBeginLemmas.{run_to_end_begins}
+use Rattle.std.proofs.Common.{map, subst}
+use Rattle.std.proofs.lemmas.Result.{IfOk-weaker}
+use Rattle.pp_lexer.specs.declared.rules.Rules.{Rules}
+use Rattle.pp_model.specs.Run.{items_by, call_of}
+use Rattle.pp_rs.specs.Comes.{start_by}
+use Rattle.pp_rs.specs.inner.Answering.{RunFrom}
 use Rattle.pp_rs.proofs.pp.call_list.replies_by.Goals as goal
 
 pub returns : goal.returns
 returns c =
-    let calls = map call_of c.args.calls.now in
-    let cut : c.truncate.new.self.items ≡ to_first_error c.in_ok-replies.replies.items = cc in
-    subst (λ (replies : List Reply). IsRunBy c.args.rules c.args.source.now calls replies) (sym cut)
-    (run_to_end_begins c.args.rules c.args.source.now calls c.in_ok-replies.replies.items (c.in_ok-replies.ensures {u = tt}))
+    IfOk-weaker c.replies_to-replies.result _ _
+    (λ replies h. subst (λ (rules : Rules). RunFrom rules (start_by c.args.rules (items_by c.args.rules c.args.source.now)) (map call_of c.args.calls.now) replies.items)
+    c.with_rules-pp.ensures.rules (h _ c.with_rules-pp.ensures.stands)) c.replies_to-replies.ensures
