@@ -59,6 +59,9 @@ use word::parse_word;
 /// A source, and a content that is added, must have fewer bytes than this.
 pub const SOURCE_LIMIT: usize = 4294967295;
 
+// So many runs of words are passed at once.
+const MOST_RUNS: u32 = 16;
+
 // What the flags of the next token will be, and whether a comment was passed.
 #[derive(Clone, Copy)]
 struct Flags {
@@ -555,15 +558,14 @@ impl<'a> Lexer<'a> {
         self.state.next_newline().is_some()
     }
 
-    /// Passes words and newlines of plain text that come next, if their bytes alone show that none of them is an error
-    /// or a `#`, and returns whether it did. Otherwise it changes nothing. It passes some hundred bytes at most, but
-    /// for the last word, and may stop before a word that could be passed. It looks only at the start of a line: a row
-    /// of operators would else be looked at again for each of them.
+    // Passes words and newlines of plain text that come next, if their bytes alone show that none of them is an error or
+    // a `#`, and returns whether it did. Otherwise it changes nothing. They are some hundred bytes at most, but for the
+    // last word.
     #[inline(always)]
-    pub fn pass_words(&mut self) -> bool
+    fn pass_run(&mut self) -> bool
         ensures { PassesOthers self.old result self.new }
     {
-        if self.spent || !self.state.flags.start_of_line {
+        if self.spent {
             return false;
         }
         let left = self.state.inner.left();
@@ -596,6 +598,24 @@ impl<'a> Lexer<'a> {
         };
         self.state.inner.go(after, last);
         true
+    }
+
+    /// Passes words and newlines of plain text that come next, if their bytes alone show that none of them is an error
+    /// or a `#`, and returns whether it did. Otherwise it changes nothing. It passes some thousand bytes at most, but
+    /// for the last word, and may stop before a word that could be passed. It begins only at the start of a line, and
+    /// goes on only behind words that it passed: a row of operators would else be looked at again for each of them.
+    #[inline(always)]
+    pub fn pass_words(&mut self) -> bool
+        ensures { PassesOthers self.old result self.new }
+    {
+        if !self.state.flags.start_of_line {
+            return false;
+        }
+        let mut runs: u32 = 0;
+        'runs: while runs < MOST_RUNS && self.pass_run() {
+            runs += 1;
+        }
+        runs > 0
     }
 }
 

@@ -12,7 +12,7 @@ use Rattle.pp_lexer.specs.declared.lexer.item.TokenValue.{TokenValue}
 use Rattle.pp_lexer.specs.declared.lexer.item.TokenValue.TheVariants.{Hash, NewLine, Ident, Integer, Float, Punct}
 use Rattle.pp_lexer.specs.Items.{Lexeme}
 use Rattle.pp_lexer.specs.Lexed.{Seen, Lexed, first_item, after_first}
-use Rattle.pp_lexer.specs.PassedWords.{is_number_sign, is_other_lexeme, begins_other, TakesOthers}
+use Rattle.pp_lexer.specs.PassedWords.{is_number_sign, is_other_lexeme, begins_other, TakesOthers, AreOthersTaken, PassesOthers}
 use Rattle.pp_lexer.specs.Reading.{Reading}
 use Rattle.pp_lexer.specs.inner.Fronts.{spots_from}
 use Rattle.pp_lexer.specs.inner.Passing.{lexed, seen_of, IsPlaced, IsLexed}
@@ -29,6 +29,18 @@ use Rattle.pp_lexer.proofs.words.TameLemmas.{Piece, space, feed, word, first_pie
 pub takes_more : (n : ℕ) (old mid new : Lexed) → TakesOthers n old mid → begins_other mid.rest ≡ true → new ≡ after_first mid → TakesOthers (suc n) old new
 takes_more zero old mid new t b e = (ap (λ (l : Lexed). begins_other l.rest) (sym t) ∙ b, e ∙ ap after_first t)
 takes_more (suc n) old mid new t b e = (t.0, takes_more n (after_first old) mid new t.1 b e)
+
+-- such tokens, and then others
+takes_then : (m n : ℕ) (old mid new : Lexed) → TakesOthers (suc m) old mid → TakesOthers (suc n) mid new → (k : ℕ) × TakesOthers (suc k) old new
+takes_then zero n old mid new t u = (suc n, (t.0, subst (λ l. TakesOthers (suc n) l new) t.1 u))
+takes_then (suc m) n old mid new t u = let rest = takes_then m n (after_first old) mid new t.1 u in (suc rest.0, (t.0, rest.1))
+
+-- others are passed after those that were, if any were
+pub passed_more : (old mid new : Lexed) (passed : Bool) → PassesOthers old passed mid → AreOthersTaken mid new → AreOthersTaken old new
+passed_more old mid new true h more =
+    let all = takes_then h.more more.more old mid new h.taken more.taken in
+    record { unspent = h.unspent; more = all.0; taken = all.1 }
+passed_more old mid new false h more = subst (λ l. AreOthersTaken l new) h more
 
 other_value : (value : TokenValue) → value ≢ Hash → not (is_number_sign value) ≡ true
 other_value Hash h = absurd (h refl)
