@@ -255,7 +255,7 @@ def preprocess(
     """The preprocessed tokens of a source, and its errors. The call makes all of them, and the iterator reads them.
 
     The rules are those of pp-rs, or those of a version of GLSL. The items may take `budget` steps, or any number if it is 0:
-    a step is a token that is read, put on a list, or passed in the body or an argument of a macro; some hundred bytes of
+    a step is a token that is read, put on a list, or passed in the body or an argument of a macro; some thousand bytes of
     dead text may be one step. If `most_items` isn't 0, there are no more than so many.
 
     Raises the first `Error` of a definition's content; OverBudget; ValueError if the source isn't UTF-8, or it or a content

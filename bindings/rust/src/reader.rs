@@ -181,7 +181,7 @@ impl<'a> Reader<'a> {
 
     /// Bounds the steps that the items may take, from the first item on, or not if it is 0, as without this call.
     ///
-    /// A step is a token that is read, put on a list, or passed in the body or an argument of a macro. Some hundred bytes
+    /// A step is a token that is read, put on a list, or passed in the body or an argument of a macro. Some thousand bytes
     /// of dead text may be one step. If more are needed for the items that are made next, `next` returns
     /// [`Error::OverBudget`]. So the time and the memory that a `next` takes are bounded by the number, and by the length
     /// of the longest token.

@@ -162,7 +162,7 @@ uint32_t pp_preprocess(const uint8_t *source, size_t source_length, const uint8_
 
 /* The same by the rules of the options, within their budget, and up to their number of items.
  *
- * A step is a token that is read, put on a list, or passed in the body or an argument of a macro; some hundred bytes of
+ * A step is a token that is read, put on a list, or passed in the body or an argument of a macro; some thousand bytes of
  * dead text may be one step. So the budget bounds the time and the memory of a call, with the length of the longest token
  * and the definitions, which take no steps.
  *

@@ -156,7 +156,7 @@ pub extern "C" fn pp_preprocess(
 /// of items. With 0 for each of these it is the same.
 ///
 /// A step is a token that is read, put on a list, or passed in the body or an argument of a macro, wherever that
-/// happens. Some hundred bytes of dead text may be one step. If the items need more steps than the budget has, the
+/// happens. Some thousand bytes of dead text may be one step. If the items need more steps than the budget has, the
 /// status is `PP_OVER_BUDGET`. So the time and the memory that a call takes are bounded by the budget, by the length
 /// of the longest token, and by the definitions, which take no steps.
 ///

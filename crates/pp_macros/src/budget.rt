@@ -7,7 +7,7 @@ use std::rc::Rc;
 
 /// The steps that are left for a source, if they are bounded. All readers and expanders of the source share them.
 ///
-/// A step is a token that is read, put on a list, or passed in the body or an argument of a macro. Some hundred bytes
+/// A step is a token that is read, put on a list, or passed in the body or an argument of a macro. Some thousand bytes
 /// of dead text may be one step. To run out of steps is answered as a failed allocation is.
 #[derive(Drop)]
 pub struct Budget {

@@ -510,7 +510,7 @@ impl<'a> Preprocessor<'a> {
     /// Bounds the work from here on to this many steps, in place of any bound before.
     ///
     /// A step is a token that is read, put on a list, or passed in the body or an argument of a macro, wherever that
-    /// happens. Some hundred bytes of dead text may be one step. If an item needs more steps than are left, `next`
+    /// happens. Some thousand bytes of dead text may be one step. If an item needs more steps than are left, `next`
     /// returns `OutOfMemory`, and `None` from then on, as if memory had run out; [`Preprocessor::is_over_budget`] tells
     /// the two apart. So the time and the memory that a source takes are bounded by the number, and by the length of
     /// its longest token. Without this call there is no bound. The only error is `OutOfMemory`, if an allocation fails;
