@@ -558,9 +558,9 @@ impl<'a> Lexer<'a> {
         self.state.next_newline().is_some()
     }
 
-    // Passes words and newlines of plain text that come next, if their bytes alone show that none of them is an error or
-    // a `#`, and returns whether it did. Otherwise it changes nothing. They are some hundred bytes at most, but for the
-    // last word.
+    // Passes words and newlines of plain text that come next, if their bytes alone show that none of them is an error
+    // or a `#`, and returns whether it did. Otherwise it changes nothing. They are some hundred bytes at most, but for
+    // the last word.
     #[inline(always)]
     fn pass_run(&mut self) -> bool
         ensures { PassesOthers self.old result self.new }
