@@ -1,5 +1,5 @@
 -- A word of plain text that a lexer gives before memory is taken for it (docs/RULES.md, Tokens).
-use Rattle.std.specs.Prelude.{◌≡◌, ℕ, ◌-◌, Bool, true, false, List, [], ◌∷◌, length, take, Some, Ok, Err}
+use Rattle.std.specs.Prelude.{◌≡◌, ℕ, ◌-◌, Bool, true, false, List, [], ◌∷◌, length, take, Some, Ok}
 use Rattle.std.specs.Prelude.{MatchBool, pos}
 use Rattle.std.specs.Str.{IsAscii}
 use Rattle.pp_lexer.specs.declared.lexer.item.Token.{Token}

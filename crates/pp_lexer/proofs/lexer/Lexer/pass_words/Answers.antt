@@ -1,6 +1,5 @@
-use Rattle.std.proofs.Common.{◌≡◌, ◌+◌, ◌<◌, arith, nat_lt, true}
+use Rattle.std.proofs.Common.{◌≡◌, ◌+◌, arith, nat_lt, true}
 use Rattle.std.proofs.lemmas.Bool.{lt-ltb}
-use Rattle.pp_lexer.specs.PassedWords.{PassesOthers}
 use Rattle.pp_lexer.proofs.items.TameItemsLemmas.{passed_more}
 use Rattle.pp_lexer.proofs.lexer.Lexer.pass_words.Goals as goal
 
