@@ -1,6 +1,5 @@
 -- Runs over an included text are runs over it as a part of the text around it.
-use Rattle.std.proofs.Common.{◌≡◌, ◌∙◌, ℕ, ◌+◌, Bool, true, false, List, [], ◌∷◌, length, refl, sym, ap, subst, Option, Some, None, ◌⊎◌, inl, inr, arith}
-use Rattle.std.specs.Prelude.{⊤, Ok, Err}
+use Rattle.std.proofs.Common.{◌≡◌, ◌∙◌, ℕ, ◌+◌, false, List, [], ◌∷◌, length, refl, sym, ap, subst, Option, Some, None, ◌⊎◌, inl, inr, arith}
 use Rattle.std.specs.Str.{chars}
 use Rattle.std.specs.List.{AllByRecursion as Each}
 use Rattle.std.proofs.lemmas.Bool.{true≢false, leb-false, lt-leb}
@@ -12,21 +11,19 @@ use Rattle.pp_model.specs.Acts.{act}
 use Rattle.pp_model.specs.Calls.{Answers}
 use Rattle.pp_model.specs.Definitions.{Definition, Definitions, object_like}
 use Rattle.pp_model.specs.Emitting.{answers_at}
-use Rattle.pp_model.specs.IncludeLaws.{has_line_directive, IsClosedText, IsAtLine, is_too_deep, with_inserted, IncludedIsInserted}
+use Rattle.pp_model.specs.IncludeLaws.{has_line_directive, is_too_deep, with_inserted, IncludedIsInserted}
 use Rattle.pp_model.specs.Painting.{item_of, fault_item}
-use Rattle.pp_model.specs.Places.{Fault, PlacedFault}
-use Rattle.pp_model.specs.Reading.{Reading, Expander}
+use Rattle.pp_model.specs.Places.{Fault}
+use Rattle.pp_model.specs.Reading.{Expander}
 use Rattle.pp_model.specs.Reads as reads
 use Rattle.pp_model.specs.Reads.{Steps, Reads, source_reading}
 use Rattle.pp_model.specs.Run as run
 use Rattle.pp_model.specs.Run.{Call, items_by, Gives, Runs, by_rules, with_added, with_included, without_end}
 use Rattle.pp_model.specs.SourceReader.{SourceReader, suspended_of, include_limit, is_full}
-use Rattle.pp_model.specs.inner.Alike.{Pairs, Both, AlikeRead, AlikeFault, AlikeTaken, AlikeEntry, AlikeDefinition, AlikeDefinitions, AlikeExpander, Follows}
+use Rattle.pp_model.specs.inner.Alike.{Pairs, Both, AlikeTaken, AlikeEntry, AlikeDefinition, AlikeDefinitions, AlikeExpander, Follows}
 use Rattle.pp_model.specs.declared.call.Reply.{Reply}
 use Rattle.pp_model.specs.declared.outcome.IncludeLine.{IncludeLine}
-use Rattle.pp_model.specs.declared.outcome.Outcome.{Outcome}
 use Rattle.pp_model.specs.declared.outcome.Outcome.TheVariants as outcome
-use Rattle.pp_model.specs.declared.read.Read.{Read}
 use Rattle.pp_model.specs.declared.read.Taken.{Taken}
 use Rattle.pp_model.specs.declared.read.Taken.TheVariants as taken
 use Rattle.pp_model.specs.declared.splice.Entry.{Entry}
@@ -34,8 +31,8 @@ use Rattle.pp_model.specs.declared.splice.Entry.TheVariants.{Plain, End}
 use Rattle.pp_model.proofs.including.Insertion.{Agree, Fits}
 use Rattle.pp_model.proofs.including.WholeLinesLemmas.{items_are_whole}
 use Rattle.pp_model.proofs.including.AgreeLemmas.{agree_before}
-use Rattle.pp_model.proofs.including.SameStepLemmas.{AlikeConditions, AlikeNumbers, Followed, alike_change}
-use Rattle.pp_model.proofs.including.InsertedReaders.{AlikeRules, InText, BehindText, SameText, Related, in_text, behind_text, same_text, same_offset, same_rules}
+use Rattle.pp_model.proofs.including.SameStepLemmas.{Followed, alike_change}
+use Rattle.pp_model.proofs.including.InsertedReaders.{Related, in_text, behind_text, same_text, same_offset, same_rules}
 use Rattle.pp_model.proofs.including.InsertedStepLemmas.{step_related, related_included, related_no_deeper}
 use Rattle.pp_model.proofs.including.AlikeLevelLemmas.{alike_emits}
 use Rattle.pp_model.proofs.including.AlikeLineLemmas.{alike_condition, alike_line_number}

@@ -1,7 +1,7 @@
 -- Each step of a reader of an included text, or of the text around it, is one of the reader of both tops one text, but for the step
 -- that leaves the included text: there the other stays.
-use Rattle.std.proofs.Common.{◌≡◌, ◌∙◌, ℕ, zero, ◌+◌, ◌-◌, ◌≤◌, ◌<◌, Bool, true, false, ◌&&◌, ◌||◌, List, [], ◌∷◌, ◌++◌, take, drop, length, refl, sym, ap, subst, ℤ, add-zero, add_assoc, length-drop, Option, Some, None, ◌⊎◌, inl, inr, arith}
-use Rattle.std.specs.Prelude.{⊤, not, option_map}
+use Rattle.std.proofs.Common.{◌≡◌, ◌∙◌, ℕ, ◌+◌, ◌-◌, ◌≤◌, ◌<◌, Bool, true, false, ◌&&◌, ◌||◌, List, [], ◌∷◌, ◌++◌, take, drop, length, refl, sym, ap, subst, ℤ, add-zero, add_assoc, length-drop, Option, Some, None, ◌⊎◌, inl, inr, arith}
+use Rattle.std.specs.Prelude.{option_map}
 use Rattle.std.proofs.Math.Bool.{or_assoc}
 use Rattle.pp_lexer.specs.Lexed.{Seen}
 use Rattle.std.proofs.lemmas.List.{drop_all, take_all}
@@ -10,12 +10,12 @@ use Rattle.std.proofs.Math.Seq.{take-nil}
 use Rattle.pp_lexer.specs.declared.rules.Rules.{Rules}
 use Rattle.pp_lexer.specs.declared.token.Location.{Location}
 use Rattle.pp_lexer.specs.declared.token.Token.{Token}
-use Rattle.pp_model.specs.Acts.{Acted, act, perform, pause_at, outcome_at, advanced_by, decided, end_by, end_at, leave, facts_here}
+use Rattle.pp_model.specs.Acts.{Acted, act, perform, pause_at, advanced_by, end_by, end_at, leave, facts_here}
 use Rattle.pp_model.specs.Blocks.{Truths, Block, blocks_at, innermost, is_live}
 use Rattle.pp_model.specs.Calls.{Answers}
 use Rattle.pp_model.specs.Definitions.{Definitions}
-use Rattle.pp_model.specs.IncludeLaws.{inserted_at, has_line_directive, numbers_lines}
-use Rattle.pp_model.specs.Moves.{BlockFacts, Move, Effect, move_at, ends, renumbers}
+use Rattle.pp_model.specs.IncludeLaws.{has_line_directive, numbers_lines}
+use Rattle.pp_model.specs.Moves.{BlockFacts, Move, move_at, ends, renumbers}
 use Rattle.pp_model.specs.Reads.{Does, Steps}
 use Rattle.pp_model.specs.Sights.{sight_of}
 use Rattle.pp_model.specs.SourceReader.{Suspended, Earlier, SourceReader, has_directive, has_live_text_before, had_text, had_directive, is_first_directive, suspended_of, earlier_of, with_text, resumed}
@@ -32,7 +32,7 @@ use Rattle.pp_model.proofs.including.RenumberingLemmas.{renumbers_in_line, no_li
 use Rattle.pp_model.proofs.including.InsertedBlocksLemmas.{live_before, live_within, live_behind, facts_within, facts_behind, parting_is_inside, none_unfinished, unfinished_behind}
 use Rattle.pp_model.proofs.including.TextBeforeLemmas.{text_within, text_behind, directive_within, directive_behind, text_grows, directive_grows, text_decided, live_decided}
 use Rattle.pp_model.proofs.including.AgreeLemmas.{noted, agree_within, agree_behind}
-use Rattle.pp_model.proofs.including.InsertedReaders.{SameFrame, InFrames, BehindFrames, Stacks, same_stack, in_stack, behind_stack, under, AlikeRules, InText, BehindText, SameText, Related, in_text, behind_text, same_text, same_rules}
+use Rattle.pp_model.proofs.including.InsertedReaders.{Stacks, same_stack, in_stack, behind_stack, under, InText, BehindText, SameText, Related, in_text, behind_text, same_text, same_rules}
 use Rattle.pp_model.proofs.including.SameStepLemmas.{AlikeConditions, AlikeNumbers, Followed, KnownSame, passed, given, same_effect}
 
 -- the move of what is at a reader's position

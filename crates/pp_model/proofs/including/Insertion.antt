@@ -1,5 +1,5 @@
 -- A text that stands in another one: what was read of the conditions of both.
-use Rattle.std.proofs.Common.{◌≡◌, ℕ, ◌+◌, ◌≤◌, ◌<◌, Bool, true, List, take, length}
+use Rattle.std.proofs.Common.{◌≡◌, ℕ, ◌+◌, ◌≤◌, ◌<◌, true, List, take, length}
 use Rattle.pp_lexer.specs.Lexed.{Seen}
 use Rattle.pp_model.specs.Blocks.{Truths, truth_at, block_lines}
 use Rattle.pp_model.specs.IncludeLaws.{are_closed, are_whole_lines}
