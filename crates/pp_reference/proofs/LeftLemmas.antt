@@ -1,5 +1,5 @@
 -- What stays for what a fault took.
-use Rattle.std.proofs.Common.{◌≡◌, ◌∙◌, ap, sym, subst, refl, rules, ℕ, ◌+◌, Bool, true, false, List, [], ◌∷◌, ◌++◌, take, drop, IfOk, inl, inr, ◌⊎◌}
+use Rattle.std.proofs.Common.{◌≡◌, ◌∙◌, ap, sym, subst, refl, rules, Bool, true, false, List, [], inl, inr, ◌⊎◌}
 use Rattle.std.proofs.Common.{Option, Some, None, Result, Ok, Err, drop-drop}
 use Rattle.std.proofs.lemmas.Str.{chars-IsAscii}
 use Rattle.std.specs.Prelude.{codes, is_some}

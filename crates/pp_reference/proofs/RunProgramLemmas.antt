@@ -1,5 +1,5 @@
 -- What the plain program's replies come to.
-use Rattle.std.proofs.Common.{All, arith, suc, length, ◌≡◌, ◌∙◌, refl, ap, sym, subst, true, false, ℕ, List, [], ◌∷◌, map, Result, Ok, Err}
+use Rattle.std.proofs.Common.{All, arith, suc, length, ◌≡◌, refl, ap, subst, false, ℕ, List, [], ◌∷◌, map, Result, Ok, Err}
 use Rattle.std.specs.Str.{chars}
 use Rattle.pp_lexer.specs.Lexed.{Seen}
 use Rattle.pp_lexer.specs.declared.token.Token.{Token}
@@ -8,7 +8,7 @@ use Rattle.pp_model.specs.Reading.{Expander}
 use Rattle.pp_model.specs.Calls.{Answers}
 use Rattle.pp_reference.specs.inner.Halting.{Meets}
 use Rattle.pp_model.specs.SourceReader.{is_full}
-use Rattle.pp_model.specs.Run.{Call, add_define, include, next, items_by, content_tokens, call_of, HasRoom, with_added, with_included}
+use Rattle.pp_model.specs.Run.{Call, add_define, include, items_by, content_tokens, call_of, HasRoom, with_added, with_included}
 use Rattle.pp_model.specs.Onward.{Onward}
 use Rattle.pp_model.specs.RunToEnd as run
 use Rattle.pp_model.specs.RunToEnd.{RunsToEnd, changed_by}

@@ -1,4 +1,4 @@
-use Rattle.std.proofs.Common.{◌≡◌, ◌∙◌, ap, take, ◌&&◌}
+use Rattle.std.proofs.Common.{◌∙◌, ap, take, ◌&&◌}
 use Rattle.std.specs.List.{list_any}
 use Rattle.pp_model.specs.Sights.{is_directive_hash}
 use Rattle.pp_reference.specs.inner.ReaderState.{ReaderState, reader_of}
