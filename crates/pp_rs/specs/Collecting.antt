@@ -1,10 +1,10 @@
 -- One call of `append_all`, `preprocess_all` or `drain` (docs/RULES.md, "Calls").
 use Rattle.std.specs.Prelude.{◌≡◌, Bool, true, false, List, [], ◌∷◌, ◌++◌, Option, Some, None, Ok, Err, MatchBool, All}
-use Rattle.std.specs.Prelude.{option_map}
 use Rattle.pp_lexer.specs.PreprocessorError.{out_of_memory}
 use Rattle.pp_lexer.specs.declared.rules.Rules.{Rules}
 use Rattle.pp_lexer.specs.declared.token.Token.{Token}
-use Rattle.pp_rs.specs.Comes.{State, Gives, IsRunFrom}
+use Rattle.pp_model.specs.declared.outcome.Outcome.TheVariants as outcome
+use Rattle.pp_rs.specs.Comes.{State, Comes}
 use Rattle.pp_macros.specs.Item.{Fault, Item}
 use Rattle.pp_rs.specs.Kept.{Preprocessing, Stands, is_spent, most_items, errors_left, error_place, rules_of}
 use Rattle.pp_macros.specs.Held.{ItemHoldsOrdinary}
@@ -12,30 +12,21 @@ use Rattle.pp_macros.specs.LexerErrors.{ErrorAt, PassesErrors}
 use Rattle.pp_lexer.specs.declared.token.Location.{Location}
 use Rattle.pp_rs.specs.Preprocessing.{Asks, IsNextItem, outcome_of}
 
--- the tokens before the first error item
-abbrev pub tokens_before_error : List Item → List Token
-tokens_before_error [] = []
-tokens_before_error (Ok token ∷ items) = token ∷ tokens_before_error items
-tokens_before_error (Err fault ∷ items) = []
-
--- the first error item
-abbrev pub first_error : List Item → Option Fault
-first_error [] = None
-first_error (Ok token ∷ items) = first_error items
-first_error (Err fault ∷ items) = Some fault
-
--- These tokens come from the state, and then this error or, if there is none, the end. The error may be that of an
--- `#include` line that asks for its text.
-abbrev pub EndsIn : Rules → State → List Token → Option Fault → Type 0
-EndsIn rules state tokens error =
+-- These items come next, one after another, errors and what follows them too. An error may be that of an `#include`
+-- line that asks for its text.
+abbrev pub ItemsCome : Rules → State → List Item → State → Type 0
+ItemsCome rules state [] after = after ≡ state
+ItemsCome rules state (item ∷ rest) after =
     (asked : Option Location)
-    × Asks rules (option_map Err error) asked
-    × IsRunFrom state tokens (outcome_of (option_map Err error) asked)
+    × (next : State)
+    × Asks rules (Some item) asked
+    × Comes state (outcome_of (Some item) asked) next
+    × ItemsCome rules next rest after
 
--- Up to and with the first error item these are the items that come from the state; if none is an error, they are all
--- of them, up to the end. This says nothing of items after an error.
+-- These are all items that come from the state: after them comes the end.
 abbrev pub AreItemsFrom : Rules → State → List Item → Type 0
-AreItemsFrom rules state items = EndsIn rules state (tokens_before_error items) (first_error items)
+AreItemsFrom rules state items =
+    (last : State) × ItemsCome rules state items last × (after : State) × Comes last outcome.End after
 
 -- all items, or none if memory had run out before
 abbrev pub AreItemsOf : Preprocessing → List Item → Type 0
@@ -79,12 +70,11 @@ AreReported old items new =
     Reports (rules_of old).passes_dead_errors items (errors_left old) (error_place old) (errors_left new)
     (error_place new)
 
--- Up to and with the first error item these items came from the state. If none of them is an error, the preprocessor
--- stands for the state after them, unless memory ran out for the next one. This says nothing of items after an error.
-abbrev pub HaveComeFrom : Rules → State → List Item → Option Fault → Preprocessing → Type 0
-HaveComeFrom rules state items None new =
-    (after : State) × Gives state (tokens_before_error items) after × (is_spent new ≡ false → Stands new after)
-HaveComeFrom rules state items (Some fault) new = EndsIn rules state (tokens_before_error items) (Some fault)
+-- These items came from the state, and the preprocessor stands for the state after them, unless memory ran out for the
+-- next one.
+abbrev pub HaveComeFrom : Rules → State → List Item → Preprocessing → Type 0
+HaveComeFrom rules state items new =
+    (after : State) × ItemsCome rules state items after × (is_spent new ≡ false → Stands new after)
 
 -- `next` was called for these items, one after another, and nothing else was.
 pub data AreNextItems : Preprocessing → List Item → Preprocessing → Type 0 where
@@ -114,12 +104,12 @@ pub data AreItemsToRefusal (old : Preprocessing) (items : List Item) (new : Prep
       → AreItemsToRefusal old items new
 
 -- These items came, one after another. If memory had run out before, there are none. After them the preprocessor stands
--- for the state that follows, unless an item was an error or memory ran out for the next one.
+-- for the state that follows, also after errors, unless memory ran out for the next item.
 pub record HaveCome (old : Preprocessing) (items : List Item) (new : Preprocessing) : Type 0 where
   pub none : is_spent old ≡ true → items ≡ []
   pub came : is_spent old ≡ false
       → (state : State) → Stands old state
-      → HaveComeFrom (rules_of old) state items (first_error items) new
+      → HaveComeFrom (rules_of old) state items new
   pub holds : All ItemHoldsOrdinary items
   pub reports : is_spent new ≡ false → AreReported old items new
   pub by_next : AreItemsToRefusal old items new

@@ -1,8 +1,9 @@
 //! The text of a source's code: a proved caller of `preprocess_all` and `spell_tokens`.
 
 ghost use Rattle.std.specs.Prelude.{◌≡◌, ◌<◌, ◌^◌, ◌-◌, ◌⊎◌, ◌++◌, ◌∷◌, [], IsTrue, All, List, None, Some, length};
-ghost use Rattle.std.specs.Prelude.{OnOk, IfOk, IfErr, string_bytes};
-ghost use Rattle.std.specs.List.{filter};
+ghost use Rattle.std.specs.Prelude.{Err, OnOk, IfOk, IfErr, is_err, string_bytes};
+ghost use Rattle.std.specs.List.{filter, find};
+ghost use Rattle.std.specs.Result.{ok_prefix};
 ghost use Rattle.std.specs.Str.{chars};
 ghost use Rattle.pp_lexer.specs.PreprocessorError.{out_of_memory};
 ghost use Rattle.pp_lexer.specs.Spelling.{spelled_text, values_of};
@@ -10,7 +11,6 @@ ghost use Rattle.pp_lexer.specs.TokenValue.{is_ordinary};
 ghost use Rattle.pp_lexer.specs.declared.token.Token.{Token as TheToken};
 ghost use Rattle.pp_model.specs.Run.{items_of};
 ghost use Rattle.pp_model.specs.declared.outcome.Outcome.TheVariants.{Fault, End};
-ghost use Rattle.pp_rs.specs.Collecting.{tokens_before_error, first_error};
 ghost use Rattle.pp_rs.specs.Comes.{IsRunFrom, start};
 
 use pp_rs::pp::{Preprocessor, PreprocessorItem, preprocess_all, spell_tokens};
@@ -40,9 +40,9 @@ fn ordinary_tokens(
 ) -> Result<Vec<Token>, (PreprocessorError, Location)>
     ensures ordinary { IfOk result (λ tokens. All (λ t. IsTrue (is_ordinary t.value)) tokens.items) }
     ensures kept { IfOk result (λ tokens. tokens.items
-        ≡ filter (λ t. is_ordinary t.value) (tokens_before_error items.items)) }
-    ensures whole { IfOk result (λ tokens. first_error items.items ≡ None) }
-    ensures error { IfErr result (λ error. (error ≡ out_of_memory) ⊎ (first_error items.items ≡ Some error)) }
+        ≡ filter (λ t. is_ordinary t.value) (ok_prefix items.items)) }
+    ensures whole { IfOk result (λ tokens. find is_err items.items ≡ None) }
+    ensures error { IfErr result (λ error. (error ≡ out_of_memory) ⊎ (find is_err items.items ≡ Some (Err error))) }
 {
     let mut tokens = Vec::new(alloc);
     for item in items {

@@ -1,6 +1,6 @@
 -- What follows for a text if it is known that it gives these tokens.
-use Rattle.std.proofs.Common.{ℕ, All, ◌≡◌, ◌∙◌, List, [], ◌∷◌, ◌++◌, append-nil, map, refl, ap, sym, subst, Option, Some, None, Ok, Err, false, IsTrue}
-use Rattle.std.specs.Prelude.{option_map, if◌then◌else◌}
+use Rattle.std.proofs.Common.{ℕ, All, ◌≡◌, ◌∙◌, List, [], ◌∷◌, map, refl, ap, sym, subst, Option, Some, None, Ok, Err, false, IsTrue}
+use Rattle.std.specs.Prelude.{if◌then◌else◌}
 use Rattle.std.specs.Str.{IsUtf8, encode_utf8_all, chars}
 use Rattle.std.proofs.lemmas.Str.{encodes-chars}
 use Rattle.pp_lexer.specs.Spelling.{values_of}
@@ -19,13 +19,13 @@ use Rattle.pp_model.proofs.onward.RunLemmas.{a_run_to_end}
 use Rattle.pp_model.proofs.onward.RunsBeginLemmas.{run_to_end_begins}
 use Rattle.pp_model.specs.declared.outcome.Outcome.TheVariants as outcome
 use Rattle.pp_model.proofs.respelling.RespellLemmas.{runs_read_afresh}
-use Rattle.pp_macros.specs.Item.{Fault, Item}
+use Rattle.pp_macros.specs.Item.{Item}
 use Rattle.pp_rs.specs.Afresh.{IsOutput, AreReadAfresh, text_of}
 use Rattle.pp_lexer.specs.declared.token.Location.{Location}
 use Rattle.pp_lexer.specs.declared.rules.Rules.{Rules}
 use Rattle.pp_rs.specs.Preprocessing.{outcome_of}
-use Rattle.pp_rs.specs.Collecting.{tokens_before_error, first_error, AreItemsFrom, AreItemsOf}
-use Rattle.pp_rs.specs.Comes.{State, start, Comes, Gives, nothing, first}
+use Rattle.pp_rs.specs.Collecting.{ItemsCome, AreItemsFrom, AreItemsOf}
+use Rattle.pp_rs.specs.Comes.{State, start, Comes}
 use Rattle.pp_rs.specs.Kept.{Preprocessing, Stands, is_spent, rules_of}
 use Rattle.pp_rs.proofs.runs.ComesLemmas.{one_comes, given_run}
 use Rattle.pp_rs.proofs.runs.ItemValuesLemmas.{HaveValues, values_are, tokens_are}
@@ -54,64 +54,41 @@ token_comes e token tokens (given x e1 f calls rest replies emits more is) =
       later = subst (λ rs. RunsToEnd (answers_at expansion_limit) pp_rs f (calls_for tokens) rs) left more;
     }
 
--- what comes first of such a run, and what is left of it
-record Left (all front : List Token) (f : State) : Type 0 where
-  rest : List Token
-  is : all ≡ front ++ rest
-  run : RunsThrough f rest
+-- only a token's item is that token
+token_item : (token : Token) (item : Item) (asked : Option Location) → outcome.Token token ≡ outcome_of (Some item) asked → item ≡ Ok token
+token_item token (Ok other) asked e = let same : other ≡ token = cc in ap Ok same
+token_item token (Err fault) (Some rest) e = cc
+token_item token (Err fault) None e = cc
 
-left_of : (all front : List Token) (e f : State) → Gives e front f → RunsThrough e all → Left all front f
-left_of all front e f (nothing ts e1 f1 none same) run = record { rest = all; is = rw none refl; run = subst (λ s. RunsThrough s all) (sym same) run }
-left_of [] front e f (first token rest ts e1 next f1 comes more is) run =
+-- and no item is the end
+no_end : (item : Item) (asked : Option Location) → outcome.End ≡ outcome_of (Some item) asked → ⊥
+no_end (Ok token) asked e = cc
+no_end (Err fault) (Some rest) e = cc
+no_end (Err fault) None e = cc
+
+-- the items of such a run are its tokens
+tokens_alone : (all : List Token) (items : List Item) (e : State) → RunsThrough e all → AreItemsFrom pp_rs e items → items ≡ map Ok all
+tokens_alone [] [] e run from = refl
+tokens_alone (t ∷ all) [] e run (last, same, after, ends) =
+    let h = token_comes e t all run in
+    let end : Comes e outcome.End after = subst (λ s. Comes s outcome.End after) same ends in
+    absurd (let bad = (one_comes _ _ e h.after after h.comes end).0 in cc)
+tokens_alone [] (item ∷ items) e run (last, (asked, next, asks, comes, later), after, ends) =
     let end = end_comes e run in
-    absurd (let bad = (one_comes _ _ e end.0 next end.1 comes).0 in cc)
-left_of (t ∷ all) front e f (first token rest ts e1 next f1 comes more is) run =
+    absurd (no_end item asked (one_comes _ _ e end.0 next end.1 comes).0)
+tokens_alone (t ∷ all) (item ∷ items) e run (last, (asked, next, asks, comes, later), after, ends) =
     let h = token_comes e t all run in
     let same = one_comes _ _ e h.after next h.comes comes in
-    let this : t ≡ token = cc in
-    let later = left_of all rest next f more (subst (λ s. RunsThrough s all) same.1 h.later) in
-    let same = ap (λ x. x ∷ all) this ∙ ap (λ ts. token ∷ ts) later.is ∙ ap (λ ts. ts ++ later.rest) (sym is) in
-    record { rest = later.rest; is = same; run = later.run }
+    let run_later = subst (λ s. RunsThrough s all) same.1 h.later in
+    ap (λ i. i ∷ items) (token_item t item asked same.0) ∙ ap (λ is. Ok t ∷ is) (tokens_alone all items next run_later (last, later, after, ends))
 
--- such a run gives these tokens alone, and then the end
-record IsWhole (all : List Token) (items : List Item) : Type 0 where
-  tokens : all ≡ tokens_before_error items
-  ends : first_error items ≡ None
-
--- an error is no token, and not the end
-no_end : (fault : Fault) (asked : Option Location) → outcome.End ≡ outcome_of (Some (Err fault)) asked → ⊥
-no_end fault (Some rest) e = cc
-no_end fault None e = cc
-
-no_token : (token : Token) (fault : Fault) (asked : Option Location) → outcome.Token token ≡ outcome_of (Some (Err fault)) asked → ⊥
-no_token token fault (Some rest) e = cc
-no_token token fault None e = cc
-
-whole_at : (rest : List Token) (error : Option Fault) (asked : Option Location) (f g : State) → RunsThrough f rest
-    → Comes f (outcome_of (option_map Err error) asked) g → (rest ≡ []) × (error ≡ None)
-whole_at [] None asked f g run comes = (refl, refl)
-whole_at [] (Some fault) asked f g run comes = let end = end_comes f run in absurd (no_end fault asked (one_comes _ _ f end.0 g end.1 comes).0)
-whole_at (t ∷ rest) None asked f g run comes =
-    let h = token_comes f t rest run in
-    absurd (let bad = (one_comes _ _ f h.after g h.comes comes).0 in cc)
-whole_at (t ∷ rest) (Some fault) asked f g run comes =
-    let h = token_comes f t rest run in
-    absurd (no_token t fault asked (one_comes _ _ f h.after g h.comes comes).0)
-
-items_are_whole : (all : List Token) (items : List Item) (e : State) → RunsThrough e all → AreItemsFrom pp_rs e items → IsWhole all items
-items_are_whole all items e run from =
-    let left = left_of all (tokens_before_error items) e from.2.before from.2.gives run in
-    let end = whole_at left.rest (first_error items) from.0 from.2.before from.2.after left.run from.2.ends in
-    record { tokens = left.is ∙ ap (λ ts. tokens_before_error items ++ ts) end.0 ∙ append-nil _; ends = end.1 }
-
--- tokens that come one after another, and then the end, are a run
-run_of : (tokens : List Token) (e f g : State) → Gives e tokens f → Comes f outcome.End g → RunsThrough e tokens
-run_of tokens e f g (nothing ts e1 f1 none same) ends =
+-- items that are tokens, and then the end, are a run
+run_of : (tokens : List Token) (e f g : State) → ItemsCome pp_rs e (map Ok tokens) f → Comes f outcome.End g → RunsThrough e tokens
+run_of [] e f g same ends =
     let last : Comes e outcome.End g = subst (λ s. Comes s outcome.End g) same ends in
-    rw none (given_run pp_rs outcome.End e g [] [] last (done g [] refl))
-run_of tokens e f g (first token rest ts e1 next f1 comes more is) ends =
-    let later = run_of rest next f g more ends in
-    rw is (given_run pp_rs (outcome.Token token) e next (calls_for rest) (replies_with rest) comes later)
+    given_run pp_rs outcome.End e g [] [] last (done g [] refl)
+run_of (token ∷ tokens) e f g (asked, next, asks, comes, later) ends =
+    given_run pp_rs (outcome.Token token) e next (calls_for tokens) (replies_with tokens) comes (run_of tokens next f g later ends)
 
 -- none of these replies is an error item
 whole_replies : (tokens : List Token) → to_first_error (replies_with tokens) ≡ replies_with tokens
@@ -174,12 +151,11 @@ pub read_afresh : (tokens : List Token) (items : List Item) → AreItemsOfText (
     → AreReadAfresh tokens
 read_afresh tokens items from same =
     let these = tokens_are items (values_of tokens) same in
-    let ends = subst (λ error. Comes from.2.before (outcome_of (option_map Err error) from.0) from.2.after) these.ends from.2.ends in
+    let all = subst (λ is. AreItemsOfText (text_of tokens) is) these.is from in
     record {
-      tokens = tokens_before_error items;
+      tokens = these.tokens;
       same = these.are;
-      run = up_to_error (text_of tokens) (tokens_before_error items)
-          (run_of (tokens_before_error items) (start_of (text_of tokens)) from.2.before from.2.after from.2.gives ends);
+      run = up_to_error (text_of tokens) these.tokens (run_of these.tokens (start_of (text_of tokens)) all.0 all.2 all.1 all.3);
     }
 
 abbrev AreOrdinary : List Token → Type 0
@@ -195,5 +171,5 @@ output_is_read tokens o plain =
 pub items_of_read : (tokens : List Token) (items : List Item) → AreReadAfresh tokens → AreItemsOfText (text_of tokens) items
     → HaveValues items (values_of tokens)
 items_of_read tokens items read from =
-    let whole = items_are_whole read.tokens items (start_of (text_of tokens)) (through (text_of tokens) read.tokens read.run) from in
-    values_are items whole.ends ∙ ap (λ values. map Ok values) (ap values_of (sym whole.tokens) ∙ read.same)
+    let alone = tokens_alone read.tokens items (start_of (text_of tokens)) (through (text_of tokens) read.tokens read.run) from in
+    rw alone (values_are read.tokens ∙ ap (λ values. map Ok values) read.same)

@@ -3,70 +3,42 @@ use Rattle.std.proofs.Common.{◌≡◌, ◌∙◌, ◌⊎◌, append_assoc, inl
 use Rattle.std.specs.Prelude.{Ok, Err, MatchBool}
 use Rattle.std.proofs.lemmas.List.{append-nil}
 use Rattle.std.proofs.lemmas.List.Elements.{All-nil, All-push}
-use Rattle.pp_rs.specs.Collecting.{tokens_before_error, first_error, EndsIn, AreItemsFrom, AreItemsOf, Reports, AreReported, HaveComeFrom, HaveCome, AreAll, AreAppended, AreAllAppended}
+use Rattle.pp_rs.specs.Collecting.{ItemsCome, AreItemsFrom, AreItemsOf, Reports, AreReported, HaveComeFrom, HaveCome, AreAll, AreAppended, AreAllAppended}
 use Rattle.pp_rs.specs.Collecting.{AreNextItems, nothing, one_more, AreItemsToEnd, of_list, of_item, IsDrained}
-use Rattle.pp_rs.specs.Comes.{State}
+use Rattle.pp_rs.specs.Comes.{State, Comes}
 use Rattle.pp_macros.specs.Held.{ItemHoldsOrdinary}
-use Rattle.pp_macros.specs.Item.{Fault, Item}
+use Rattle.pp_macros.specs.Item.{Item}
 use Rattle.pp_rs.specs.Kept.{Preprocessing, Stands, is_spent, errors_left, error_place, asked_line, rules_of}
-use Rattle.pp_rs.specs.Preprocessing.{Asks, is_refusal, ReportsAnswer, ReportsError, IsRefusedItem, IsGivenItem, IsNextItem}
+use Rattle.pp_rs.specs.Preprocessing.{Asks, outcome_of, is_refusal, ReportsAnswer, ReportsError, IsRefusedItem, IsGivenItem, IsNextItem}
 use Rattle.pp_rs.specs.Preprocessing as error
 use Rattle.pp_rs.specs.Collecting as report
 use Rattle.pp_macros.specs.LexerErrors.{ErrorAt}
 use Rattle.pp_lexer.specs.declared.rules.Rules.{Rules}
 use Rattle.pp_lexer.specs.declared.token.Location.{Location}
-use Rattle.pp_rs.proofs.runs.ComesLemmas.{gives_nothing, gives_more}
 
--- after an error nothing changes
-error_stays : (items more : List Item) (fault : Fault) → first_error items ≡ Some fault
-    → (first_error (items ++ more) ≡ Some fault) × (tokens_before_error (items ++ more) ≡ tokens_before_error items)
-error_stays [] more fault e = cc
-error_stays (Ok token ∷ items) more fault e = let h = error_stays items more fault e in (h.0, ap (λ ts. token ∷ ts) h.1)
-error_stays (Err first ∷ items) more fault e = (e, refl)
-
--- one item more, where there was no error
-after_no_error : (items more : List Item) → first_error items ≡ None
-    → (first_error (items ++ more) ≡ first_error more) × (tokens_before_error (items ++ more) ≡ tokens_before_error items ++ tokens_before_error more)
-after_no_error [] more e = (refl, refl)
-after_no_error (Ok token ∷ items) more e = let h = after_no_error items more e in (h.0, ap (λ ts. token ∷ ts) h.1)
-after_no_error (Err first ∷ items) more e = cc
+-- one more item
+items_more : (rules : Rules) (items : List Item) (item : Item) (asked : Option Location) (e f g : State) → ItemsCome rules e items f
+    → Asks rules (Some item) asked → Comes f (outcome_of (Some item) asked) g → ItemsCome rules e (items ++ item ∷ []) g
+items_more rules [] item asked e f g same asks comes = (asked, g, asks, subst (λ s. Comes s (outcome_of (Some item) asked) g) same comes, refl)
+items_more rules (i ∷ items) item asked e f g (at, next, allowed, here, later) asks comes =
+    (at, next, allowed, here, items_more rules items item asked next f g later asks comes)
 
 module _ (rules : Rules) (state : State) (items : List Item) (now new : Preprocessing) (same : rules_of now ≡ rules) where
   -- one item more
-  item_more : (item : Item) (error : Option Fault) → is_spent now ≡ false → first_error items ≡ error → HaveComeFrom rules state items error now
-      → IsGivenItem now (Some item) new → HaveComeFrom rules state (items ++ item ∷ []) (first_error (items ++ item ∷ [])) new
-  item_more item (Some fault) ready e h given =
-      let stays = error_stays items (item ∷ []) fault e in
-      rw (stays.0, stays.1) h
-  item_more (Ok token) None ready e h given =
+  item_more : (item : Item) → is_spent now ≡ false → HaveComeFrom rules state items now → IsGivenItem now (Some item) new
+      → HaveComeFrom rules state (items ++ item ∷ []) new
+  item_more item ready h given =
       let next = given.item h.0 (h.2 ready) in
-      let all = after_no_error items (Ok token ∷ []) e in
-      rw all.0 (
-        next.after,
-        rw all.1 (gives_more (tokens_before_error items) token state h.0 next.after h.1 next.emits),
-        λ unspent. next.goes_on,
-      )
-  item_more (Err fault) None ready e h given =
-      let next = given.item h.0 (h.2 ready) in
-      let all = after_no_error items (Err fault ∷ []) e in
-      rw (all.0, all.1, append-nil) (
-        asked_line new,
-        subst (λ (rs : Rules). Asks rs (Some (Err fault)) (asked_line new)) same given.asks,
-        record { before = h.0; gives = h.1; after = next.after; ends = next.emits },
-      )
+      let asks = subst (λ (rs : Rules). Asks rs (Some item) (asked_line new)) same given.asks in
+      (next.after, items_more rules items item (asked_line new) state h.0 next.after h.1 asks next.emits, λ unspent. next.goes_on)
 
   -- memory for the next one was refused
-  item_refused : (error : Option Fault) → is_spent new ≡ true → HaveComeFrom rules state items error now → HaveComeFrom rules state items error new
-  item_refused (Some fault) spent h = h
-  item_refused None spent h = (h.0, h.1, λ unspent. let bad : true ≡ false = sym spent ∙ unspent in cc)
+  item_refused : is_spent new ≡ true → HaveComeFrom rules state items now → HaveComeFrom rules state items new
+  item_refused spent h = (h.0, h.1, λ unspent. let bad : true ≡ false = sym spent ∙ unspent in cc)
 
   -- after the last one
-  items_end : (error : Option Fault) → is_spent now ≡ false → first_error items ≡ error → HaveComeFrom rules state items error now
-      → IsGivenItem now None new → EndsIn rules state (tokens_before_error items) error
-  items_end (Some fault) ready e h given = h
-  items_end None ready e h given =
-      let next = given.item h.0 (h.2 ready) in
-      (None, tt, record { before = h.0; gives = h.1; after = next.after; ends = next.emits })
+  items_end : is_spent now ≡ false → HaveComeFrom rules state items now → IsGivenItem now None new → AreItemsFrom rules state items
+  items_end ready h given = let next = given.item h.0 (h.2 ready) in (h.0, h.1, next.after, next.emits)
 
 -- what items report, and then what others do
 reports_then : (passes : Bool) (items others : List Item) (left after more : List ErrorAt) (place there last : Location)
@@ -121,7 +93,7 @@ gathered_none old items e = record {
   spent = refl;
   come = record {
     none = λ spent. e;
-    came = λ ready state stands. rw e (state, gives_nothing state, λ unspent. stands);
+    came = λ ready state stands. rw e (state, refl, λ unspent. stands);
     holds = rw e (All-nil ItemHoldsOrdinary);
     reports = λ unspent. report.none items _ _ _ _ e refl refl;
     by_next = of_list (nothing items old old e refl) refl;
@@ -157,7 +129,7 @@ module _ (now new : Preprocessing) (item : Item) (next : IsNextItem now (Some it
         spent = unspent;
         come = record {
           none = λ spent. let bad : true ≡ false = sym spent ∙ fresh in cc;
-          came = λ start state stands. rw e (item_more (rules_of old) state items now new g.rules item (first_error items) ready.0 refl (g.come.came start state stands) given);
+          came = λ start state stands. rw e (item_more (rules_of old) state items now new g.rules item ready.0 (g.come.came start state stands) given);
           holds = rw e (All-push ItemHoldsOrdinary items item g.come.holds given.holds);
           reports = λ unspent. all;
           by_next = of_list chain unspent;
@@ -179,7 +151,7 @@ module _ (now new : Preprocessing) (item : Item) (next : IsNextItem now (Some it
       let spent : is_spent new ≡ true = refused.spent in
       record {
         none = g.come.none;
-        came = λ start state stands. item_refused (rules_of old) state items now new g.rules (first_error items) spent (g.come.came start state stands);
+        came = λ start state stands. item_refused (rules_of old) state items now new g.rules spent (g.come.came start state stands);
         holds = g.come.holds;
         reports = λ unspent. let bad : true ≡ false = sym spent ∙ unspent in cc;
         by_next = of_item now g.by_next ready.0 (subst (λ answer. IsNextItem now answer new) refused.item next);
@@ -200,7 +172,7 @@ module _ (old : Preprocessing) (items : List Item) (now new : Preprocessing) (g 
   items_by : (spent : Bool) → is_spent old ≡ spent → Ends → MatchBool spent (items ≡ []) ((state : State) → Stands old state → AreItemsFrom (rules_of old) state items)
   items_by true e h = g.come.none e
   items_by false e (spent_before spent same) = let bad : true ≡ false = sym spent ∙ g.spent ∙ e in cc
-  items_by false e (ended ready given) = λ state stands. items_end (rules_of old) state items now new g.rules (first_error items) ready refl (g.come.came e state stands) given
+  items_by false e (ended ready given) = λ state stands. items_end (rules_of old) state items now new g.rules ready (g.come.came e state stands) given
 
   to_end : AreItemsToEnd old items new
   to_end = record { last = now; given = g.by_next; ended = next }

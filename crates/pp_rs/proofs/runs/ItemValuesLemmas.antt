@@ -1,5 +1,5 @@
 -- The values of items, places aside.
-use Rattle.std.proofs.Common.{◌≡◌, List, [], ◌∷◌, map, refl, ap, None, Ok, Err, Bool, false, length, arith}
+use Rattle.std.proofs.Common.{◌≡◌, List, [], ◌∷◌, map, refl, ap, Ok, Err, Bool, false, length, arith}
 use Rattle.std.specs.Bool.{Decides}
 use Rattle.std.specs.List.{zip, list_all}
 use Rattle.std.proofs.lemmas.Bool.Decides.{Decides-and, Decides-like}
@@ -9,7 +9,6 @@ use Rattle.pp_lexer.specs.declared.token.Token.{Token}
 use Rattle.pp_lexer.specs.declared.token.TokenValue.{TokenValue}
 use Rattle.pp_lexer.proofs.values.EqualityLemmas.{value_decides}
 use Rattle.pp_macros.specs.Item.{Item}
-use Rattle.pp_rs.specs.Collecting.{tokens_before_error, first_error}
 use Rattle.pp_rs.specs.inner.ItemValues.{value_of_item}
 
 -- the items are tokens with these values
@@ -42,25 +41,25 @@ pub have_each_tested : (r : Bool) (items : List Item) (tokens : List Token) → 
     → Decides r (HaveValues items (values_of tokens))
 have_each_tested r items tokens n e = rw e (have_each_decides items tokens n)
 
--- items without an error are their tokens
-pub values_are : (items : List Item) → first_error items ≡ None → HaveValues items (values_of (tokens_before_error items))
-values_are [] e = refl
-values_are (Ok token ∷ items) e = ap (λ vs. Ok token.value ∷ vs) (values_are items e)
-values_are (Err fault ∷ items) e = cc
+-- items that are tokens have their values
+pub values_are : (tokens : List Token) → HaveValues (map Ok tokens) (values_of tokens)
+values_are [] = refl
+values_are (token ∷ tokens) = ap (λ vs. Ok token.value ∷ vs) (values_are tokens)
 
--- and items with these values have no error
+-- and items with these values are tokens
 pub record AreTokens (items : List Item) (values : List TokenValue) : Type 0 where
-  pub ends : first_error items ≡ None
-  pub are : values_of (tokens_before_error items) ≡ values
+  pub tokens : List Token
+  pub is : items ≡ map Ok tokens
+  pub are : values_of tokens ≡ values
 
 pub tokens_are : (items : List Item) (values : List TokenValue) → HaveValues items values → AreTokens items values
-tokens_are [] [] e = record { ends = refl; are = refl }
+tokens_are [] [] e = record { tokens = []; is = refl; are = refl }
 tokens_are [] (v ∷ values) e = cc
 tokens_are (Ok token ∷ items) [] e = cc
 tokens_are (Ok token ∷ items) (v ∷ values) e =
     let here : token.value ≡ v = cc in
     let there : map value_of_item items ≡ map Ok values = cc in
     let later = tokens_are items values there in
-    record { ends = later.ends; are = rw here (ap (λ vs. v ∷ vs) later.are) }
+    record { tokens = token ∷ later.tokens; is = ap (λ i. Ok token ∷ i) later.is; are = rw here (ap (λ vs. v ∷ vs) later.are) }
 tokens_are (Err fault ∷ items) [] e = cc
 tokens_are (Err fault ∷ items) (v ∷ values) e = cc
