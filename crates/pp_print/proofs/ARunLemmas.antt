@@ -38,7 +38,7 @@ use Rattle.pp_model.proofs.runs.QuietLemmas.{IsQuietReader, NoInclude, ends_quie
 use Rattle.pp_rs.specs.Rules.{pp_rs}
 use Rattle.pp_rs.specs.Comes.{State, source_rules, Comes, nothing, first, IsRunFrom}
 use Rattle.pp_rs.specs.declared.token.Token.{Token}
-use Rattle.pp_print.specs.SourceRuns.{Definition, tokens_of, start_of, last_outcome, Adds}
+use Rattle.pp_print.specs.SourceRuns.{Definition, tokens_of, last_outcome, Adds}
 use Rattle.pp_print.specs.SourceRuns as adds
 use Rattle.pp_print.specs.RunLaws.{ARun}
 use Rattle.pp_print.specs.declared.ends.RunEnd.{RunEnd}

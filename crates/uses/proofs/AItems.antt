@@ -9,7 +9,7 @@ use Rattle.pp_lexer.specs.Continuations.{continued}
 use Rattle.pp_lexer.specs.Cut.{cut}
 use Rattle.pp_lexer.specs.Identifiers.{is_identifier}
 use Rattle.pp_lexer.specs.Items as lexer
-use Rattle.pp_lexer.specs.Items.{Lexeme, item_at, final_newline}
+use Rattle.pp_lexer.specs.Items.{item_at, final_newline}
 use Rattle.pp_lexer.specs.Lexed.{Seen, seen}
 use Rattle.pp_lexer.specs.Lines.{lines}
 use Rattle.pp_lexer.specs.Longest.{longest, longest_within}

@@ -3,7 +3,7 @@ use Rattle.std.proofs.Common.{◌≡◌, ◌∙◌, ◌⊎◌, append_assoc, inl
 use Rattle.std.specs.Prelude.{Ok, Err, MatchBool}
 use Rattle.std.proofs.lemmas.List.{append-nil}
 use Rattle.std.proofs.lemmas.List.Elements.{All-nil, All-push}
-use Rattle.pp_rs.specs.Collecting.{ItemsCome, AreItemsFrom, AreItemsOf, Reports, AreReported, HaveComeFrom, HaveCome, AreAll, AreAppended, AreAllAppended}
+use Rattle.pp_rs.specs.Collecting.{ItemsCome, AreItemsFrom, Reports, AreReported, HaveComeFrom, HaveCome, AreAll, AreAppended, AreAllAppended}
 use Rattle.pp_rs.specs.Collecting.{AreNextItems, nothing, one_more, AreItemsToEnd, of_list, of_item, IsDrained}
 use Rattle.pp_rs.specs.Comes.{State, Comes}
 use Rattle.pp_macros.specs.Held.{ItemHoldsOrdinary}

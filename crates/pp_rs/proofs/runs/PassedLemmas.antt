@@ -9,7 +9,7 @@ use Rattle.pp_model.specs.declared.splice.CallPlace.{CallPlace}
 use Rattle.pp_model.specs.Painting.{read_in}
 use Rattle.pp_model.specs.declared.read.Read.{Read}
 use Rattle.std.specs.Prelude.{IfSome, IsSome, is_some}
-use Rattle.pp_macros.specs.inner.Ahead.{painted_as, given_next, token_given}
+use Rattle.pp_macros.specs.inner.Ahead.{painted_as, given_next}
 use Rattle.pp_macros.specs.inner.Giving.{GivesAhead, SomeAhead, passed}
 use Rattle.pp_macros.specs.inner.Idle.{is_idle}
 use Rattle.pp_macros.specs.inner.Left.{work_of}

@@ -1,8 +1,7 @@
 use Rattle.std.proofs.Common.{◌≡◌, ◌∙◌, List, ℕ, Some, length, map, ap, sym, subst, refl, lit<}
-use Rattle.std.specs.Prelude.{slice_get, slice_range, option_map}
+use Rattle.std.specs.Prelude.{slice_get, option_map}
 use Rattle.std.proofs.lemmas.Option.{slice_get-map, slice_get_read}
 use Rattle.std.proofs.lemmas.Str.Pattern.{split_parts}
-use Rattle.pp_rs.specs.Kept.{item_text}
 use Rattle.uses.specs.declared.includes.SourceFile.{SourceFile}
 use Rattle.uses.specs.Includes.{IsQuotedOn}
 use Rattle.uses.proofs.Included.{quoted}

@@ -1,6 +1,4 @@
 use Rattle.std.proofs.Common.{refl, ◌≡◌, ◌∙◌, ap, sym, true, false, arith}
-use Rattle.pp_lexer.specs.TokenValue.{is_ordinary}
-use Rattle.pp_lexer.specs.declared.token.Token.{Token}
 use Rattle.pp_rs.specs.Kept.{is_spent, rules_of}
 use Rattle.pp_macros.proofs.open_frames.KnownLemmas.{alone_known}
 use Rattle.pp_macros.specs.inner.Frames.{names_of}

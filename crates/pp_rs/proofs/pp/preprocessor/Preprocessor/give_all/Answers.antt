@@ -1,4 +1,4 @@
-use Rattle.std.proofs.Common.{◌∙◌, arith, refl, sym, inl, inr}
+use Rattle.std.proofs.Common.{◌∙◌, arith, refl, sym, inr}
 use Rattle.pp_rs.proofs.runs.GivingLemmas.{giving_ends, giving_full, giving_passes, giving_refused, giving_starts, giving_takes, on_err, token_unspent}
 use Rattle.pp_rs.proofs.pp.preprocessor.Preprocessor.give_all.Goals as goal
 
