@@ -153,9 +153,9 @@ typedef struct pp_options {
 
 /* Preprocesses `source` by pp-rs's rules. After an error the items go on.
  *
- * Proved of PP_DONE: up to and with the first error the items are those of the written rules, with each definition added
- * at its number. Of those after it only this is proved: each error is where its PP_PLACE says, and none of the lexer's is
- * missing. The texts follow one another from texts[0] on, and what `items` and `texts` held after them stays. */
+ * Proved of PP_DONE: the items are those of the written rules, those after errors too, with each definition added at its
+ * number. Each error is where its PP_PLACE says, and none of the lexer's is missing. The texts follow one another from
+ * texts[0] on, and what `items` and `texts` held after them stays. */
 uint32_t pp_preprocess(const uint8_t *source, size_t source_length, const uint8_t *words, size_t words_length,
                        pp_definition *definitions, size_t definitions_length, pp_item *items, size_t items_length,
                        uint8_t *texts, size_t texts_length, pp_sizes *sizes);
@@ -248,8 +248,8 @@ uint32_t pp_stream_open(const pp_options *options, uint32_t flags, const uint8_t
  * PP_CLOSED     the stream isn't open
  *
  * Proved: all items of a stream, over all its calls, are those of the written rules with each definition and text at its
- * call, up to and with the first error; those after it as pp_preprocess has it. A call takes the time of what it gives and
- * of one item more, which it may have read for the next call. */
+ * call, those after errors too, with errors as pp_preprocess has them. A call takes the time of what it gives and of one
+ * item more, which it may have read for the next call. */
 uint32_t pp_stream_next(pp_stream *stream, uint64_t most, pp_item *items, size_t items_length, uint8_t *texts,
                         size_t texts_length, uint32_t *numbers, size_t numbers_length, pp_sizes *sizes);
 

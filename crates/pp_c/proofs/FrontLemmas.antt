@@ -4,16 +4,18 @@ use Rattle.std.specs.Prelude.{⊤}
 use Rattle.std.proofs.lemmas.Bool.{cases_lt}
 use Rattle.std.proofs.lemmas.List.{append-nil, replicate-append-replicate}
 use Rattle.std.proofs.Math.ListN.{replicate}
+use Rattle.pp_model.specs.Calls.{Answers}
 use Rattle.pp_model.specs.Emitting.{answers_at, expansion_limit}
+use Rattle.pp_model.specs.Onward.{Onward}
+use Rattle.pp_model.specs.Painting.{item_of}
 use Rattle.pp_model.specs.Reading.{Expander}
-use Rattle.pp_model.specs.Run.{Call, add_define, include, next, items_by, start_by, by_rules, Comings, Runs}
-use Rattle.pp_model.specs.Run as run
-use Rattle.pp_model.specs.RunLaws.{OneReplies}
-use Rattle.pp_model.specs.SourceReader.{SourceReader}
+use Rattle.pp_model.specs.Run.{Call, add_define, include, next, items_by, start_by}
+use Rattle.pp_model.specs.RunToEnd.{RunsToEnd, going_on}
+use Rattle.pp_model.specs.RunToEnd as run
+use Rattle.pp_model.specs.ToEndLaws.{OneRunToEnd}
 use Rattle.pp_model.specs.declared.call.Reply.{Reply}
 use Rattle.pp_model.specs.declared.call.Reply.TheVariants as reply
 use Rattle.pp_model.specs.declared.outcome.Outcome.{Outcome}
-use Rattle.pp_model.specs.declared.outcome.Outcome.TheVariants as outcome
 use Rattle.pp_rs.specs.declared.rules.Rules.{Rules}
 use Rattle.pp_c.specs.Calls.{adding, calls_from}
 use Rattle.pp_c.specs.Fronts.{FrontsStay}
@@ -106,23 +108,22 @@ replies_to_next-append (reply.Refused fault ∷ xs) ys = replies_to_next-append 
 replies_to_next-append (reply.Included ∷ xs) ys = replies_to_next-append xs ys
 replies_to_next-append (reply.TooDeep ∷ xs) ys = replies_to_next-append xs ys
 
-module _ (C : Comings) (rules : Rules) where
+module _ (A : Answers) (rules : Rules) where
   -- definitions that are added have no reply to `next`
-  none_given : (e : Expander SourceReader) (calls : List Call) (replies : List Reply) → Runs C rules e calls replies → AreAdding calls
+  none_given : (e : Expander Onward) (calls : List Call) (replies : List Reply) → RunsToEnd A rules e calls replies → AreAdding calls
       → replies_to_next replies ≡ []
   none_given e calls replies (run.done e1 r p) h = rw p refl
   none_given e calls replies (run.added n c t e1 cs rest r has a p) h = rw p (none_given _ cs rest a h)
   none_given e calls replies (run.refused n c f e1 cs rest r has a p) h = rw p (none_given _ cs rest a h)
   none_given e calls replies (run.included t e1 cs rest r room a p) h = rw p (none_given _ cs rest a h)
   none_given e calls replies (run.too_deep t e1 cs rest r full a p) h = rw p (none_given _ cs rest a h)
-  none_given e calls replies (run.given o e1 f cs rest r comes not a p) h = absurd h
-  none_given e calls replies (run.failed fault e1 f cs r comes p) h = absurd h
+  none_given e calls replies (run.given x e1 f cs rest r emits a p) h = absurd h
 
   -- the replies to the first calls, and those after them
-  record Split (e : Expander SourceReader) (front more : List Call) (replies : List Reply) : Type 0 where
+  record Split (e : Expander Onward) (front more : List Call) (replies : List Reply) : Type 0 where
     pub firsts : List Reply
     pub rest : List Reply
-    pub runs : Runs C rules e front firsts
+    pub runs : RunsToEnd A rules e front firsts
     pub is : replies ≡ firsts ++ rest
     pub only : AreAdding more → replies_to_next rest ≡ []
 
@@ -131,11 +132,11 @@ module _ (C : Comings) (rules : Rules) where
   first_call x y cs front more e = (cc, cc)
 
   -- the same first call
-  begin_with : (e : Expander SourceReader) (x y : Call) (front : List Call) (replies : List Reply) → y ≡ x → Runs C rules e (x ∷ front) replies
-      → Runs C rules e (y ∷ front) replies
+  begin_with : (e : Expander Onward) (x y : Call) (front : List Call) (replies : List Reply) → y ≡ x → RunsToEnd A rules e (x ∷ front) replies
+      → RunsToEnd A rules e (y ∷ front) replies
   begin_with e x y front replies same r = rw same r
 
-  split_none : (e : Expander SourceReader) (calls more : List Call) (replies : List Reply) → Runs C rules e calls replies → calls ≡ more → Split e [] more replies
+  split_none : (e : Expander Onward) (calls more : List Call) (replies : List Reply) → RunsToEnd A rules e calls replies → calls ≡ more → Split e [] more replies
   split_none e calls more replies r same = record {
     firsts = [];
     rest = replies;
@@ -144,7 +145,7 @@ module _ (C : Comings) (rules : Rules) where
     only = λ h. none_given e calls replies r (rw same h);
   }
 
-  split : (e : Expander SourceReader) (calls : List Call) (replies : List Reply) → Runs C rules e calls replies → (front more : List Call) → calls ≡ front ++ more
+  split : (e : Expander Onward) (calls : List Call) (replies : List Reply) → RunsToEnd A rules e calls replies → (front more : List Call) → calls ≡ front ++ more
       → Split e front more replies
   split e calls replies r [] more same = split_none e calls more replies r same
   split e calls replies (run.done e1 r p) (x ∷ front) more same = cc
@@ -188,24 +189,15 @@ module _ (C : Comings) (rules : Rules) where
         is = p ∙ ap (λ rs. reply.TooDeep ∷ rs) s.is;
         only = s.only;
       }
-  split e calls replies (run.given o e1 f cs rest r comes not a p) (x ∷ front) more same =
+  split e calls replies (run.given taken e1 f cs rest r emits a p) (x ∷ front) more same =
       let it = first_call next x cs front more same in
       let s = split f cs rest a front more it.1 in
       record {
-        firsts = reply.Given o ∷ s.firsts;
+        firsts = reply.Given (item_of taken) ∷ s.firsts;
         rest = s.rest;
-        runs = begin_with e _ x front _ it.0 (run.given o e1 f front s.firsts _ comes not s.runs refl);
-        is = p ∙ ap (λ rs. reply.Given o ∷ rs) s.is;
+        runs = begin_with e _ x front _ it.0 (run.given taken e1 f front s.firsts _ emits s.runs refl);
+        is = p ∙ ap (λ rs. reply.Given (item_of taken) ∷ rs) s.is;
         only = s.only;
-      }
-  split e calls replies (run.failed fault e1 f cs r comes p) (x ∷ front) more same =
-      let it = first_call next x cs front more same in
-      record {
-        firsts = reply.Given (outcome.Fault fault) ∷ [];
-        rest = [];
-        runs = begin_with e _ x front _ it.0 (run.failed fault e1 f front _ comes refl);
-        is = p;
-        only = λ h. refl;
       }
 
 -- what the first replies give, and those after them
@@ -221,14 +213,14 @@ alike_first front given firsts others rest more a none b same =
     b ∙ rw (first, same) refl
 
 -- calls that begin alike give the same first
-pub fronts_stay : ((level : ℕ) → OneReplies (answers_at level)) → FrontsStay
+pub fronts_stay : OneRunToEnd → FrontsStay
 fronts_stay one rules source words definitions front given has_ended f g less =
-    let C = by_rules (answers_at expansion_limit) in
-    let e = start_by rules (items_by rules source) in
+    let A = answers_at expansion_limit in
+    let e = going_on [] (start_by rules (items_by rules source)) in
     let alike = begin_alike words (times_asked false front) (times_asked has_ended given) 0 definitions (omega arith) (omega (arith, less)) in
-    let a = split C rules e _ f.replies f.run alike.front alike.added alike.first in
-    let b = split C rules e _ g.replies g.run alike.front alike.more alike.second in
-    let same = one expansion_limit rules e alike.front a.firsts b.firsts a.runs b.runs in (
+    let a = split A rules e _ f.replies f.run alike.front alike.added alike.first in
+    let b = split A rules e _ g.replies g.run alike.front alike.more alike.second in
+    let same = one rules source alike.front a.firsts b.firsts a.runs b.runs in (
       replies_to_next b.rest,
       alike_first (outcomes_of false front) (outcomes_of has_ended given) a.firsts b.firsts a.rest b.rest
           (given_by (outcomes_of false front) f.replies a.firsts a.rest f.gives a.is) (a.only alike.only)

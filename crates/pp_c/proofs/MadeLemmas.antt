@@ -1,5 +1,5 @@
 -- Calls of the preprocessor, one after another.
-use Rattle.std.proofs.Common.{◌≡◌, ◌∙◌, ℕ, List, [], ◌∷◌, ◌++◌, refl, ap, sym, subst, Option, Some, None}
+use Rattle.std.proofs.Common.{◌≡◌, ◌∙◌, ℕ, List, [], ◌∷◌, ◌++◌, map, refl, ap, sym, subst, Option, Some, None, option_map}
 use Rattle.std.specs.Prelude.{Err}
 use Rattle.std.specs.List.{AllByRecursion as Each}
 use Rattle.std.specs.Str.{chars}
@@ -7,21 +7,18 @@ use Rattle.pp_macros.specs.LexerErrors.{ErrorAt, lexer_errors_by}
 use Rattle.pp_model.specs.Emitting.{answers_at, expansion_limit}
 use Rattle.pp_model.specs.Run.{Call, next, items_by}
 use Rattle.pp_model.specs.RunToEnd as run
-use Rattle.pp_model.specs.RunToEnd.{RunsToEnd, to_first_error}
+use Rattle.pp_model.specs.RunToEnd.{RunsToEnd}
 use Rattle.pp_model.specs.declared.call.Reply.{Reply}
 use Rattle.pp_model.specs.declared.call.Reply.TheVariants as reply
-use Rattle.pp_model.specs.declared.outcome.Outcome.{Outcome}
-use Rattle.pp_model.specs.declared.outcome.Outcome.TheVariants as outcome
 use Rattle.pp_rs.specs.Comes.{State, Comes, start_by, with_added, with_included}
 use Rattle.pp_rs.specs.Kept.{Preprocessing, Stands, errors_left, asked_line, rules_of}
 use Rattle.pp_rs.specs.declared.rules.Rules.{Rules}
 use Rattle.pp_rs.specs.Preprocessing.{outcome_of, Asks}
 use Rattle.pp_rs.specs.Preprocessing as place
-use Rattle.pp_model.proofs.onward.RunsBeginLemmas.{run_to_end_begins}
 use Rattle.pp_rs.proofs.runs.ComesLemmas.{given_run}
-use Rattle.pp_c.specs.Preprocessed.{Given, token, error, outcomes_to_error, replies_to_next, ErrorsStand, IsPossibleAnswer, AreAnswersBy}
+use Rattle.pp_c.specs.Preprocessed.{Given, token, error, answered_outcome, replies_to_next, ErrorsStand, IsPossibleAnswer, AreAnswersBy}
 use Rattle.pp_c.specs.Preprocessed as stand
-use Rattle.pp_c.specs.inner.Making.{Made, GivesNext}
+use Rattle.pp_c.specs.inner.Making.{Made, GivesNext, item_of}
 use Rattle.pp_c.specs.inner.Making as made
 
 -- some calls and then others
@@ -45,55 +42,33 @@ made_rules p q calls answers (made.refused name content fault p1 r1 rest c a has
 made_rules p q calls answers (made.included text p1 q1 r1 rest c a w m e) = made_rules q1 q rest answers m ∙ w.rules
 made_rules p q calls answers (made.gave answer p1 q1 r1 rest c others a g m e b) = made_rules q1 q rest others m ∙ g.rules
 
--- a run to the end with these answers, by these rules
-record HasRun (rules : Rules) (state : State) (calls : List Call) (outcomes : List Outcome) : Type 0 where
+-- a run with these answers, by these rules
+record HasRun (rules : Rules) (state : State) (calls : List Call) (answers : List (Option Given)) : Type 0 where
   pub replies : List Reply
   pub runs : RunsToEnd (answers_at expansion_limit) rules state calls replies
-  pub gives : replies_to_next (to_first_error replies) ≡ outcomes
+  pub gives : replies_to_next replies ≡ map answered_outcome answers
+
+-- the outcome of an item that was given is that of its answer
+outcome_is : (answer : Option Given) (p q : Preprocessing) → GivesNext p answer q → outcome_of (option_map item_of answer) (asked_line q) ≡ answered_outcome answer
+outcome_is None p q g = refl
+outcome_is (Some (token t)) p q g = refl
+outcome_is (Some (error fault at None)) p q g = ap (λ asked. outcome_of (Some (Err fault)) asked) (sym g.placed.1)
+outcome_is (Some (error fault at (Some line))) p q g = ap (λ asked. outcome_of (Some (Err fault)) asked) (sym g.placed.1)
 
 run_gave : (rules : Rules) (answer : Option Given) (others : List (Option Given)) (p q : Preprocessing) (rest : List Call) (state : State)
-    → rules_of p ≡ rules → Stands p state → GivesNext p answer q
-    → ((after : State) → Stands q after → HasRun rules after rest (outcomes_to_error others)) → HasRun rules state (next ∷ rest) (outcomes_to_error (answer ∷ others))
-run_gave rules None others p q rest state same stands g go =
+    → Stands p state → GivesNext p answer q → ((after : State) → Stands q after → HasRun rules after rest others) → HasRun rules state (next ∷ rest) (answer ∷ others)
+run_gave rules answer others p q rest state stands g go =
     let item = g.given.item state stands in
     let r = go item.after item.goes_on in
-    record {
-      replies = reply.Given outcome.End ∷ r.replies;
-      runs = given_run rules outcome.End state item.after rest r.replies item.emits r.runs;
-      gives = ap (λ os. outcome.End ∷ os) r.gives;
-    }
-run_gave rules (Some (token t)) others p q rest state same stands g go =
-    let item = g.given.item state stands in
-    let r = go item.after item.goes_on in
-    record {
-      replies = reply.Given (outcome.Token t) ∷ r.replies;
-      runs = given_run rules (outcome.Token t) state item.after rest r.replies item.emits r.runs;
-      gives = ap (λ os. outcome.Token t ∷ os) r.gives;
-    }
-run_gave rules (Some (error fault at None)) others p q rest state same stands g go =
-    let item = g.given.item state stands in
-    let asked = sym g.placed.1 in
-    let r = go item.after item.goes_on in
-    record {
-      replies = reply.Given (outcome.Fault fault) ∷ r.replies;
-      runs = given_run rules (outcome.Fault fault) state item.after rest r.replies
-          (subst (λ a. Comes state (outcome_of (Some (Err fault)) a) item.after) asked item.emits) r.runs;
-      gives = refl;
-    }
-run_gave rules (Some (error fault at (Some line))) others p q rest state same stands g go =
-    let item = g.given.item state stands in
-    let asked = sym g.placed.1 in
-    let r = go item.after item.goes_on in
-    let o = outcome.Include (record { word = fault.1; rest = line }) in
+    let o = answered_outcome answer in
     record {
       replies = reply.Given o ∷ r.replies;
-      runs = given_run rules o state item.after rest r.replies
-          (subst (λ a. Comes state (outcome_of (Some (Err fault)) a) item.after) asked item.emits) r.runs;
+      runs = given_run rules o state item.after rest r.replies (subst (λ x. Comes state x item.after) (outcome_is answer p q g) item.emits) r.runs;
       gives = ap (λ os. o ∷ os) r.gives;
     }
 
 run_made : (rules : Rules) (p q : Preprocessing) (calls : List Call) (answers : List (Option Given)) (state : State) → rules_of p ≡ rules → Stands p state
-    → Made p calls answers q → HasRun rules state calls (outcomes_to_error answers)
+    → Made p calls answers q → HasRun rules state calls answers
 run_made rules p q calls answers state same stands (made.none p1 q1 c a ce ae e) =
     rw (ce, ae) (record { replies = []; runs = run.done state [] refl; gives = refl })
 run_made rules p q calls answers state same stands (made.added name content tokens p1 q1 r1 rest c a has w m e) =
@@ -119,7 +94,7 @@ run_made rules p q calls answers state same stands (made.included text p1 q1 r1 
       gives = r.gives;
     })
 run_made rules p q calls answers state same stands (made.gave answer p1 q1 r1 rest c others a g m e b) =
-    rw (e, b) (run_gave rules answer others p q1 rest state same stands g (λ after there. run_made rules q1 q rest others after (g.rules ∙ same) there m))
+    rw (e, b) (run_gave rules answer others p q1 rest state stands g (λ after there. run_made rules q1 q rest others after (g.rules ∙ same) there m))
 
 -- where errors stand, and what directives hold
 record AreReported (rules : Rules) (calls : List Call) (answers : List (Option Given)) (before : List ErrorAt) : Type 0 where
@@ -189,8 +164,8 @@ answers_by rules source begun new calls answers stands errors same m =
     let r = run_made rules begun new calls answers (start_by rules (items_by rules source)) same stands m in
     let p = rw errors at (reported rules begun new calls answers same m) in
     record {
-      replies = to_first_error r.replies;
-      run = run_to_end_begins rules source calls r.replies r.runs;
+      replies = r.replies;
+      run = r.runs;
       gives = r.gives;
       left = p.left;
       places = p.places;

@@ -5,8 +5,8 @@ use Rattle.pp_rs.specs.declared.rules.Rules.{Rules}
 use Rattle.pp_c.specs.Preprocessed.{Given, outcomes_of, AreItemsBy}
 use Rattle.pp_c.specs.declared.items.Definition.{Definition}
 
--- If a call stops before the end, another over the same source and definitions gives the same first, up to and with
--- the first error, if it gives as many items or more.
+-- If a call stops before the end, another over the same source and definitions gives the same first, if it gives as
+-- many items or more.
 abbrev pub FrontsStay : Type 0
 FrontsStay =
     (rules : Rules) (source words : List ℕ) (definitions : List Definition) (front given : List Given)

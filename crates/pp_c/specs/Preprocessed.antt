@@ -6,7 +6,8 @@ use Rattle.std.specs.Prelude.{Option, Some, None, MatchOption, Err, map, ⊤}
 use Rattle.std.specs.List.{flat_map, count_by, AllByRecursion as Each}
 use Rattle.pp_macros.specs.LexerErrors.{ErrorAt, lexer_errors_by, PassesErrors}
 use Rattle.pp_model.specs.Places.{Fault}
-use Rattle.pp_model.specs.Run.{Call, add_define, include, next, IsRunBy}
+use Rattle.pp_model.specs.Run.{Call, add_define, include, next}
+use Rattle.pp_model.specs.RunToEnd.{IsRunToEndBy}
 use Rattle.pp_model.specs.declared.call.Reply.{Reply}
 use Rattle.pp_model.specs.declared.call.Reply.TheVariants as reply
 use Rattle.pp_model.specs.declared.outcome.Outcome.{Outcome}
@@ -61,18 +62,16 @@ abbrev pub answers_of : List Given → Bool → List (Option Given)
 answers_of given false = map Some given
 answers_of given true = map Some given ++ None ∷ []
 
--- the replies of `next` in a run, if these are its answers: up to and with the first error
-abbrev pub outcomes_to_error : List (Option Given) → List Outcome
-outcomes_to_error [] = []
-outcomes_to_error (None ∷ answers) = outcome.End ∷ outcomes_to_error answers
-outcomes_to_error (Some (token t) ∷ answers) = outcome.Token t ∷ outcomes_to_error answers
-outcomes_to_error (Some (error fault place None) ∷ answers) = outcome.Fault fault ∷ []
-outcomes_to_error (Some (error fault place (Some rest)) ∷ answers) =
-    outcome.Include (record { word = fault.1; rest = rest }) ∷ outcomes_to_error answers
+-- the reply of a run to the call of `next` that has this answer
+abbrev pub answered_outcome : Option Given → Outcome
+answered_outcome None = outcome.End
+answered_outcome (Some (token t)) = outcome.Token t
+answered_outcome (Some (error fault place None)) = outcome.Fault fault
+answered_outcome (Some (error fault place (Some rest))) = outcome.Include (record { word = fault.1; rest = rest })
 
--- the same for these items, and then the end if it was reached
+-- those to all calls of `next` that gave these items, and then the end if it was reached
 abbrev pub outcomes_of : Bool → List Given → List Outcome
-outcomes_of has_ended given = outcomes_to_error (answers_of given has_ended)
+outcomes_of has_ended given = map answered_outcome (answers_of given has_ended)
 
 -- the replies to `next`, without those to other calls
 abbrev pub replies_to_next : List Reply → List Outcome
@@ -142,13 +141,13 @@ IsPossibleGiven rules (error fault place asked) = Asks rules (Some (Err fault)) 
 abbrev pub IsPossibleAnswer : Rules → Option Given → Type 0
 IsPossibleAnswer rules answer = MatchOption answer ⊤ (IsPossibleGiven rules)
 
--- These calls of a preprocessor of a source by these rules have these answers of `next`, of which `None` is the end. Up
--- to and with the first error they are those of the run. At the end none of the lexer's errors is left.
+-- These calls of a preprocessor of a source by these rules have these answers of `next`, of which `None` is the end.
+-- They are those of the run, those after errors too. At the end none of the lexer's errors is left.
 pub record AreAnswersBy (rules : Rules) (source : List ℕ) (calls : List Call) (answers : List (Option Given))
     : Type 0 where
   pub replies : List Reply
-  pub run : IsRunBy rules source calls replies
-  pub gives : replies_to_next replies ≡ outcomes_to_error answers
+  pub run : IsRunToEndBy rules source calls replies
+  pub gives : replies_to_next replies ≡ map answered_outcome answers
   pub left : List ErrorAt
   pub places : ErrorsStand rules calls answers (lexer_errors_by rules source) left
   pub holds : Each (IsPossibleAnswer rules) answers

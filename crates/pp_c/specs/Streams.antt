@@ -56,7 +56,7 @@ if_waiting (Some given) = Some given ∷ []
 abbrev pub answers_read : Log → Streaming → List (Option Given)
 answers_read log stream = log.answers ++ if_waiting stream.waiting
 
--- The stream is where these calls have led: their answers are those of the run, up to and with the first error.
+-- The stream is where these calls have led: their answers are those of the run.
 pub record HasMade (log : Log) (stream : Streaming) : Type 0 where
   pub are : AreAnswersBy log.rules log.source log.calls (answers_read log stream)
   pub last : Preprocessing

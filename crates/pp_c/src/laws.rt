@@ -3,9 +3,9 @@
 ghost use Rattle.pp_c.specs.Fronts.{FrontsStay};
 
 /// The items of a call that stops are the first of those of a call that goes on, over the same source and definitions
-/// and by the same rules, up to and with the first error.
+/// and by the same rules.
 pub fn fronts()
     ensures { FrontsStay }
 {
-    pp_rs::laws::runs()
+    pp_model::laws::run_to_end()
 }
