@@ -1,6 +1,6 @@
 -- The ordinary tokens among items that are read one after another.
-use Rattle.std.proofs.Common.{◌≡◌, ◌∙◌, ◌<◌, ◌+◌, ℕ, zero, suc, false, List, [], ◌∷◌, ◌++◌, All, IsTrue, length, take, get_or, refl, ap, sym, subst, Option, None, Some, arith}
-use Rattle.std.specs.Prelude.{Ok, Err, is_err}
+use Rattle.std.proofs.Common.{◌≡◌, ◌∙◌, ◌<◌, ◌+◌, ℕ, zero, suc, false, List, [], ◌∷◌, ◌++◌, All, IsTrue, length, take, get_or, refl, ap, sym, subst, None, Some, arith}
+use Rattle.std.specs.Prelude.{Result, Ok, Err, is_err, IfOk, MatchResult}
 use Rattle.std.specs.List.{filter, find}
 use Rattle.std.specs.Result.{ok_prefix}
 use Rattle.std.proofs.lemmas.List.{take_more}
@@ -82,10 +82,21 @@ run_to_error rules (Err fault ∷ items) e f g quiet (asked, next, asks, comes, 
 }
 
 -- all that a preprocessor gives is a run from its state
-pub items_run : (pp : Preprocessing) (items : List Item) (state : State) (error : Option Item) → is_spent pp ≡ false → rules_of pp ≡ pp_rs → Stands pp state
-    → AreItemsOf pp items → find is_err items ≡ error → IsRunFrom state (ok_prefix items) (outcome_of error None)
-items_run pp items state error unspent usual stands all e =
-    let from : (s : State) → Stands pp s → AreItemsFrom (rules_of pp) s items = rw unspent at all in
-    let (last, come, after, ends) = from state stands in
-    let run = run_to_error (rules_of pp) items state last after (quiet_by_pp_rs (rules_of pp) usual) come ends in
-    subst (λ x. IsRunFrom state (ok_prefix items) (outcome_of x None)) e run
+module _ (pp : Preprocessing) (items : List Item) (state : State) (unspent : is_spent pp ≡ false) (usual : rules_of pp ≡ pp_rs) (stands : Stands pp state)
+    (all : AreItemsOf pp items) where
+  items_run : IsRunFrom state (ok_prefix items) (outcome_of (find is_err items) None)
+  items_run =
+      let from : (s : State) → Stands pp s → AreItemsFrom (rules_of pp) s items = rw unspent at all in
+      let (last, come, after, ends) = from state stands in
+      run_to_error (rules_of pp) items state last after (quiet_by_pp_rs (rules_of pp) usual) come ends
+
+  pub run_ends : find is_err items ≡ None → IsRunFrom state (ok_prefix items) outcome.End
+  run_ends e = subst (λ x. IsRunFrom state (ok_prefix items) (outcome_of x None)) e items_run
+
+  pub run_fails : (fault : Fault) → find is_err items ≡ Some (Err fault) → IsRunFrom state (ok_prefix items) (outcome.Fault fault)
+  run_fails fault e = subst (λ x. IsRunFrom state (ok_prefix items) (outcome_of x None)) e items_run
+
+-- what follows of a value, where something is known of the error too
+pub if_ok_then : {X Y : Type 0} (r : Result X Y) (P Q : X → Type 0) (R : Y → Type 0) → ((x : X) → P x → Q x) → MatchResult r P R → IfOk r Q
+if_ok_then (Ok x) P Q R f h = f x h
+if_ok_then (Err e) P Q R f h = tt
