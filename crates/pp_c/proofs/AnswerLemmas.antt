@@ -1,10 +1,10 @@
 -- What a call of a stream for items answers.
-use Rattle.std.proofs.Common.{◌≡◌, ◌≢◌, ◌<◌, ◌⊎◌, ◌∙◌, ℕ, inl, inr, true, false, List, Option, Some, None, Result, Ok, Err, IfOk, IfErr, refl, sym, ap, arith}
+use Rattle.std.proofs.Common.{◌≡◌, ◌≢◌, ◌⊎◌, ◌∙◌, ℕ, inl, inr, true, List, Option, Some, None, Result, Ok, Err, IfOk, IfErr, refl, sym, ap, arith}
 use Rattle.std.specs.Prelude.{IfSome}
 use denote.Enum.Declared.{tag_of}
 use Rattle.pp_c.specs.Entries.{Entry}
 use Rattle.pp_c.specs.Preprocessed.{Given, HasAskedItems}
-use Rattle.pp_c.specs.Streams.{Log, Streaming, HasMade, GivesNothing, if_waiting, shortage_number}
+use Rattle.pp_c.specs.Streams.{Streaming, GivesNothing, shortage_number}
 use Rattle.pp_c.specs.contracts.status.Status.{the_type}
 use Rattle.pp_c.specs.declared.output.Output.{Output}
 use Rattle.pp_c.specs.declared.status.End.{End}

@@ -1,12 +1,12 @@
 -- Items that are given in a batch of a stream.
-use Rattle.std.proofs.Common.{◌≡◌, ◌∙◌, ℕ, zero, suc, nat_eq, ◌+◌, ◌-◌, ◌<◌, ◌≤◌, ◌^◌, Bool, true, false, List, [], ◌∷◌, ◌++◌, map, length, refl, ap, sym, Option, Some, None, IfSome, arith, length-append}
+use Rattle.std.proofs.Common.{◌≡◌, ◌∙◌, ℕ, zero, suc, nat_eq, ◌+◌, ◌-◌, ◌<◌, ◌≤◌, Bool, true, false, List, [], ◌∷◌, ◌++◌, map, length, refl, ap, Option, Some, None, IfSome, arith}
 use lib.Dec.{eqb→eq}
 use Rattle.std.specs.Prelude.{not, Result, Ok, Err, OnErr}
 use Rattle.std.proofs.lemmas.List.{append-nil, map_push, length_push}
 use Rattle.pp_rs.specs.Kept.{Preprocessing, is_spent}
-use Rattle.pp_c.specs.Entries.{Entry, in_64_bits, texts_of, room_of}
-use Rattle.pp_c.specs.Preprocessed.{Given, given_entries, entries_of, asks, lines_in, EndsAtLine}
-use Rattle.pp_c.specs.inner.Batches.{Reads, HasGiven, StopsAt, at_end, at_line, enough, full, no_room, too_large, GivesBatch, RunsOut}
+use Rattle.pp_c.specs.Entries.{Entry, room_of}
+use Rattle.pp_c.specs.Preprocessed.{Given, given_entries, entries_of, asks, lines_in}
+use Rattle.pp_c.specs.inner.Batches.{Reads, HasGiven, at_end, at_line, enough, full, no_room, too_large, GivesBatch, RunsOut}
 use Rattle.pp_c.specs.inner.Making.{IsSmall}
 use Rattle.pp_c.specs.inner.Taking.{HaveRoom, Takes}
 use Rattle.pp_c.specs.declared.output.Output.{Output}

@@ -1,23 +1,23 @@
 -- How a batch of a stream is filled.
-use Rattle.std.proofs.Common.{◌≡◌, ◌≢◌, ◌⊎◌, inl, inr, ◌∙◌, ℕ, zero, suc, ◌+◌, ◌<◌, ◌≤◌, Bool, true, false, ◌&&◌, ◌||◌, [], ◌∷◌, ◌++◌, length, refl, ap, sym, Option, Some, None, Ok, arith}
+use Rattle.std.proofs.Common.{◌≡◌, ◌≢◌, ◌⊎◌, inl, inr, ◌∙◌, ℕ, ◌<◌, ◌≤◌, Bool, true, false, ◌&&◌, ◌||◌, [], length, refl, ap, Option, Some, None, Ok, arith}
 use Rattle.std.specs.Prelude.{nat_eq, nat_lt, nat_le, is_some, option_map, IsSome, MatchBool}
 use Rattle.std.proofs.lemmas.Bool.{eqb-false, leb-false, leb-true}
 use lib.Dec.{eqb→eq}
 use Rattle.pp_rs.specs.Giving.{AreGiven, nothing, one_more}
-use Rattle.pp_rs.specs.Kept.{Preprocessing, is_spent}
+use Rattle.pp_rs.specs.Kept.{Preprocessing}
 use Rattle.pp_rs.specs.Preprocessing.{IsNextItem}
 use Rattle.pp_rs.specs.TokenRefs.{token_of}
 use Rattle.pp_rs.specs.declared.pp.token_ref.TokenRef.{TokenRef}
-use Rattle.pp_c.specs.Preprocessed.{Given, given_entries, asks, token as made_token}
+use Rattle.pp_c.specs.Preprocessed.{Given, given_entries, token as made_token}
 use Rattle.pp_c.specs.declared.output.Output.{Output}
 use Rattle.pp_c.specs.declared.status.End.{End}
 use Rattle.pp_c.specs.declared.status.End.TheVariants.{All, Front, Include}
 use Rattle.pp_c.specs.declared.stream.batch.Waiting.{Waiting}
 use Rattle.pp_c.specs.declared.stream.batch.Batch.{Batch}
-use Rattle.pp_c.specs.inner.Batches.{is_full, item_in, waiting_in, EndsReading, HasGiven, HasGot, GivesOne, KeepsOne, TakesNext, gives, keeps, GivesBatch, GivesWaiting, RunsOut, RunsOutFrom}
+use Rattle.pp_c.specs.inner.Batches.{is_full, item_in, waiting_in, EndsReading, HasGiven, HasGot, KeepsOne, TakesNext, gives, keeps, GivesBatch, GivesWaiting, RunsOut, RunsOutFrom}
 use Rattle.pp_c.specs.inner.Making.{IsSmall}
 use Rattle.pp_c.specs.inner.Taking.{HaveRoom, Takes}
-use Rattle.pp_c.proofs.BatchLemmas.{batch_asks, batch_enough, batch_full, batch_no_room, batch_too_large, given_more, given_waits, still_room}
+use Rattle.pp_c.proofs.BatchLemmas.{batch_asks, batch_no_room, batch_too_large, given_more, given_waits, still_room}
 use Rattle.pp_c.proofs.NextLemmas.{next_token}
 use Rattle.pp_c.proofs.StreamLemmas.{reads_call}
 

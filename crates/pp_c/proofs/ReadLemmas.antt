@@ -1,6 +1,6 @@
 -- What is read of a stream for its next item.
-use Rattle.std.proofs.Common.{◌≡◌, ◌⊎◌, inl, inr, ◌∙◌, Bool, true, false, ◌||◌, [], ◌∷◌, ℕ, ◌<◌, ◌≤◌, length, Option, Some, None, is_some, refl, ap, sym, arith}
-use Rattle.std.specs.Prelude.{option_map, IsSome}
+use Rattle.std.proofs.Common.{◌≡◌, ◌⊎◌, inl, inr, ◌∙◌, Bool, true, false, ◌||◌, ◌<◌, ◌≤◌, length, Option, Some, None, is_some, refl, ap, arith}
+use Rattle.std.specs.Prelude.{option_map}
 use Rattle.pp_macros.specs.Item.{Item}
 use Rattle.pp_rs.specs.Giving.{ComesUnlessFull, GivesTokens}
 use Rattle.pp_rs.specs.Kept.{Preprocessing, error_place, asked_line}

@@ -1,13 +1,12 @@
 -- What a call that asks a stream for items gives in C.
-use Rattle.std.proofs.Common.{◌≡◌, ◌∙◌, ℕ, ◌+◌, ◌-◌, ◌<◌, ◌≤◌, ◌^◌, ◌≢◌, ◌⊎◌, inl, inr, true, false, List, [], ◌∷◌, ◌++◌, map, length, refl, ap, sym, Option, Some, None, arith}
-use Rattle.std.proofs.lemmas.List.{append-nil}
+use Rattle.std.proofs.Common.{◌≡◌, ◌∙◌, ℕ, ◌<◌, ◌≤◌, ◌^◌, ◌≢◌, ◌⊎◌, inl, inr, List, [], ◌∷◌, ◌++◌, map, length, refl, ap, sym, Some, None, arith}
 use Rattle.pp_c.specs.Ends.{HasRoom}
 use Rattle.pp_c.specs.Entries.{Entry, room_of}
 use Rattle.pp_c.specs.Preprocessed.{Given, given_entries, entries_of, lines_in, answers_of, EndsAtLine, AreWritten, HasAskedItems}
 use Rattle.pp_c.specs.Streams.{Streaming, GoesOnWith, GivesAnswers, StopsAfter, IsTooLarge, GivesItems}
 use Rattle.pp_c.specs.Streams as stops
-use Rattle.pp_c.specs.inner.Batches.{StopsAt, at_end, at_line, enough, full, no_room, too_large, GivesBatch, EndsBatch, ended, cut, RunsOut}
-use Rattle.pp_c.specs.inner.Making.{is_all, IsSmall}
+use Rattle.pp_c.specs.inner.Batches.{StopsAt, at_end, at_line, enough, full, no_room, too_large, EndsBatch, ended, cut}
+use Rattle.pp_c.specs.inner.Making.{is_all}
 use Rattle.pp_c.specs.inner.Taking.{HaveRoom, Takes}
 use Rattle.pp_c.specs.declared.items.Item.{Item}
 use Rattle.pp_c.specs.declared.items.Sizes.{Sizes}

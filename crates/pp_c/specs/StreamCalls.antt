@@ -1,5 +1,5 @@
 -- What the calls of C over the handle of a stream say of what it keeps.
-use Rattle.std.specs.Prelude.{◌≡◌, ◌≢◌, ℕ, List, Option, None, Some, Bool, is_some}
+use Rattle.std.specs.Prelude.{◌≡◌, ℕ, List, Option, None, Some, is_some}
 use Rattle.pp_model.specs.Places.{Fault}
 use Rattle.pp_rs.specs.Location.{nowhere}
 use Rattle.pp_rs.specs.declared.token.Location.{Location}

@@ -1,7 +1,7 @@
 use Rattle.std.proofs.Common.{◌∙◌, None, Some, ap, refl, sym}
 use Rattle.std.specs.Prelude.{option_map}
 use Rattle.pp_c.proofs.BatchLemmas.{if_err}
-use Rattle.pp_c.proofs.ReadLemmas.{most_kept, no_fewer, reads_before, reads_end, reads_full, reads_item, reads_short, reads_token, same_twice}
+use Rattle.pp_c.proofs.ReadLemmas.{most_kept, no_fewer, reads_end, reads_full, reads_item, reads_short, reads_token, same_twice}
 use Rattle.pp_c.specs.inner.Batches.{item_in}
 use Rattle.pp_c.proofs.stream.batch.Batch.read.Goals as goal
 

@@ -1,4 +1,4 @@
-use Rattle.std.proofs.Common.{◌∙◌, ap, sym, refl, arith}
+use Rattle.std.proofs.Common.{◌∙◌, sym, arith}
 use Rattle.pp_c.proofs.AnswerLemmas.{same_memory, with_room, again, gives_nothing, has_budget, answers_of_stream}
 use Rattle.pp_c.proofs.StatusLemmas.{by_number, how_ended}
 use Rattle.pp_c.proofs.StreamedLemmas.{IsFresh, streamed}
