@@ -1,7 +1,8 @@
 //! A run over the items of a source and of the files that it includes.
 
-ghost use Rattle.std.specs.Prelude.{◌≡◌, ◌-◌, ◌^◌, ◌<◌, Some, false, length};
-ghost use Rattle.pp_rs.specs.Giving.{is_ordinary_token};
+ghost use Rattle.std.specs.Prelude.{◌≡◌, ◌-◌, ◌^◌, ◌<◌, Some, false, length, ⊤};
+ghost use Rattle.glslpp_parts.specs.Output.{Takes};
+ghost use Rattle.pp_rs.specs.Giving.{is_ordinary_token, GivesTokens};
 ghost use Rattle.pp_rs.specs.TokenValue.{is_ordinary};
 
 mod included;
@@ -243,9 +244,12 @@ impl<'r, 'a> Run<'r, 'a> {
         Ok(())
     }
 
-    // Takes the next tokens, up to what isn't one.
+    // Puts the next tokens, up to what isn't one: those that `next` would give, after errors too. Returns what comes
+    // then.
     fn next_item(&mut self, items: &mut Preprocessor<'a>) -> Option<PreprocessorItem>
-        ensures { is_ordinary_token result ≡ false }
+        ensures given { GivesTokens Takes (λ _ _. ⊤) (λ _. false) items.old self.old.output.now result items.new
+            self.new.output.now }
+        ensures no_token { is_ordinary_token result ≡ false }
     {
         items.give_tokens(self.output)
     }
