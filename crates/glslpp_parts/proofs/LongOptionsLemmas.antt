@@ -1,5 +1,5 @@
 -- The words of a command line up to `--`.
-use Rattle.std.proofs.Common.{◌≡◌, ◌∙◌, refl, ap, sym, ℕ, ◌<◌, List, ◌∷◌, ◌++◌, map, length, take, drop, get_or}
+use Rattle.std.proofs.Common.{◌≡◌, ◌∙◌, refl, ap, sym, ℕ, ◌<◌, true, List, ◌∷◌, ◌++◌, map, length, take, drop, get_or}
 use Rattle.std.specs.Prelude.{codes}
 use Rattle.std.proofs.lemmas.List.{drop_more, take-append-drop, map-append}
 use Rattle.glslpp_parts.specs.LongOptions.{each_option, is_same_word}
